@@ -1,0 +1,20 @@
+-- Laws of the tree and of the columns that hold it. They belong to no one function.
+pub mod Frame
+pub mod Rotate
+pub mod Mirror
+pub mod Placed
+pub mod Signed
+pub mod Low
+pub mod Joined
+pub mod Hung
+pub mod Stores
+pub mod Sides
+pub mod Weigh
+pub mod Peak
+pub mod Level
+pub mod Bal
+pub mod Climbing
+pub mod Seeking
+pub mod Adding
+pub mod Avl
+pub mod ByPath

@@ -1,0 +1,5 @@
+-- Laws of the order of names, and what the comparing loops are made of.
+pub mod Laws
+pub mod Bytes
+pub mod Turn
+pub mod Raised

@@ -1,0 +1,41 @@
+-- The raised copy of a name: what stands at each place, and how one more byte makes it longer. Assumes nothing.
+use Prim.Native.Nat.{ℕ, zero, suc, _+_, _-_, _≤_, _<_}
+use mathlib.Core.Path.{_≡_, refl, sym, ap, ap₂, subst, _∙_}
+use mathlib.Core.List.{List, [], _∷_, _++_, map}
+use native.Mathlib.Omega.{arith}
+use lib.ListN.{length, getD, set, take, replicate, length-take, length-map, List·getD-append, List·getD-map}
+use lib.Seq.{take-length}
+use Rattle.layout_name.specs.Order.{raised, raisedCopy}
+
+-- a byte of the name, raised
+pub raised-at : (a copy : List ℕ) (i : ℕ) → copy ≡ raisedCopy a → i < length a → getD copy i 0 ≡ raised (getD a i 0)
+unfolding raisedCopy raised
+raised-at a copy i e h =
+    ap (λ (l : List ℕ). getD l i 0) e ∙ List·getD-append (map raised a) (replicate (255 - length a) 0) 0 i (rw (length-map a raised) h)
+    ∙ List·getD-map raised a i 0
+
+-- one more element stored behind the first i
+more : (f : ℕ → ℕ) (xs : List ℕ) (i m : ℕ) → i < length xs
+    → set (map f (take i xs) ++ replicate (suc m) 0) i (f (getD xs i 0)) ≡ map f (take (suc i) xs) ++ replicate m 0
+more f [] i m h = absurd (omega arith)
+more f (x ∷ xs) zero m h = refl
+more f (x ∷ xs) (suc i) m h = ap (λ (l : List ℕ). f x ∷ l) (more f xs i m (omega arith))
+
+-- the copy of the first i bytes, with one more
+pub raised-more : (a copy : List ℕ) (i x j : ℕ) → copy ≡ raisedCopy (take i a) → length a ≤ 255 → i < length a → x ≡ raised (getD a i 0) → j ≡ i + 1
+    → set copy i x ≡ raisedCopy (take j a)
+unfolding raisedCopy
+raised-more a copy i x j e few h ex ej =
+    let n : 255 - length (take i a) ≡ suc (254 - i) = omega (arith, length-take i a) in
+    let m : 255 - length (take (suc i) a) ≡ 254 - i = omega (arith, length-take (suc i) a) in
+    let s : j ≡ suc i = omega arith in
+    ap₂ (λ (l : List ℕ) (v : ℕ). set l i v) (e ∙ ap (λ (k : ℕ). map raised (take i a) ++ replicate k 0) n) ex
+    ∙ more raised a i (254 - i) h
+    ∙ sym (ap (λ (k : ℕ). raisedCopy (take k a)) s ∙ ap (λ (k : ℕ). map raised (take (suc i) a) ++ replicate k 0) m)
+
+pub raised-none : (a : List ℕ) → replicate 255 0 ≡ raisedCopy (take 0 a)
+unfolding raisedCopy
+raised-none a = refl
+
+pub raised-all : (a copy : List ℕ) (i : ℕ) → copy ≡ raisedCopy (take i a) → i ≤ length a → length a ≤ i → copy ≡ raisedCopy a
+raised-all a copy i e h k = e ∙ ap raisedCopy (ap (λ (n : ℕ). take n a) {x = i} {y = length a} (omega arith) ∙ take-length a)

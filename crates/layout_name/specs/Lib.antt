@@ -1,0 +1,2 @@
+-- What names and their order are.
+pub mod Order
