@@ -2,17 +2,12 @@
 -- Today's key raises a to z to A to Z and leaves every other byte as it is, so that a byte of 0x80 and above is greater than every ASCII byte.
 -- Another key (a code point) is another argument of `orderBy`; the laws, in proofs/Laws.antt, hold for every key.
 use Prim.Native.Nat.{ℕ, _-_}
-use mathlib.Core.Bool.{Bool, true, false}
 use mathlib.Core.List.{List, [], _∷_, _++_, map}
 use lib.Dec.{ltb, leb}
 use lib.ListN.{length, replicate}
+use Rattle.units.specs.Told.{pick}
 use Rattle.layout_name.specs.declared.Order.{Order}
 use Rattle.layout_name.specs.declared.Order.the-variants.{Less, Equal, Greater}
-
--- a case by a test
-abbrev pub pick {ℓ} : {A : Type ℓ} → Bool → A → A → A
-pick true a b = a
-pick false a b = b
 
 -- the order of two numbers
 unfoldable pub numberOrder : ℕ → ℕ → Order

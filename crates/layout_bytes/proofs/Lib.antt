@@ -1,0 +1,3 @@
+-- How puts compose, and one turn of each loop.
+pub mod Put
+pub mod Turns

@@ -1,0 +1,36 @@
+-- Little-endian numbers as bytes, both ways, and bytes put over others in a list. Assumes nothing.
+use Prim.Native.Nat.{ℕ, _+_, _*_, _/_, _%_}
+use mathlib.Core.Bool.{Bool, true, false}
+use mathlib.Core.List.{List, [], _∷_, _++_}
+use lib.Dec.{eqb}
+use lib.ListN.{length, getD, take, drop}
+
+-- the number of two bytes at a place of a list
+abbrev pub u16At : List ℕ → ℕ → ℕ
+u16At s at = getD s at 0 + 256 * getD s (at + 1) 0
+
+-- the number of four bytes at a place of a list
+abbrev pub u32At : List ℕ → ℕ → ℕ
+u32At s at = u16At s at + 65536 * u16At s (at + 2)
+
+-- a number as two bytes
+abbrev pub le16 : ℕ → List ℕ
+le16 x = x % 256 ∷ x / 256 % 256 ∷ []
+
+-- a number as four bytes
+abbrev pub le32 : ℕ → List ℕ
+le32 x = x % 256 ∷ x / 256 % 256 ∷ x / 65536 % 256 ∷ x / 16777216 % 256 ∷ []
+
+-- d with s in the place of as many of its bytes, from place `at` on
+unfoldable pub putAt : List ℕ → ℕ → List ℕ → List ℕ
+putAt d at s = take at d ++ (s ++ drop (at + length s) d)
+
+-- both
+abbrev pub both : Bool → Bool → Bool
+both true b = b
+both false b = false
+
+-- every byte is b
+unfoldable pub all : ℕ → List ℕ → Bool
+all b [] = true
+all b (x ∷ xs) = both (eqb x b) (all b xs)

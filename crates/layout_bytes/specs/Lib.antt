@@ -1,0 +1,2 @@
+-- Numbers as bytes, and bytes put into a list.
+pub mod Bytes

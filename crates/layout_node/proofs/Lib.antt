@@ -1,0 +1,2 @@
+-- Laws of an entry's fourteen bytes.
+pub mod Blank

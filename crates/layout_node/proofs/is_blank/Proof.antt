@@ -1,0 +1,37 @@
+-- `layout_node::is_blank` meets its contract: by the last byte. Assumes nothing.
+use borrow.Author.Needs.{needs}
+use Rattle.layout_node.proofs.Blank.{ones, zeros, neither}
+use Rattle.layout_node.proofs.is_blank.Statement.{statement}
+use Rattle.layout_node.proofs.is_blank.Tie as tie
+use Rattle.layout_node.proofs.is_blank.Reads as reads
+use Rattle.layout_node.proofs.is_blank.Lts as lts
+use Rattle.layout_bytes.proofs.all_are.Reads as all-are-reads
+
+shared-slice-read-last : tie.Need-shared-slice-read-last
+shared-slice-read-last c = search needs
+
+all-are-requires : tie.Need-all-are-requires
+all-are-requires c κs = search needs
+
+returns : tie.Need-returns
+returns c = search ones
+
+all-are-requires-2 : tie.Need-all-are-requires-2
+all-are-requires-2 c κs = search needs
+
+returns-2 : tie.Need-returns-2
+returns-2 c = search zeros
+
+returns-3 : tie.Need-returns-3
+returns-3 c = search neither
+
+pub is-blank-spec : {M : Type 1} → statement M
+is-blank-spec =
+    tie.close
+    (tie.spec
+    shared-slice-read-last
+    all-are-requires
+    returns
+    all-are-requires-2
+    returns-2
+    returns-3)

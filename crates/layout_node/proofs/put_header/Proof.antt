@@ -1,0 +1,103 @@
+-- `layout_node::put_header` meets its contract: five puts, one behind the other, are one. Assumes nothing.
+use Prim.Native.Nat.{ℕ, _+_, _≤_}
+use mathlib.Core.Path.{_≡_, refl, ap, _∙_}
+use mathlib.Core.List.{List, [], _∷_}
+use lib.ListN.{length}
+use Rattle.layout_node.specs.declared.Header.{Header}
+use native.Mathlib.Omega.{arith}
+use borrow.Author.Needs.{needs}
+use Rattle.layout_bytes.specs.Bytes.{le16, le32, putAt}
+use Rattle.layout_bytes.proofs.Put.{put-then}
+use Rattle.layout_node.specs.Header.{headerBytes}
+use Rattle.layout_node.proofs.put_header.Statement.{statement}
+use Rattle.layout_node.proofs.put_header.Tie as tie
+use Rattle.layout_node.proofs.put_header.Reads as reads
+use Rattle.layout_node.proofs.put_header.Lts as lts
+use Rattle.layout_bytes.proofs.put16.Reads as put16-reads
+use Rattle.layout_bytes.proofs.put32.Reads as put32-reads
+use Rattle.layout_bytes.proofs.put_two.Reads as put-two-reads
+use Rattle.units.proofs.Link.number.Reads as Link-number-reads
+use Rattle.units.proofs.Sector.number.Reads as Sector-number-reads
+
+number-requires : tie.Need-number-requires
+number-requires c κs = search needs
+
+-- what five puts leave
+module _ (at : ℕ) (h : Header) (l₀ l₁ l₂ l₃ l₄ l₅ : List ℕ) (a b d : ℕ) (fits : at + 14 ≤ length l₀) where
+  five : a ≡ h .left .0 → l₁ ≡ putAt l₀ at (le16 a) → b ≡ h .right .0 → l₂ ≡ putAt l₁ (at + 2) (le16 b) → d ≡ h .sector .0 → l₃ ≡ putAt l₂ (at + 4) (le32 d)
+      → l₄ ≡ putAt l₃ (at + 8) (le32 (h .size)) → l₅ ≡ putAt l₄ (at + 12) (h .attributes ∷ h .«name_len» ∷ []) → l₅ ≡ putAt l₀ at (headerBytes h)
+  unfolding headerBytes
+  five ea p₁ eb p₂ ed p₃ p₄ p₅ =
+      let q₁ : l₁ ≡ putAt l₀ at (le16 (h .left .0)) = p₁ ∙ ap (λ (x : ℕ). putAt l₀ at (le16 x)) ea in
+      let q₂ : l₂ ≡ putAt l₁ (at + 2) (le16 (h .right .0)) = p₂ ∙ ap (λ (x : ℕ). putAt l₁ (at + 2) (le16 x)) eb in
+      let q₃ : l₃ ≡ putAt l₂ (at + 4) (le32 (h .sector .0)) = p₃ ∙ ap (λ (x : ℕ). putAt l₂ (at + 4) (le32 x)) ed in
+      let r₂ = put-then _ _ _ at (at + 2) _ _ (omega arith) refl q₁ q₂ in
+      let r₃ = put-then _ _ _ at (at + 4) _ _ (omega arith) refl r₂ q₃ in
+      let r₄ = put-then _ _ _ at (at + 8) _ _ (omega arith) refl r₃ p₄ in
+      put-then _ _ _ at (at + 12) _ _ (omega arith) refl r₄ p₅
+
+put16-requires : tie.Need-put16-requires
+put16-requires c κs = search needs
+
+add-put16 : tie.Need-add-put16
+add-put16 c = search needs
+
+number-requires-2 : tie.Need-number-requires-2
+number-requires-2 c κs = search needs
+
+put16-requires-2 : tie.Need-put16-requires-2
+put16-requires-2 c κs = search needs
+
+add-put32 : tie.Need-add-put32
+add-put32 c = search needs
+
+number-requires-3 : tie.Need-number-requires-3
+number-requires-3 c κs = search needs
+
+put32-requires : tie.Need-put32-requires
+put32-requires c κs = search needs
+
+add-put32-2 : tie.Need-add-put32-2
+add-put32-2 c = search needs
+
+put32-requires-2 : tie.Need-put32-requires-2
+put32-requires-2 c κs = search needs
+
+add-put-two : tie.Need-add-put-two
+add-put-two c = search needs
+
+put-two-requires : tie.Need-put-two-requires
+put-two-requires c κs = search needs
+
+same-length : tie.Need-same-length
+same-length c = search needs
+
+returns : tie.Need-returns
+returns c =
+    let k₅ = c .before .before in
+    let k₄ = k₅ .before .before .before .before in
+    let k₃ = k₄ .before .before .before .before in
+    let k₂ = k₃ .before .before .before .before .before in
+    let k₁ = k₂ .before .before .before .before .before in
+    let s = k₁ .before .before .before .before .before .before .before in
+    five (s .args .at) (s .args .header) _ _ _ _ _ _ _ _ _ (s .pre) (k₁ .before .number .ensures) (k₁ .put16 .ensures) (k₂ .before .number2 .ensures) (k₂ .put162 .ensures)
+    (k₃ .before .number3 .ensures) (k₃ .put32 .ensures) (k₄ .put322 .ensures) (k₅ .put-two .ensures)
+
+pub put-header-spec : {M : Type 1} → statement M
+put-header-spec =
+    tie.close
+    (tie.spec
+    number-requires
+    put16-requires
+    add-put16
+    number-requires-2
+    put16-requires-2
+    add-put32
+    number-requires-3
+    put32-requires
+    add-put32-2
+    put32-requires-2
+    add-put-two
+    put-two-requires
+    same-length
+    returns)

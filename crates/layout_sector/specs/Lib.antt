@@ -1,0 +1,2 @@
+-- How sectors are handed out.
+pub mod Counter

@@ -1,0 +1,81 @@
+// The volume descriptor, which stands at sector 32: written and read.
+use units::Region;
+use units::Sector;
+ghost use mathlib.Core.Path.{_≡_};
+ghost use Rattle.layout_volume.specs.Descriptor.{mark, sameList, writeTold, writeOf, bytesAfter, readTold, readOf};
+ghost use lib.ListN.{take, drop};
+
+// What a descriptor says: where the root table stands, and its size.
+pub struct Descriptor {
+    pub root: Region,
+}
+
+// What writing answers.
+pub enum DescriptorWritten {
+    Done,
+    // 9: the output is shorter than 2,048 bytes.
+    BufferTooSmall,
+}
+
+// What reading answers.
+pub enum DescriptorRead {
+    Volume(Descriptor),
+    // 20: a mark differs or is cut.
+    NoVolume,
+}
+
+// The twenty bytes of the mark stand at a place.
+fn has_mark(s: &[u8], at: usize) -> bool
+    ensures { λ r. ⌜ r ≡ sameList (take 20 (drop at (now (s .entry)))) mark ⌝ }
+{
+    let wanted = b"MICROSOFT*XBOX*MEDIA";
+    if s.len() < at {
+        return false;
+    }
+    if s.len() - at < 20 {
+        return false;
+    }
+    let mut i = 0;
+    while i < 20 {
+        if s[at + i] != wanted[i] {
+            return false;
+        }
+        i += 1;
+    }
+    true
+}
+
+// Writes a descriptor into the first 2,048 bytes of the output.
+pub fn write_descriptor(out: &mut [u8], d: Descriptor) -> DescriptorWritten
+    ensures { λ r. ⌜ writeTold r ≡ writeOf (now (out .entry)) ⌝ }
+    ensures { λ _. ⌜ now (out .exit) ≡ bytesAfter (now (out .entry)) d ⌝ }
+{
+    if out.len() < 2048 {
+        return DescriptorWritten::BufferTooSmall;
+    }
+    let root = d.root;
+    let sector = root.sector;
+    layout_bytes::fill(out, 2048, 0);
+    layout_bytes::put_bytes(out, 0, b"MICROSOFT*XBOX*MEDIA");
+    layout_bytes::put32(out, 20, sector.number());
+    layout_bytes::put32(out, 24, root.size);
+    layout_bytes::put_bytes(out, 2028, b"MICROSOFT*XBOX*MEDIA");
+    DescriptorWritten::Done
+}
+
+// Reads the descriptor that the bytes start with.
+pub fn read_descriptor(s: &[u8]) -> DescriptorRead
+    ensures { λ r. ⌜ readTold r ≡ readOf (now (s .entry)) ⌝ }
+{
+    if has_mark(s, 0) {
+        if has_mark(s, 2028) {
+            return DescriptorRead::Volume(Descriptor {
+                root: Region {
+                    sector: Sector::new(layout_bytes::u32_at(s, 20)),
+                    size: layout_bytes::u32_at(s, 24),
+                },
+            });
+        }
+    }
+    DescriptorRead::NoVolume
+}
