@@ -1,0 +1,2 @@
+-- What adding asks of an entry, and the size that it is stored with.
+pub mod Entry
