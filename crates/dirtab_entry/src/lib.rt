@@ -1,5 +1,6 @@
 // An entry as it is given to be added to a table: what adding asks of it, and the size that it is stored with.
 ghost use mathlib.Core.Path.{_≡_};
+ghost use mathlib.Core.Bool.{true};
 ghost use Prim.Native.Nat.{_≤_};
 ghost use Rattle.dirtab_entry.specs.Entry.{told, checkOf, anyBad, isDirectory, storedSize, kindFor};
 
@@ -93,7 +94,7 @@ pub fn check_entry(names: &[u8], entry: Entry) -> EntryChecked
 
 // The size that an entry is stored with: a directory's is rounded up to a multiple of 2,048.
 pub fn stored_size(kind: Kind, size: u32) -> u32
-    requires { ⌜ size ≤ 4294965248 ⌝ }
+    requires { ⌜ (isDirectory kind ≡ true → size ≤ 4294965248) ⌝ }
     ensures { λ r. ⌜ r ≡ storedSize kind size ⌝ }
 {
     if is_directory(kind) {
