@@ -1,2 +1,3 @@
--- Laws of what is told.
+-- Laws of what is told, and of what a region's answer says.
 pub mod Told
+pub mod Locating

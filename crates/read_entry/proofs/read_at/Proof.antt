@@ -1,0 +1,81 @@
+-- `read_entry::read_at` meets its contract: at each return the tests that led there say which case of `readAt` holds. Assumes nothing.
+use Prim.Native.Nat.{ℕ, _+_, _-_, _*_, _^_, _≤_, _<_}
+use mathlib.Core.Path.{_≡_, ap, _∙_}
+use mathlib.Core.List.{List, [], _∷_}
+use mathlib.Core.Option.{Option}
+use native.Mathlib.Omega.{arith}
+use borrow.Author.Tests.{lt-ltb, le-ltb, lt-leb, le-leb}
+use borrow.Author.Needs.{needs}
+use Rattle.units.specs.Told.{Told, refuses}
+use Rattle.units.specs.Region.{locateOf}
+use Rattle.units.specs.Region as region
+use Rattle.units.specs.declared.Sector.{Sector}
+use Rattle.units.specs.declared.Offset.{Offset}
+use Rattle.units.specs.declared.Region.{Region}
+use Rattle.units.specs.declared.Located.{Located}
+use Rattle.units.specs.declared.Located.the-variants as located
+use Rattle.units.proofs.Locating.{byte-is, out-is}
+use Rattle.read_entry.specs.declared.Read.{Read}
+use Rattle.read_entry.specs.declared.Read.the-variants.{OutOfBounds, Truncated}
+use Rattle.read_entry.specs.Entry.{Placed, told, readHere, readAt}
+use Rattle.read_entry.proofs.read_at.Statement.{statement}
+use Rattle.read_entry.proofs.read_at.Tie as tie
+use Rattle.read_entry.proofs.read_at.Reads as reads
+use Rattle.read_entry.proofs.read_at.Lts as lts
+use Rattle.read_entry.proofs.read_here.Reads as read-here-reads
+use Rattle.units.proofs.Region.locate.Reads as locate-reads
+use Rattle.units.proofs.Sector.start.Reads as start-reads
+
+module _ (w : List ℕ) (first : Sector) (t : Region) (o : Offset) (l : Located) (is : region.told l ≡ locateOf t o) where
+  outside : (p : Offset) → l ≡ located.OutOfBounds p → told (OutOfBounds p) ≡ readAt w first t (o .0)
+  unfolding readAt
+  outside p e = let f = out-is t o l is p e in rw (le-leb _ _ (f .0), f .1)
+
+  module _ (byte from : ℕ) (at : l ≡ located.Byte byte) (from-is : from ≡ 2048 * first .0) where
+    before : byte < from → told (Truncated o) ≡ readAt w first t (o .0)
+    unfolding readAt
+    before h = let f = byte-is t o l is byte at in rw (lt-leb _ _ (f .0), ← (f .1), ← from-is, lt-ltb _ _ h)
+
+    within : (r : Read) → from ≤ byte → told r ≡ readHere w (byte - from) (o .0) → told r ≡ readAt w first t (o .0)
+    unfolding readAt
+    within r h e = let f = byte-is t o l is byte at in rw (lt-leb _ _ (f .0), ← (f .1), ← from-is, le-ltb _ _ h) e
+
+  small : (byte from : ℕ) → l ≡ located.Byte byte → t .sector .0 < 2 ^ 32 → o .0 < 2 ^ 32 → byte - from < 2 ^ 45
+  small byte from at s h = omega (arith, byte-is t o l is byte at .1)
+
+locate-requires : tie.Need-locate-requires
+locate-requires c κs = search needs
+
+enum-known-o : tie.Need-enum-known-o
+enum-known-o c = search needs
+
+enum-known-byte : tie.Need-enum-known-byte
+enum-known-byte c = search needs
+
+start-requires : tie.Need-start-requires
+start-requires c κs = search needs
+
+returns : tie.Need-returns
+returns c = search before
+
+read-here-requires : tie.Need-read-here-requires
+read-here-requires c κs = search small
+
+returns-2 : tie.Need-returns-2
+returns-2 c = search outside
+
+returns-3 : tie.Need-returns-3
+returns-3 c = search within
+
+pub read-at-spec : {M : Type 1} → statement M
+read-at-spec =
+    tie.close
+    (tie.spec
+    locate-requires
+    enum-known-o
+    enum-known-byte
+    start-requires
+    returns
+    read-here-requires
+    returns-2
+    returns-3)

@@ -1,0 +1,3 @@
+-- What reading one entry finds, and which links are absent.
+pub mod Entry
+pub mod Links
