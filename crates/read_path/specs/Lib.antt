@@ -1,0 +1,2 @@
+-- What a path leads to.
+pub mod Path

@@ -1,0 +1,125 @@
+// A path is followed from a table: each part of it is looked up in the table that the part before it names.
+use layout_node::Header;
+use read_lookup::Looked;
+use units::Offset;
+use units::Region;
+use units::Sector;
+ghost use mathlib.Core.Path.{_≡_};
+ghost use Prim.Native.Nat.{_+_, _≤_};
+ghost use lib.ListN.{length, drop};
+ghost use Rattle.read_lookup.specs.Lookup as lookup;
+ghost use Rattle.read_path.specs.Path.{trim, firstLen, told, turning, lastOf, turnOf, pathOf};
+
+// What a path leads to.
+pub enum PathFound {
+    // The entry: its header, and the place in the window of its first byte.
+    Entry(Header, usize),
+    // 2: a byte of the path is above 127.
+    BadByte,
+    // 21, 22, 23, 24, 25: as the lookup of a part answers, 22 without its count.
+    DirectoryEmpty,
+    DoesNotExist,
+    OutOfBounds(Offset),
+    Truncated(Offset),
+    Looped,
+    // 27: a part but the last is no directory.
+    IsNotDirectory,
+    // 28: the path has no part.
+    NoDirent,
+}
+
+// The answer of a part before the last: the table to go into, or the path's answer.
+pub enum Turn {
+    Into(Region),
+    Stop(PathFound),
+}
+
+// The end of the leading slashes.
+fn trimmed(s: &[u8]) -> usize
+    ensures { λ r. ⌜ (r ≤ length (now (s .entry))) × (drop r (now (s .entry)) ≡ trim (now (s .entry))) ⌝ }
+{
+    let mut i = 0;
+    while i < s.len() {
+        if s[i] != 47 {
+            return i;
+        }
+        i += 1;
+    }
+    i
+}
+
+// The end of the part that starts at a place: the next slash, or the end.
+fn part_end(s: &[u8], from: usize) -> usize
+    requires { ⌜ from ≤ length (now s) ⌝ }
+    ensures { λ r. ⌜ (r ≡ from + firstLen (drop from (now (s .entry)))) × (r ≤ length (now (s .entry))) ⌝ }
+{
+    let mut i = from;
+    while i < s.len() {
+        if s[i] == 47 {
+            return i;
+        }
+        i += 1;
+    }
+    i
+}
+
+// The answer of the last part.
+fn last_of(a: Looked) -> PathFound
+    ensures { λ r. ⌜ told r ≡ lastOf (lookup.told a) ⌝ }
+{
+    match a {
+        Looked::Found(h, place, _, _) => PathFound::Entry(h, place),
+        Looked::BadByte => PathFound::BadByte,
+        Looked::DirectoryEmpty => PathFound::DirectoryEmpty,
+        Looked::DoesNotExist(_) => PathFound::DoesNotExist,
+        Looked::OutOfBounds(o) => PathFound::OutOfBounds(o),
+        Looked::Truncated(o) => PathFound::Truncated(o),
+        Looked::Looped => PathFound::Looped,
+    }
+}
+
+// The answer of a part before the last: an entry must be a directory.
+fn turn_of(a: Looked) -> Turn
+    ensures { λ r. ⌜ turning r ≡ turnOf (lookup.told a) ⌝ }
+{
+    match a {
+        Looked::Found(h, _, _, _) => {
+            let sector = h.sector;
+            let size = h.size;
+            if h.is_directory() {
+                return Turn::Into(Region { sector, size });
+            }
+            Turn::Stop(PathFound::IsNotDirectory)
+        }
+        Looked::BadByte => Turn::Stop(PathFound::BadByte),
+        Looked::DirectoryEmpty => Turn::Stop(PathFound::DirectoryEmpty),
+        Looked::DoesNotExist(_) => Turn::Stop(PathFound::DoesNotExist),
+        Looked::OutOfBounds(o) => Turn::Stop(PathFound::OutOfBounds(o)),
+        Looked::Truncated(o) => Turn::Stop(PathFound::Truncated(o)),
+        Looked::Looped => Turn::Stop(PathFound::Looped),
+    }
+}
+
+// The entry that a path leads to from a table.
+pub fn find_path(w: &[u8], first: Sector, table: Region, path: &[u8]) -> PathFound
+    ensures { λ r. ⌜ told r ≡ pathOf (now (w .entry)) first table (now (path .entry)) ⌝ }
+{
+    if read_lookup::any_high(path) {
+        return PathFound::BadByte;
+    }
+    let mut t = table;
+    let mut i = trimmed(path);
+    while i < path.len() {
+        let e = part_end(path, i);
+        let a = read_lookup::look_up(w, first, t, &path[i..e]);
+        if path.len() <= e + 1 {
+            return last_of(a);
+        }
+        match turn_of(a) {
+            Turn::Into(u) => t = u,
+            Turn::Stop(f) => return f,
+        }
+        i = e + 1;
+    }
+    PathFound::NoDirent
+}

@@ -1,0 +1,121 @@
+// A table is walked: preorder, left before right, into a lent list of offsets, with a lent scratch for the stack.
+use read_entry::Read;
+use units::Link;
+use units::Offset;
+use units::Region;
+use units::Sector;
+ghost use mathlib.Core.Path.{_≡_};
+ghost use mathlib.Core.List.{[], _∷_, _++_};
+ghost use Prim.Native.Nat.{_+_, _-_, _≤_, _<_};
+ghost use lib.ListN.{length, take, replicate};
+ghost use Rattle.read_entry.specs.Entry.{readAt};
+ghost use Rattle.read_entry.specs.Links.{walkAbsent};
+ghost use Rattle.read_walk.specs.Walk.{walkFrom, told, walkAnswer, listAfter, scratchAfter};
+ghost use Rattle.read_walk.specs.Run.{Pushed, Runs, keptOf};
+
+// What a walk answers.
+pub enum Walked {
+    // So many offsets are listed.
+    Done(usize),
+    // 6: the scratch is not longer than the list.
+    Room,
+    // 23, 24: with the offset that was to be read.
+    OutOfBounds(Offset),
+    Truncated(Offset),
+    // 26: an entry is read when the list is full.
+    WalkFull,
+}
+
+// A link's offset on the stack: 0 and 0xffff are absent. The answer is the stack's new height.
+fn push_link(scratch: &mut [u32], top: usize, l: Link) -> usize
+    requires { ⌜ top < length (now scratch) ⌝ }
+    ensures { λ r. ⌜ Pushed walkAbsent (l .0) (now (scratch .entry)) top (now (scratch .exit)) r ⌝ }
+{
+    let n = l.number();
+    if n == 0 {
+        return top;
+    }
+    if n == 0xffff {
+        return top;
+    }
+    let o = l.offset();
+    scratch[top] = o.number();
+    top + 1
+}
+
+// Zero from a place on.
+fn clear_from(s: &mut [u32], from: usize)
+    requires { ⌜ from ≤ length (now s) ⌝ }
+    ensures { λ _. ⌜ now (s .exit) ≡ take from (now (s .entry)) ++ replicate (length (now (s .entry)) - from) 0 ⌝ }
+{
+    let mut i = from;
+    while i < s.len() {
+        s[i] = 0;
+        i += 1;
+    }
+}
+
+// The walk itself. What it leaves in the list past its count, and in the scratch, is cleared by the caller.
+fn run(w: &[u8], first: Sector, table: Region, list: &mut [u32], scratch: &mut [u32]) -> Walked
+    requires { ⌜ length (now list) < length (now scratch) ⌝ }
+    ensures { λ r. ⌜ Runs (walkFrom walkAbsent (readAt (now (w .entry)) first table) (length (now (list .entry))) (0 ∷ [])) r (now (list .exit)) ⌝ }
+{
+    scratch[0] = 0;
+    let mut top: usize = 1;
+    let mut n: usize = 0;
+    while 0 < top {
+        top -= 1;
+        let o = scratch[top];
+        match read_entry::read_at(w, first, table, Offset::new(o)) {
+            Read::Entry(h, _) => {
+                if list.len() <= n {
+                    return Walked::WalkFull;
+                }
+                list[n] = o;
+                n += 1;
+                top = push_link(scratch, top, h.right);
+                top = push_link(scratch, top, h.left);
+            }
+            Read::Nothing => {}
+            Read::OutOfBounds(p) => return Walked::OutOfBounds(p),
+            Read::Truncated(p) => return Walked::Truncated(p),
+        }
+    }
+    Walked::Done(n)
+}
+
+// How many places of the list an answer keeps.
+fn kept(r: Walked) -> usize
+    ensures { λ n. ⌜ n ≡ keptOf r ⌝ }
+{
+    match r {
+        Walked::Done(n) => n,
+        Walked::Room => 0,
+        Walked::OutOfBounds(_) => 0,
+        Walked::Truncated(_) => 0,
+        Walked::WalkFull => 0,
+    }
+}
+
+// The walk of a table: the offsets of its entries in the list, and zeros past them; or a refusal, and a list of zeros. The scratch is all
+// zero after it. Where the scratch is not longer than the list, all is unchanged.
+pub fn walk(w: &[u8], first: Sector, table: Region, list: &mut [u32], scratch: &mut [u32]) -> Walked
+    ensures answer { λ r. ⌜ told r ≡ walkAnswer (now (w .entry)) first table (length (now (list .entry))) (length (now (scratch .entry))) ⌝ }
+    ensures list { λ _. ⌜ now (list .exit) ≡ listAfter (now (w .entry)) first table (now (list .entry)) (length (now (scratch .entry))) ⌝ }
+    ensures scratch { λ _. ⌜ now (scratch .exit) ≡ scratchAfter (length (now (list .entry))) (now (scratch .entry)) ⌝ }
+{
+    if scratch.len() <= list.len() {
+        return Walked::Room;
+    }
+    let size = table.size;
+    if size == 0 {
+        clear_from(list, 0);
+        clear_from(scratch, 0);
+        return Walked::Done(0);
+    }
+    let r = run(w, first, table, list, scratch);
+    let n = kept(r);
+    clear_from(list, n);
+    clear_from(scratch, 0);
+    r
+}
