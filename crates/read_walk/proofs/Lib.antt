@@ -1,0 +1,6 @@
+-- Laws of the walk's definition, and one turn of its loop.
+pub mod Stack
+pub mod Steps
+pub mod Turn
+pub mod Zeros
+pub mod Told

@@ -1,0 +1,85 @@
+-- `read_walk::push_link` meets its contract: a store at the stack's height leaves the stack below it, and puts the offset on top. Assumes nothing.
+use Prim.Native.Nat.{ℕ, zero, suc, _+_, _*_, _≤_, _<_}
+use mathlib.Core.Path.{_≡_, refl, sym, ap, _∙_}
+use mathlib.Core.List.{List, _∷_}
+use native.Mathlib.Omega.{arith}
+use native.Mathlib.Numerals.{add-one}
+use borrow.Author.Tests.{eq-eqb, ne-eqb}
+use lib.ListN.{length, set, length-set}
+use Rattle.units.specs.declared.Link.{Link}
+use Rattle.units.specs.declared.Offset.{Offset}
+use Rattle.read_entry.specs.Links.{isIn, walkAbsent}
+use Rattle.read_walk.specs.Walk.{push}
+use Rattle.read_walk.specs.Run.{stackOf, Pushed}
+use Rattle.read_walk.proofs.Stack.{stack-push}
+use borrow.Author.Needs.{needs}
+use Rattle.read_walk.proofs.push_link.Statement.{statement}
+use Rattle.read_walk.proofs.push_link.Tie as tie
+use Rattle.read_walk.proofs.push_link.Reads as reads
+use Rattle.read_walk.proofs.push_link.Lts as lts
+use Rattle.units.proofs.Link.number.Reads as Link-number-reads
+use Rattle.units.proofs.Link.offset.Reads as offset-reads
+use Rattle.units.proofs.Offset.number.Reads as Offset-number-reads
+
+module _ (s : List ℕ) (top k : ℕ) (l : Link) (k-is : k ≡ l .0) where
+  zero-link : k ≡ 0 → Pushed walkAbsent (l .0) s top s top
+  unfolding push isIn
+  zero-link e = record { stack = rw (← k-is, eq-eqb _ _ e); height = omega arith; kept = refl }
+
+  module _ (not-zero : k ≡ 0 → ⊥) where
+    ones-link : k ≡ 65535 → Pushed walkAbsent (l .0) s top s top
+    unfolding push isIn
+    ones-link e = record { stack = rw (← k-is, ne-eqb _ _ not-zero, eq-eqb _ _ e); height = omega arith; kept = refl }
+
+    link : top < length s → (k ≡ 65535 → ⊥) → (p : Offset) (o : ℕ) → p .0 ≡ 4 * l .0 → o ≡ p .0 → (r : ℕ) → r ≡ top + 1 → Pushed walkAbsent (l .0) s top (set s top o) r
+    unfolding push isIn
+    link h m p o e f r d = record {
+      stack = let at : o ≡ 4 * k = f ∙ e ∙ ap (λ (n : ℕ). 4 * n) (sym k-is) in rw (← k-is, ne-eqb _ _ not-zero, ne-eqb _ _ m, d, ← at) (stack-push s top o h);
+      height = omega arith;
+      kept = length-set s top o;
+    }
+
+number-requires : tie.Need-number-requires
+number-requires c κs = search needs
+
+returns : tie.Need-returns
+returns c = search zero-link
+
+returns-2 : tie.Need-returns-2
+returns-2 c = search ones-link
+
+offset-requires : tie.Need-offset-requires
+offset-requires c κs = search needs
+
+number-requires-2 : tie.Need-number-requires-2
+number-requires-2 c κs = search needs
+
+mul-scratch : tie.Need-mul-scratch
+mul-scratch c = search needs
+
+slice-write-scratch : tie.Need-slice-write-scratch
+slice-write-scratch c = search needs
+
+add-result : tie.Need-add-result
+add-result c = search needs
+
+same-length : tie.Need-same-length
+same-length c = search needs
+
+returns-3 : tie.Need-returns-3
+returns-3 c = search link
+
+pub push-link-spec : {M : Type 1} → statement M
+push-link-spec =
+    tie.close
+    (tie.spec
+    number-requires
+    returns
+    returns-2
+    offset-requires
+    number-requires-2
+    mul-scratch
+    slice-write-scratch
+    add-result
+    same-length
+    returns-3)
