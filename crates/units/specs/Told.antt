@@ -8,6 +8,11 @@ pub data Told (A : Type 0) : Type 0 where
   gives : A → Told A
   refuses : ℕ → List ℕ → Told A
 
+-- the number of a refusal; 0 for what is none
+abbrev pub numberOf : {A : Type 0} → Told A → ℕ
+numberOf (gives x) = 0
+numberOf (refuses k vs) = k
+
 -- a case by a test
 abbrev pub pick {ℓ} : {A : Type ℓ} → Bool → A → A → A
 pick true a b = a
