@@ -1,0 +1,24 @@
+// The strict check: a walk that stops at the first fault.
+use units::Offset;
+use units::Region;
+use units::Sector;
+ghost use mathlib.Core.Path.{_≡_};
+ghost use lib.ListN.{length};
+ghost use Rattle.strict.specs.Strict.{told, strictAnswer, listAfter, scratchAfter};
+
+// What the strict check answers.
+pub enum Checked {
+    // So many offsets are listed: the table is of the form that the readers agree on.
+    Done(usize),
+    // 6: the scratch is not longer than the list.
+    Room,
+    // 23, 24: with the offset that was to be read.
+    OutOfBounds(Offset),
+    Truncated(Offset),
+    // 26: an entry is read when the list is full.
+    WalkFull,
+    // 30, 31, 32: with the offset of the entry at fault.
+    Shared(Offset),
+    OutOfOrder(Offset),
+    BadPlace(Offset),
+}
