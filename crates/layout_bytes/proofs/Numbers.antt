@@ -27,8 +27,9 @@ pub le16-u16 : (a b : ℕ) (rest : List ℕ) → a < 256 → b < 256 → le16 (u
 le16-u16 a b rest p q =
     let n : ℕ = a + 256 * b in
     let e₀ : n % 256 ≡ a = omega arith in
-    let e₁ : n / 256 % 256 ≡ b = omega arith in
-    rw (e₀, e₁)
+    let e₁ : n / 256 ≡ b = omega arith in
+    let f₁ : n / 256 % 256 ≡ b = ap (λ (k : ℕ). k % 256) e₁ ∙ omega arith in
+    rw (e₀, f₁)
 
 -- the four bytes that are written of the number that they say
 pub le32-u32 : (a b c d : ℕ) (rest : List ℕ) → a < 256 → b < 256 → c < 256 → d < 256 → le32 (u32At (a ∷ b ∷ c ∷ d ∷ rest) 0) ≡ a ∷ b ∷ c ∷ d ∷ []
