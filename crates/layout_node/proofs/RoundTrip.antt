@@ -42,18 +42,19 @@ from zero i s = []
 from (suc n) i s = getD s i 0 ∷ from n (suc i) s
 
 from-drop : (n i : ℕ) (s : List ℕ) → i + n ≡ length s → from n i s ≡ drop i s
-from-drop zero i s e = sym (drop-of-length-le s {i} (omega arith))
+unfolding from
+from-drop zero i s e = sym (drop-of-length-le s {i = i} (omega arith))
 from-drop (suc n) i s e = rw (drop-cons s i 0 (omega arith)) (ap (λ (l : List ℕ). getD s i 0 ∷ l) (from-drop n (suc i) s (omega arith)))
 
 -- fourteen bytes are written again from the header that they say
 pub bytes-back : (b : List ℕ) → length b ≡ 14 → ((i : ℕ) → i < length b → getD b i 0 < 256) → headerBytes (headerOf b) ≡ b
-unfolding headerOf headerBytes
+unfolding headerOf headerBytes from
 bytes-back b e h =
     let at : (i : ℕ) → i < 14 → getD b i 0 < 256 = λ i k. h i (omega arith) in
     let two : (i j : ℕ) → i < 14 → j < 14 → le16 (getD b i 0 + 256 * getD b j 0) ≡ getD b i 0 ∷ getD b j 0 ∷ [] = λ i j p q. le16-u16 _ _ [] (at i p) (at j q) in
     let four : (i j k l : ℕ) → i < 14 → j < 14 → k < 14 → l < 14
-        → le32 (getD b i 0 + 256 * getD b j 0 + 65536 * (getD b k 0 + 256 * getD b l 0)) ≡ getD b i 0 ∷ getD b j 0 ∷ getD b k 0 ∷ getD b l 0 ∷ []
-        = λ i j k l p q r s. le32-u32 _ _ _ _ [] (at i p) (at j q) (at k r) (at l s) in
+    → le32 (getD b i 0 + 256 * getD b j 0 + 65536 * (getD b k 0 + 256 * getD b l 0)) ≡ getD b i 0 ∷ getD b j 0 ∷ getD b k 0 ∷ getD b l 0 ∷ []
+    = λ i j k l p q r s. le32-u32 _ _ _ _ [] (at i p) (at j q) (at k r) (at l s) in
     ap₂ _++_ (two 0 1 (omega arith) (omega arith))
     (ap₂ _++_ (two 2 3 (omega arith) (omega arith))
     (ap₂ _++_ (four 4 5 6 7 (omega arith) (omega arith) (omega arith) (omega arith))

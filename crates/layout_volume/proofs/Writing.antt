@@ -23,7 +23,7 @@ module _ (m w x u v z₀ z₁ rest : List ℕ) (k₁ k₂ k₃ : ℕ) (as-many :
       let r₃ : l₃ ≡ putAt l₁ 0 (m ++ w) = put-then l₁ l₂ l₃ 0 k₁ m w (omega arith) at₁ p₂ p₃ in
       let r₄ : l₄ ≡ putAt l₁ 0 s = put-then l₁ l₃ l₄ 0 k₂ (m ++ w) x (simp length-append (omega arith)) at₂ r₃ p₄ in
       let q₄ : l₄ ≡ (s ++ (u ++ v)) ++ (z₁ ++ rest) = r₄ ∙ ap (λ (l : List ℕ). putAt l 0 s) p₁ ∙ put-seam [] z₀ ((u ++ v) ++ (z₁ ++ rest)) s 0 refl as-many
-          ∙ sym (append-assoc s (u ++ v) (z₁ ++ rest)) in
+      ∙ sym (append-assoc s (u ++ v) (z₁ ++ rest)) in
       p₅ ∙ ap (λ (l : List ℕ). putAt l k₃ m) q₄ ∙ put-seam (s ++ (u ++ v)) z₁ rest m k₃ (sym at₃) as-many-again ∙ simp append-assoc
 
 module _ (l₀ : List ℕ) (d : Descriptor) where

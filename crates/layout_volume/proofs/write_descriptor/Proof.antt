@@ -47,10 +47,11 @@ returns-2 c =
     let k₃ = k₄ .before .before .before .before in
     let k₂ = k₃ .before .before .before .before .before in
     let k₁ = k₂ .before .before .before .before .before in
-    let s = k₁ .before .before .before .before .before .before in
-    (search done
-    , written (s .args .out .now) (s .args .d) (k₁ .before .before .before .before .if1 .left) _ _ _ _ _ _ (k₁ .fill .ensures) (k₂ .put-bytes .ensures) (k₃ .before .number .ensures) (k₃ .put32 .ensures)
-    (k₄ .put322 .ensures) (k₅ .put-bytes2 .ensures))
+    let s = k₁ .before .before .before .before .before .before in (
+      search done,
+      written (s .args .out .now) (s .args .d) (k₁ .before .before .before .before .if1 .left) _ _ _ _ _ _ (k₁ .fill .ensures) (k₂ .put-bytes .ensures) (k₃ .before .number .ensures) (k₃ .put32 .ensures)
+          (k₄ .put322 .ensures) (k₅ .put-bytes2 .ensures),
+    )
 
 pub write-descriptor-spec : {M : Type 1} → statement M
 write-descriptor-spec =
