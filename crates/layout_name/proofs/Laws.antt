@@ -1,8 +1,10 @@
 -- `nameOrder` is a lawful total order on names up to case. Assumes nothing.
 --     number-less, number-equal, number-greater, number-opposite, number-equal→     the order of two numbers
 --     order-opposite, order-equal, order-equal→, order-trans                  the order of two lists
---     by-opposite, by-equal, by-equal→, by-trans, by-same-left                 the order of two names by any key
---     name-opposite, name-equal, name-equal→, name-trans, name-same-left      the order of two names
+--     by-total, by-antisymmetric, by-trans, by-equal, by-equal→                the order of two names by any key
+--     by-opposite, by-same-left                                               the same the other way round, and to a third
+--     name-total, name-antisymmetric, name-trans, name-equal, name-equal→     the order of two names; also name-opposite, name-same-left
+--     high-is-greater                                                         a byte of 0x80 and above is greater than every ASCII byte
 --     name-step, name-left-ends, name-right-ends, name-both-end               one turn of a comparison
 use Prim.Native.Nat.{ℕ, zero, suc, _+_, _-_, _≤_, _<_}
 use mathlib.Core.Path.{_≡_, refl, sym, ap, ap₂, _∙_}
@@ -15,7 +17,8 @@ use native.Mathlib.Numerals.{add-one}
 use lib.Dec.{ltb, leb}
 use lib.ListN.{length, drop, getD, drop-of-length-le}
 use lib.Seq.{drop-cons}
-use borrow.Author.Tests.{lt-ltb, le-ltb}
+use borrow.Author.Tests.{lt-ltb, le-ltb, le-leb, lt-leb}
+use Rattle.units.specs.Told.{pick}
 use Rattle.layout_name.specs.declared.Order.{Order}
 use Rattle.layout_name.specs.declared.Order.the-variants.{Less, Equal, Greater}
 use Rattle.layout_name.specs.Order.{raised, numberOrder, andThen, listOrder, orderBy, nameOrder, opposite}
@@ -135,13 +138,19 @@ order-trans (x ∷ xs) (y ∷ ys) (z ∷ zs) p q =
     go (inr h) (inl k) ih = first (omega (arith, number-equal→ x y (h .0), number-less→ y z k))
     go (inr h) (inr k) ih = rw (number-equal x z (number-equal→ x y (h .0) ∙ number-equal→ y z (k .0))) (ih (h .1) (k .1))
 
+one-of : (o p : Order) → p ≡ opposite o → (o ≡ Less) ⊎ ((o ≡ Equal) ⊎ (p ≡ Less))
+one-of Less p e = inl refl
+one-of Equal p e = inr (inl refl)
+one-of Greater p e = inr (inr e)
+
 -- the laws of the order of names by a key, which are those of the lists of keys
 module _ (key : ℕ → ℕ) where
+  -- the other way round, the opposite
   pub by-opposite : (a b : List ℕ) → orderBy key b a ≡ opposite (orderBy key a b)
   unfolding orderBy
   by-opposite a b = order-opposite (map key a) (map key b)
 
-  -- equal exactly where the lists of keys are
+  -- equal exactly where the lists of keys are: there, and nowhere else
   pub by-equal : (a b : List ℕ) → map key a ≡ map key b → orderBy key a b ≡ Equal
   unfolding orderBy
   by-equal a b e = rw e (order-equal (map key b))
@@ -150,16 +159,33 @@ module _ (key : ℕ → ℕ) where
   unfolding orderBy
   by-equal→ a b e = order-equal→ (map key a) (map key b) e
 
+  -- transitive
   pub by-trans : (a b c : List ℕ) → orderBy key a b ≡ Less → orderBy key b c ≡ Less → orderBy key a c ≡ Less
   unfolding orderBy
   by-trans a b c p q = order-trans (map key a) (map key b) (map key c) p q
+
+  -- total: less, equal, or less the other way round
+  pub by-total : (a b : List ℕ) → (orderBy key a b ≡ Less) ⊎ ((orderBy key a b ≡ Equal) ⊎ (orderBy key b a ≡ Less))
+  by-total a b = one-of (orderBy key a b) (orderBy key b a) (by-opposite a b)
+
+  -- antisymmetric: never less both ways
+  pub by-antisymmetric : (a b : List ℕ) → orderBy key a b ≡ Less → orderBy key b a ≡ Less → ⊥
+  by-antisymmetric a b p q = let z : Less ≡ Greater = sym q ∙ by-opposite a b ∙ ap opposite p in let k : _≡_ {A = ℕ} 0 1 = cc in omega arith
 
   -- names with equal keys stand alike to any third
   pub by-same-left : (a b c : List ℕ) → orderBy key a b ≡ Equal → orderBy key a c ≡ orderBy key b c
   unfolding orderBy
   by-same-left a b c e = rw (by-equal→ a b e)
 
--- the same of today's key
+-- the same of today's key, which raises a to z
+pub name-total : (a b : List ℕ) → (nameOrder a b ≡ Less) ⊎ ((nameOrder a b ≡ Equal) ⊎ (nameOrder b a ≡ Less))
+unfolding nameOrder
+name-total = by-total raised
+
+pub name-antisymmetric : (a b : List ℕ) → nameOrder a b ≡ Less → nameOrder b a ≡ Less → ⊥
+unfolding nameOrder
+name-antisymmetric = by-antisymmetric raised
+
 pub name-opposite : (a b : List ℕ) → nameOrder b a ≡ opposite (nameOrder a b)
 unfolding nameOrder
 name-opposite = by-opposite raised
@@ -179,6 +205,26 @@ name-trans = by-trans raised
 pub name-same-left : (a b c : List ℕ) → nameOrder a b ≡ Equal → nameOrder a c ≡ nameOrder b c
 unfolding nameOrder
 name-same-left = by-same-left raised
+
+raised-low : (b : ℕ) → b < 128 → raised b < 128
+unfolding raised
+raised-low b h = by (leb 97 b) (leb b 122)
+  where
+    by : (p q : Bool) → pick p (pick q (b - 32) b) b < 128
+    by true true = omega arith
+    by true false = h
+    by false q = h
+
+raised-high : (b : ℕ) → 128 ≤ b → raised b ≡ b
+unfolding raised
+raised-high b h =
+    let g : 97 ≤ b = omega arith in
+    let k : 122 < b = omega arith in
+    simp (le-leb _ _ g, lt-leb _ _ k)
+
+-- a byte of 0x80 and above is greater than every ASCII byte
+pub high-is-greater : (a b : ℕ) → a < 128 → 128 ≤ b → numberOrder (raised a) (raised b) ≡ Less
+high-is-greater a b h k = number-less (raised a) (raised b) (omega (arith, raised-low a h, raised-high b k))
 
 -- one turn of a comparison: both names have a byte at i
 pub name-step : (a b : List ℕ) (i : ℕ) → i < length a → i < length b →

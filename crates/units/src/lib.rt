@@ -23,7 +23,7 @@ impl Sector {
     pub fn number(self) -> u32
         ensures { λ r. ⌜ r ≡ self .0 ⌝ }
     {
-        self.0
+        self.0 // of the sector
     }
 
     // Times 2,048: the byte of the image at which the sector starts.
@@ -44,7 +44,7 @@ impl Offset {
     pub fn number(self) -> u32
         ensures { λ r. ⌜ r ≡ self .0 ⌝ }
     {
-        self.0
+        self.0 // of the offset
     }
 
     // Over 4. (An offset over 4 of more than 65,535 is refusal 7, which the caller has seen to.)
@@ -66,7 +66,7 @@ impl Link {
     pub fn number(self) -> u16
         ensures { λ r. ⌜ r ≡ self .0 ⌝ }
     {
-        self.0
+        self.0 // of the link
     }
 
     // Times 4.

@@ -1,0 +1,4 @@
+-- Laws of the sector counter.
+pub mod Told
+pub mod Laws
+pub mod Taking

@@ -1,0 +1,34 @@
+-- A descriptor has 2,048 bytes, is read back from them, and is never read from fewer. Assumes nothing.
+use Prim.Native.Nat.{ℕ, _+_, _≤_, _<_}
+use mathlib.Core.Path.{_≡_, refl, sym, ap, _∙_}
+use mathlib.Core.Bool.{Bool, true, false}
+use mathlib.Core.List.{List, [], _∷_, _++_}
+use native.Mathlib.Omega.{arith}
+use lib.ListN.{length, take, drop, length-take, length-drop}
+use Rattle.units.specs.Told.{Told, gives, refuses, pick}
+use Rattle.layout_bytes.specs.Bytes.{both, u32At}
+use Rattle.layout_bytes.proofs.Numbers.{u32-le32}
+use Rattle.layout_volume.specs.declared.Descriptor.{Descriptor}
+use Rattle.layout_volume.specs.Descriptor.{mark, descriptorBytes, sameList, readOf}
+use Rattle.layout_volume.proofs.Same.{shorter}
+
+-- a descriptor has 2,048 bytes
+pub descriptor-length : (d : Descriptor) → length (descriptorBytes d) ≡ 2048
+unfolding descriptorBytes
+descriptor-length d = refl
+
+-- what was written is read: the same descriptor, whatever stands behind it
+pub read-written : (d : Descriptor) (rest : List ℕ) → d .root .sector .0 < 4294967296 → d .root .size < 4294967296 → readOf (descriptorBytes d ++ rest) ≡ gives d
+unfolding readOf descriptorBytes sameList
+read-written d rest h k =
+    λ i. gives (record { root = record { sector = record { 0 = u32-le32 (d .root .sector .0) [] h i }; size = u32-le32 (d .root .size) [] k i } })
+
+cut : (b r : Bool) (d : Descriptor) → r ≡ false → pick (both b r) (gives d) (refuses 20 []) ≡ refuses 20 []
+cut true r d e = rw e
+cut false r d e = refl
+
+-- fewer than 2,048 bytes are refused 20
+pub short-is-20 : (s : List ℕ) → length s < 2048 → readOf s ≡ refuses 20 []
+unfolding readOf
+short-is-20 s h =
+    cut (sameList (take 20 s) mark) (sameList (take 20 (drop 2028 s)) mark) _ (shorter (take 20 (drop 2028 s)) mark (simp (length-take, length-drop) (omega arith)))

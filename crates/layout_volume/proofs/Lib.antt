@@ -1,0 +1,6 @@
+-- Laws of the volume descriptor: told one-to-one, read back; and what the proofs of the code are made of.
+pub mod Told
+pub mod Laws
+pub mod Same
+pub mod Reading
+pub mod Writing

@@ -1,0 +1,37 @@
+-- What reading a descriptor answers, from the two tests for the mark. Assumes nothing.
+use Prim.Native.Nat.{ℕ, _+_, _-_, _≤_, _<_}
+use mathlib.Core.Path.{_≡_, refl, sym, ap, _∙_}
+use mathlib.Core.Bool.{Bool, true, false}
+use mathlib.Core.List.{List, [], _∷_}
+use native.Mathlib.Omega.{arith}
+use native.Mathlib.Decide.{decLt}
+use lib.ListN.{length, take, drop, length-take, length-drop}
+use Rattle.units.specs.declared.Sector.{Sector}
+use Rattle.units.specs.Told.{Told, gives, refuses}
+use Rattle.layout_bytes.specs.Bytes.{u32At}
+use Rattle.layout_volume.specs.declared.Descriptor.{Descriptor}
+use Rattle.layout_volume.specs.Descriptor.{mark, sameList, readOf}
+use Rattle.layout_volume.proofs.Same.{shorter}
+
+-- a list that has the mark at a place reaches past it
+pub reaches : (s : List ℕ) (at : ℕ) (b : Bool) → b ≡ sameList (take 20 (drop at s)) mark → b ≡ true → at + 20 ≤ length s
+reaches s at b is e = by (decLt (length (take 20 (drop at s))) 20)
+  where
+    by : Dec (length (take 20 (drop at s)) < 20) → at + 20 ≤ length s
+    by (yes h) = let z : false ≡ true = sym (shorter (take 20 (drop at s)) mark h) ∙ sym is ∙ e in let k : _≡_ {A = ℕ} 0 1 = cc in absurd (omega arith)
+    by (no h) = omega (arith, simp (length-take, length-drop) at h)
+
+module _ (s : List ℕ) (p : Bool) (first : p ≡ sameList (take 20 s) mark) where
+  pub no-first : p ≡ false → refuses 20 [] ≡ readOf s
+  unfolding readOf
+  no-first e = rw (← first, e)
+
+  module _ (has : p ≡ true) (q : Bool) (second : q ≡ sameList (take 20 (drop 2028 s)) mark) where
+    pub no-second : q ≡ false → refuses 20 [] ≡ readOf s
+    unfolding readOf
+    no-second e = rw (← first, has, ← second, e)
+
+    pub volume : (sector : Sector) (a z : ℕ) → q ≡ true → sector .0 ≡ a → a ≡ u32At s 20 → z ≡ u32At s 24
+        → _≡_ {A = Told Descriptor} (gives (record { root = record { sector = sector; size = z } })) (readOf s)
+    unfolding readOf
+    volume sector a z e es ea ez = rw (← first, has, ← second, e) (λ i. gives (record { root = record { sector = record { 0 = (es ∙ ea) i }; size = ez i } }))

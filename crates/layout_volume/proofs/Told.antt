@@ -1,0 +1,36 @@
+-- What each answer stands for is one-to-one: no two answers are told alike. Assumes nothing.
+use mathlib.Core.Path.{_≡_, refl, sym, ap, _∙_}
+use Rattle.units.specs.Told.{Told, gives, refuses}
+use Rattle.layout_volume.specs.declared.Descriptor.{Descriptor}
+use Rattle.layout_volume.specs.declared.DescriptorWritten.{DescriptorWritten}
+use Rattle.layout_volume.specs.declared.DescriptorWritten.the-variants.{Done, BufferTooSmall}
+use Rattle.layout_volume.specs.declared.DescriptorRead.{DescriptorRead}
+use Rattle.layout_volume.specs.declared.DescriptorRead.the-variants.{Volume, NoVolume}
+use Rattle.layout_volume.specs.Descriptor.{writeTold, readTold}
+
+-- the answers again from what is told of them
+written-back : Told (Unit {0}) → DescriptorWritten
+written-back (gives u) = Done
+written-back (refuses k vs) = BufferTooSmall
+
+read-back : Told Descriptor → DescriptorRead
+read-back (gives d) = Volume d
+read-back (refuses k vs) = NoVolume
+
+written-back-told : (a : DescriptorWritten) → written-back (writeTold a) ≡ a
+unfolding written-back
+written-back-told Done = refl
+written-back-told BufferTooSmall = refl
+
+read-back-told : (a : DescriptorRead) → read-back (readTold a) ≡ a
+unfolding read-back
+read-back-told (Volume d) = refl
+read-back-told NoVolume = refl
+
+-- no two answers of a writing are told alike
+pub write-told-one : (a b : DescriptorWritten) → writeTold a ≡ writeTold b → a ≡ b
+write-told-one a b e = sym (written-back-told a) ∙ ap written-back e ∙ written-back-told b
+
+-- no two answers of a reading are told alike
+pub read-told-one : (a b : DescriptorRead) → readTold a ≡ readTold b → a ≡ b
+read-told-one a b e = sym (read-back-told a) ∙ ap read-back e ∙ read-back-told b
