@@ -1,10 +1,8 @@
--- Cases of document 01, and hard ones, over small windows: computed, but for those that never end. Assumes nothing.
+-- Cases of document 01, and hard ones, computed over small windows. Assumes nothing.
 use Prim.Native.Nat.{ℕ}
 use mathlib.Core.Path.{_≡_, refl}
 use mathlib.Core.Bool.{Bool, true, false}
 use mathlib.Core.List.{List, [], _∷_, _++_}
-use mathlib.Core.Option.{some}
-use native.Mathlib.Omega.{arith}
 use lib.ListN.{replicate}
 use Rattle.units.specs.Told.{Told, gives, refuses}
 use Rattle.units.specs.declared.Sector.{Sector}
@@ -13,13 +11,11 @@ use Rattle.layout_bytes.specs.Bytes.{all}
 use Rattle.layout_name.specs.Order.{raised, numberOrder, listOrder, orderBy, nameOrder}
 use Rattle.layout_node.specs.Header.{headerOf, isBlank}
 use Rattle.read_entry.specs.Entry.{readHere, readAt, nameOf}
-use Rattle.read_entry.specs.Links.{isIn, lookupAbsent}
+use Rattle.read_entry.specs.Links.{isIn}
 use Rattle.read_lookup.specs.Lookup.{Finding, byLink, stepAt, chainFrom, anyHigh, lookupBy, lookupOf}
-use Rattle.read_lookup.specs.Chain.{offsetFrom, ReadsAgain}
-use Rattle.read_lookup.proofs.Laws.{again-looped}
 
 -- an entry of 16 bytes: a file of size 1 at a sector, with a name of one byte, and two links of one byte
-abbrev file : ℕ → ℕ → ℕ → ℕ → List ℕ
+abbrev pub file : ℕ → ℕ → ℕ → ℕ → List ℕ
 file left right sector letter = left ∷ 0 ∷ right ∷ 0 ∷ sector ∷ 0 ∷ 0 ∷ 0 ∷ 1 ∷ 0 ∷ 0 ∷ 0 ∷ 32 ∷ 1 ∷ letter ∷ 255 ∷ []
 
 -- the answer for one of those, at an offset that is its place too
@@ -34,14 +30,14 @@ filed left right sector offset headers = gives (record {
 })
 
 -- a table at the window's first sector
-abbrev first : Sector
+abbrev pub first : Sector
 first = record { 0 = 33 }
 
-abbrev of-size : ℕ → Region
+abbrev pub of-size : ℕ → Region
 of-size n = record { sector = record { 0 = 33 }; size = n }
 
 -- the lookup of a name in such a table of a size
-abbrev look : List ℕ → ℕ → List ℕ → Told Finding
+abbrev pub look : List ℕ → ℕ → List ℕ → Told Finding
 look w size name = lookupOf w first (of-size size) name
 
 -- files `b`, `a`, `c`, as they are written for `a`, `b`, `c`
@@ -117,25 +113,3 @@ size-one = refl
 pub size-one-out : look three 1 (97 ∷ []) ≡ refuses 23 (16 ∷ [])
 unfolding lookupBy anyHigh chainFrom stepAt byLink isIn readAt readHere headerOf all isBlank nameOf nameOrder orderBy listOrder numberOrder raised
 size-one-out = refl
-
--- an entry that points at itself: its offset is read again
-abbrev itself : List ℕ
-itself = file 0 4 34 97 ++ file 0 4 35 98
-
-itself-again : ReadsAgain (stepAt lookupAbsent itself first (of-size 32) (122 ∷ [])) 0
-unfolding offsetFrom stepAt byLink isIn readAt readHere headerOf all isBlank nameOf nameOrder orderBy listOrder numberOrder raised
-itself-again = record { first = 1; second = 2; later = omega arith; offset = 16; at-first = refl; at-second = refl }
-
-pub itself-looped : look itself 32 (122 ∷ []) ≡ refuses 25 []
-itself-looped = again-looped lookupAbsent itself first (of-size 32) (122 ∷ []) (unfold anyHigh in refl) (λ e. omega arith) itself-again
-
--- two entries that point at each other
-abbrev each-other : List ℕ
-each-other = file 0 4 34 97 ++ (file 0 8 35 98 ++ file 0 4 36 99)
-
-each-other-again : ReadsAgain (stepAt lookupAbsent each-other first (of-size 48) (122 ∷ [])) 0
-unfolding offsetFrom stepAt byLink isIn readAt readHere headerOf all isBlank nameOf nameOrder orderBy listOrder numberOrder raised
-each-other-again = record { first = 1; second = 3; later = omega arith; offset = 16; at-first = refl; at-second = refl }
-
-pub each-other-looped : look each-other 48 (122 ∷ []) ≡ refuses 25 []
-each-other-looped = again-looped lookupAbsent each-other first (of-size 48) (122 ∷ []) (unfold anyHigh in refl) (λ e. omega arith) each-other-again
