@@ -44,10 +44,10 @@ first-part [] h = absurd (omega arith)
 first-part (x ∷ xs) h = first-by x xs (eqb x 47) (first-part xs) h
 
 -- of a text that is not empty some part is left
-abbrev Some : List (List ℕ) → Type 0
+abbrev pub Some : List (List ℕ) → Type 0
 Some ps = (q : List ℕ) × (qs : List (List ℕ)) × (ps ≡ q ∷ qs)
 
-some-split : (l : List ℕ) → Some (split l)
+pub some-split : (l : List ℕ) → Some (split l)
 unfolding split
 some-split [] = ([], [], refl)
 some-split (x ∷ xs) = go (eqb x 47) (some-split xs)
@@ -61,7 +61,7 @@ unfolding unended
 some-long x p [] = (x ∷ p, [], refl)
 some-long x p (q ∷ ps) = (x ∷ p, unended (q ∷ ps), refl)
 
-some-left : (l : List ℕ) → 0 < length l → Some (unended (split l))
+pub some-left : (l : List ℕ) → 0 < length l → Some (unended (split l))
 unfolding split
 some-left [] h = absurd (omega arith)
 some-left (x ∷ xs) h = go (eqb x 47) (some-split xs)
@@ -71,7 +71,7 @@ some-left (x ∷ xs) h = go (eqb x 47) (some-split xs)
     go false s = rw (s .2) (some-long x (s .0) (s .1))
 
 -- a part in front of others
-unended-more : (p : List ℕ) (ps : List (List ℕ)) → Some ps → unended (p ∷ ps) ≡ p ∷ unended ps
+pub unended-more : (p : List ℕ) (ps : List (List ℕ)) → Some ps → unended (p ∷ ps) ≡ p ∷ unended ps
 unfolding unended
 unended-more p ps s = rw (s .2)
 
