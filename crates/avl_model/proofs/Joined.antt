@@ -30,7 +30,7 @@ pub rl-joined : (S : Lists) (a b c : ℕ) {t1 i : ℕ} {l1 r1 p1 r2 p2 l3 p3 r4 
 unfolding rlRotated
 rl-joined S a b c e1 e2 e3 e4 is e5 e6 e7 e8 e9 e10 e11 e12 e13 = cc
 
-pub attach-joined : (S : Lists) (q : Place) (new : ℕ) {t1 p1 : ℕ} {l1 r1 : List ℕ}
-    → t1 ≡ putRoot q new (S .root) → l1 ≡ putLeft q new (S .L) → r1 ≡ putRight q new (S .R) → p1 ≡ aboveOf q
-    → lists t1 (set l1 new 65535) (set r1 new 65535) (set (S .P) new p1) (set (S .H) new 0) ≡ attached S q new
-attach-joined S q new e1 e2 e3 e4 = cc
+pub attach-joined : (S : Lists) (q : Place) (new : ℕ) {t1 p1 i : ℕ} {l1 r1 : List ℕ}
+    → t1 ≡ putRoot q new (S .root) → l1 ≡ putLeft q new (S .L) → r1 ≡ putRight q new (S .R) → p1 ≡ aboveOf q → i ≡ new
+    → lists t1 (set l1 i 65535) (set r1 i 65535) (set (S .P) i p1) (set (S .H) i 0) ≡ attached S q new
+attach-joined S q new e1 e2 e3 e4 is = cc

@@ -1,8 +1,8 @@
 -- The names of nodes: each by its place in lent bytes, and how two of them stand. Assumes nothing.
-use Prim.Native.Nat.{ℕ}
+use Prim.Native.Nat.{ℕ, _+_, _≤_, _<_}
 use mathlib.Core.Bool.{Bool, true, false}
 use mathlib.Core.List.{List}
-use lib.ListN.{getD, take, drop}
+use lib.ListN.{length, getD, take, drop}
 use Rattle.layout_name.specs.declared.Order.{Order}
 use Rattle.layout_name.specs.declared.Order.the-variants.{Less, Equal, Greater}
 use Rattle.layout_name.specs.Order.{nameOrder}
@@ -19,6 +19,12 @@ names b s n = record { bytes = b; start = s; len = n }
 -- the name of a node
 abbrev pub nameAt : Names → ℕ → List ℕ
 nameAt N i = take (getD (N .len) i 0) (drop (getD (N .start) i 0) (N .bytes))
+
+-- the name of a node stands inside the bytes, and its number inside both columns
+pub record Inside (N : Names) (i : ℕ) : Type 0 where
+  pub starts : i < length (N .start)
+  pub ends : i < length (N .len)
+  pub fits : getD (N .start) i 0 + getD (N .len) i 0 ≤ length (N .bytes)
 
 -- the order of a name to that of a node
 unfoldable pub toName : Names → List ℕ → ℕ → Order
