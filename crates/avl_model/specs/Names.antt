@@ -1,11 +1,13 @@
 -- The names of nodes: each by its place in lent bytes, and how two of them stand. Assumes nothing.
-use Prim.Native.Nat.{ℕ, _+_, _≤_, _<_}
+use Prim.Native.Nat.{ℕ, zero, suc, _+_, _≤_, _<_}
+use mathlib.Core.Path.{_≡_}
 use mathlib.Core.Bool.{Bool, true, false}
 use mathlib.Core.List.{List}
 use lib.ListN.{length, getD, take, drop}
 use Rattle.layout_name.specs.declared.Order.{Order}
 use Rattle.layout_name.specs.declared.Order.the-variants.{Less, Equal, Greater}
 use Rattle.layout_name.specs.Order.{nameOrder}
+use Rattle.avl_model.specs.Tree.{Tree, leaf, ins}
 
 -- lent bytes, and for each node where its name starts in them and how long it is
 pub record Names : Type 0 where
@@ -39,3 +41,12 @@ abbrev pub isLess : Order → Bool
 isLess Less = true
 isLess Equal = false
 isLess Greater = false
+
+-- the name of node i is before that of node j
+abbrev pub Before : Names → ℕ → ℕ → Type 0
+Before N i j = byName N i j ≡ Less
+
+-- the tree of the first n nodes, put in one after the other; no two of their names are equal
+abbrev pub grown : Names → ℕ → Tree
+grown N zero = leaf
+grown N (suc n) = ins (λ i. isLess (byName N n i)) n (grown N n)
