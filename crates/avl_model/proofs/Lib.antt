@@ -18,3 +18,6 @@ pub mod Seeking
 pub mod Adding
 pub mod Avl
 pub mod ByPath
+pub mod Written
+pub mod Search
+pub mod Cases
