@@ -18,3 +18,4 @@ pub mod Seeking
 pub mod Adding
 pub mod Avl
 pub mod ByPath
+pub mod Order

@@ -7,3 +7,4 @@ pub mod Lists
 pub mod Held
 pub mod Seek
 pub mod Insert
+pub mod Order
