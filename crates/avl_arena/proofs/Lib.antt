@@ -2,3 +2,8 @@
 pub mod Tested
 pub mod Looked
 pub mod Parts
+pub mod ByName
+pub mod Decoded
+pub mod Sound
+pub mod Complete
+pub mod Taken

@@ -89,6 +89,12 @@ each-inside N (suc m) e j h = elim (ℕ-discrete j m) [
   | no ne ↦ each-inside N m (and-l _ _ e) j (omega arith)
 ]
 
+-- and where it says so of each, it holds
+pub every-of : (N : Names) (m : ℕ) → ((j : ℕ) → j < m → getD (N .start) j 0 + getD (N .len) j 0 ≤ length (N .bytes)) → every (inside N) m ≡ true
+unfolding inside
+every-of N zero f = refl
+every-of N (suc m) f = and-both (every-of N m (λ j h. f j (omega arith))) (le-leb (getD (N .start) m 0 + getD (N .len) m 0) (length (N .bytes)) (f m (omega arith)))
+
 -- ---- places
 
 pub places-last : (S : Lists) (s l : List ℕ) (n : ℕ) → n ≤ length (S .L) → n ≤ length (S .R) → n ≤ length (S .P) → n ≤ length (S .H) → n ≤ length s → leb n (length l) ≡ places S s l n

@@ -54,6 +54,10 @@ okTree S N n lo hi up (node l i r) =
 abbrev pub treeOf : Lists → Tree
 treeOf S = treeAt 22 (S .L) (S .R) (S .root)
 
+-- the tree that the links of the first n places hold
+unfoldable pub decoded : Lists → ℕ → Tree
+decoded S n = treeOf (partOf n S)
+
 -- t is the tree of n nodes that the columns hold
 abbrev pub isWhole : Lists → Names → ℕ → Tree → Bool
 isWhole S N n t = okTree S N n none none none t && (eqb (top t) (S .root) && eqb (size t) n)

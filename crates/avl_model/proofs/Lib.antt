@@ -19,3 +19,4 @@ pub mod Adding
 pub mod Avl
 pub mod ByPath
 pub mod Order
+pub mod Counted
