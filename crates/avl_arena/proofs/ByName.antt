@@ -4,6 +4,7 @@ use native.Mathlib.Omega.{arith}
 use native.Mathlib.Decide.{decLt}
 use mathlib.Core.Path.{_≡_, refl, sym, ap, ap₂, _∙_}
 use mathlib.Core.Bool.{Bool, true, false, _&&_, _||_}
+use mathlib.Core.Logic.{_⊎_, inl, inr}
 use lib.ListN.{length, getD, take, drop}
 use lib.Seq.{getD-take}
 use lib.Dec.{leb}
@@ -15,6 +16,14 @@ use Rattle.layout_name.proofs.Laws.{name-trans, name-equal}
 use Rattle.avl_model.specs.Names.{Names, nameAt, toName, byName, isLess}
 use Rattle.avl_arena.specs.Test.{partNames, between}
 use Rattle.avl_arena.specs.HeldTree.{Before}
+
+-- i comes after lo, where that is one of the n nodes
+abbrev pub Lo : Names → ℕ → ℕ → ℕ → Type 0
+Lo N n lo i = (n ≤ lo) ⊎ Before N lo i
+
+-- i comes before hi, where that is one of the n nodes
+abbrev pub Hi : Names → ℕ → ℕ → ℕ → Type 0
+Hi N n hi i = (n ≤ hi) ⊎ Before N i hi
 
 pub before-trans : (N : Names) (a b c : ℕ) → Before N a b → Before N b c → Before N a c
 unfolding toName

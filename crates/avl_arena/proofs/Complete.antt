@@ -23,20 +23,15 @@ use Rattle.avl_model.proofs.Counted.{rep-below, low-22}
 use Rattle.avl_arena.specs.Test.{partOf, partNames, places, every, inside, between, cellOk, okTree, treeOf, decoded, isWhole, wholeTree, holdsTree}
 use Rattle.avl_arena.specs.HeldTree.{Before, Places, HeldTree}
 use Rattle.avl_arena.proofs.Tested.{and-both, every-of}
+use Rattle.avl_arena.proofs.ByName.{Lo, Hi}
 use Rattle.avl_arena.proofs.Decoded.{part-named, part-whole}
 
 module _ (S : Lists) (N : Names) (n : ℕ) where
-  abbrev Lo : ℕ → ℕ → Type 0
-  Lo lo i = (n ≤ lo) ⊎ Before N lo i
-
-  abbrev Hi : ℕ → ℕ → Type 0
-  Hi hi i = (n ≤ hi) ⊎ Before N i hi
-
   bound-ok : (b i j : ℕ) → (n ≤ b) ⊎ Before N i j → (leb n b || isLess (byName N i j)) ≡ true
   bound-ok b i j (inl h) = ap (λ (x : Bool). x || isLess (byName N i j)) (le-leb n b h)
   bound-ok b i j (inr h) = ap (λ (o : Order). leb n b || isLess o) h ∙ or-true (leb n b)
 
-  between-ok : (lo hi i : ℕ) → Lo lo i → Hi hi i → between N n lo hi i ≡ true
+  between-ok : (lo hi i : ℕ) → Lo N n lo i → Hi N n hi i → between N n lo hi i ≡ true
   unfolding between
   between-ok lo hi i p q = and-both (bound-ok lo lo i p) (bound-ok hi i hi q)
 
@@ -47,12 +42,12 @@ module _ (S : Lists) (N : Names) (n : ℕ) where
       (and-both (eq-eqb (getD (S .P) i 0) up (c .up)) (and-both (eq-eqb (getD (S .H) i 0) (max (ht l) (ht r) + 1) (c .high ∙ omega arith))
       (and-both (le-leb (ht l) (ht r + 1) (omega arith)) (le-leb (ht r) (ht l + 1) (omega arith))))))
 
-  ok-from : (lo hi up : ℕ) (t : Tree) → Rep (arrOf S) n up t → Avl t → Ordered (Before N) t → All (Lo lo) t → All (Hi hi) t → okTree S N n lo hi up t ≡ true
+  ok-from : (lo hi up : ℕ) (t : Tree) → Rep (arrOf S) n up t → Avl t → Ordered (Before N) t → All (Lo N n lo) t → All (Hi N n hi) t → okTree S N n lo hi up t ≡ true
   ok-from lo hi up leaf c a o p q = refl
   ok-from lo hi up (node l i r) c a o p q =
       and-both (between-ok lo hi i (p .0) (q .0))
-      (and-both (ok-from lo i i l (c .1) (a .2) (o .2) (p .1) (all-map (λ j. Before N j i) (Hi i) l (λ j h. inr h) (o .0)))
-      (and-both (ok-from i hi i r (c .2) (a .3) (o .3) (all-map (λ j. Before N i j) (Lo i) r (λ j h. inr h) (o .1)) (q .2)) (cell-ok up l i r (c .0) (a .0) (a .1))))
+      (and-both (ok-from lo i i l (c .1) (a .2) (o .2) (p .1) (all-map (λ j. Before N j i) (Hi N n i) l (λ j h. inr h) (o .0)))
+      (and-both (ok-from i hi i r (c .2) (a .3) (o .3) (all-map (λ j. Before N i j) (Lo N n i) r (λ j h. inr h) (o .1)) (q .2)) (cell-ok up l i r (c .0) (a .0) (a .1))))
 
   places-ok : Places S N n → places S (N .start) (N .len) n ≡ true
   unfolding places
@@ -62,11 +57,15 @@ module _ (S : Lists) (N : Names) (n : ℕ) where
 
   pub links-part : (m p : ℕ) (t : Tree) → m ≡ n → Rep (arrOf S) n p t → Links (take n (S .L)) (take n (S .R)) m t
   links-part m p leaf e c = tt
-  links-part m p (node l i r) e c = (record {
-    fits = omega (arith, c .0 .fits);
-    left = getD-take n (S .L) i 0 (c .0 .fits) ∙ c .0 .left;
-    right = getD-take n (S .R) i 0 (c .0 .fits) ∙ c .0 .right;
-  }, links-part m i l e (c .1), links-part m i r e (c .2))
+  links-part m p (node l i r) e c = (
+    record {
+      fits = omega (arith, c .0 .fits);
+      left = getD-take n (S .L) i 0 (c .0 .fits) ∙ c .0 .left;
+      right = getD-take n (S .R) i 0 (c .0 .fits) ∙ c .0 .right;
+    },
+    links-part m i l e (c .1),
+    links-part m i r e (c .2),
+  )
 
 all-of : (P : ℕ → Type 0) (t : Tree) → ((j : ℕ) → P j) → All P t
 all-of P leaf f = tt
@@ -90,5 +89,5 @@ module _ (S : Lists) (N : Names) (n : ℕ) (small : n ≤ 65535) (t : Tree) (w :
   unfolding holdsTree
   complete =
       and-both (places-ok S N n (w .places)) (and-both (part-named S N n ∙ every-of N n (w .named)) (part-whole S N n (w .places .l)
-      ∙ ap (isWhole S N n) decoded-is ∙ and-both (ok-from S N n none none none t (w .rep) (w .balanced) (w .ordered) (all-of (Lo S N n none) t (λ j. inl small)) (all-of (Hi S N n none) t (λ j. inl small)))
+      ∙ ap (isWhole S N n) decoded-is ∙ and-both (ok-from S N n none none none t (w .rep) (w .balanced) (w .ordered) (all-of (Lo N n none) t (λ j. inl small)) (all-of (Hi N n none) t (λ j. inl small)))
       (and-both (eq-eqb (top t) (S .root) (sym (w .root-is))) (eq-eqb (size t) n (w .size-is)))))

@@ -7,3 +7,4 @@ pub mod Decoded
 pub mod Sound
 pub mod Complete
 pub mod Taken
+pub mod Cases

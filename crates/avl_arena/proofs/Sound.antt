@@ -19,7 +19,7 @@ use Rattle.avl_arena.specs.Test.{partOf, partNames, places, every, insid
 use Rattle.avl_arena.specs.HeldTree.{Before, Places, HeldTree}
 use Rattle.avl_arena.proofs.Tested.{and-l, and-r, each-inside}
 use Rattle.avl_arena.proofs.Parts.{places-of}
-use Rattle.avl_arena.proofs.ByName.{before-trans, before-never, less-is}
+use Rattle.avl_arena.proofs.ByName.{Lo, Hi, before-trans, before-never, less-is}
 use Rattle.avl_arena.proofs.Decoded.{part-named, part-whole, decoded-below}
 
 or-not : (a b : Bool) → (a || b) ≡ true → (a ≡ true) ⊎ (b ≡ true)
@@ -27,13 +27,6 @@ or-not true b e = inl refl
 or-not false b e = inr e
 
 module _ (S : Lists) (N : Names) (n : ℕ) where
-  -- i stands between two bounds, which are nodes or none
-  abbrev Lo : ℕ → ℕ → Type 0
-  Lo lo i = (n ≤ lo) ⊎ Before N lo i
-
-  abbrev Hi : ℕ → ℕ → Type 0
-  Hi hi i = (n ≤ hi) ⊎ Before N i hi
-
   bound-of : (b i j : ℕ) → (leb n b || isLess (byName N i j)) ≡ true → (n ≤ b) ⊎ Before N i j
   bound-of b i j e = go (or-not (leb n b) (isLess (byName N i j)) e)
     where
@@ -41,7 +34,7 @@ module _ (S : Lists) (N : Names) (n : ℕ) where
       go (inl h) = inl (leb-true n b h)
       go (inr h) = inr (less-is (byName N i j) h)
 
-  between-of : (lo hi i : ℕ) → between N n lo hi i ≡ true → Lo lo i × Hi hi i
+  between-of : (lo hi i : ℕ) → between N n lo hi i ≡ true → Lo N n lo i × Hi N n hi i
   unfolding between
   between-of lo hi i e =
       (bound-of lo lo i (and-l (leb n lo || isLess (byName N lo i)) _ e), bound-of hi i hi (and-r (leb n lo || isLess (byName N lo i)) _ e))
@@ -69,19 +62,19 @@ module _ (S : Lists) (N : Names) (n : ℕ) where
     rep : Rep (arrOf S) n up t
     avl : Avl t
     ordered : Ordered (Before N) t
-    low : All (Lo lo) t
-    high : All (Hi hi) t
+    low : All (Lo N n lo) t
+    high : All (Hi N n hi) t
 
   -- a bound that is a node bounds what its own bound bounds
   strict : {X : Type 0} {i : ℕ} → i < n → (n ≤ i) ⊎ X → X
   strict f (inl h) = absurd (omega arith)
   strict f (inr h) = h
 
-  low-more : (lo i j : ℕ) → Lo lo i → Before N i j → Lo lo j
+  low-more : (lo i j : ℕ) → Lo N n lo i → Before N i j → Lo N n lo j
   low-more lo i j (inl h) k = inl h
   low-more lo i j (inr h) k = inr (before-trans N lo i j h k)
 
-  high-more : (hi i j : ℕ) → Hi hi i → Before N j i → Hi hi j
+  high-more : (hi i j : ℕ) → Hi N n hi i → Before N j i → Hi N n hi j
   high-more hi i j (inl h) k = inl h
   high-more hi i j (inr h) k = inr (before-trans N j i hi k h)
 
@@ -90,14 +83,14 @@ module _ (S : Lists) (N : Names) (n : ℕ) where
   right-node lo hi up l i r f b c p q =
       let w = between-of lo hi i b in
       let d = cell-of up l i r f c in
-      let before : All (λ j. Before N j i) l = all-map (Hi i) (λ j. Before N j i) l (λ j x. strict f x) (p .high) in
-      let after : All (λ j. Before N i j) r = all-map (Lo i) (λ j. Before N i j) r (λ j x. strict f x) (q .low) in
+      let before : All (λ j. Before N j i) l = all-map (Hi N n i) (λ j. Before N j i) l (λ j x. strict f x) (p .high) in
+      let after : All (λ j. Before N i j) r = all-map (Lo N n i) (λ j. Before N i j) r (λ j x. strict f x) (q .low) in
       record {
         rep = (d .0, p .rep, q .rep);
         avl = (d .1 .0, d .1 .1, p .avl, q .avl);
         ordered = (before, after, p .ordered, q .ordered);
-        low = (w .0, p .low, all-map (λ j. Before N i j) (Lo lo) r (λ j x. low-more lo i j (w .0) x) after);
-        high = (w .1, all-map (λ j. Before N j i) (Hi hi) l (λ j x. high-more hi i j (w .1) x) before, q .high);
+        low = (w .0, p .low, all-map (λ j. Before N i j) (Lo N n lo) r (λ j x. low-more lo i j (w .0) x) after);
+        high = (w .1, all-map (λ j. Before N j i) (Hi N n hi) l (λ j x. high-more hi i j (w .1) x) before, q .high);
       }
 
   right : (lo hi up : ℕ) (t : Tree) → All (λ j. j < n) t → okTree S N n lo hi up t ≡ true → Right lo hi up t

@@ -3,7 +3,7 @@ use Prim.Native.Nat.{ℕ, suc, _+_, _≤_, _<_, max}
 use native.Mathlib.Omega.{arith}
 use native.Mathlib.Decide.{decLt}
 use mathlib.Core.Path.{_≡_, refl, sym, ap, subst, _∙_}
-use mathlib.Core.List.{List}
+use mathlib.Core.Bool.{true}
 use lib.ListN.{length, getD, take}
 use lib.Seq.{getD-take, length-take-le}
 use Rattle.avl_model.specs.Lists.{Lists, lists}
@@ -14,8 +14,9 @@ use Rattle.avl_model.specs.Held.{Long, arrOf, Held, Arena}
 use Rattle.avl_model.specs.Laws.{All, size}
 use Rattle.avl_model.specs.Order.{Listed}
 use Rattle.avl_model.proofs.Counted.{all-below, rep-below}
-use Rattle.avl_arena.specs.Test.{partOf}
+use Rattle.avl_arena.specs.Test.{partOf, decoded, holdsTree}
 use Rattle.avl_arena.specs.HeldTree.{Places, HeldTree}
+use Rattle.avl_arena.proofs.Sound.{sound}
 use Rattle.avl_arena.proofs.Complete.{links-part, held-low}
 
 -- a tree that the columns hold stands in their first m places
@@ -84,3 +85,11 @@ module _ (S : Lists) (N : Names) (n : ℕ) (t : Tree) (w : HeldTree S N n t) whe
         low = held-low S N n small t w;
         room = omega (arith, w .size-is);
       }
+
+-- what passed the test is what insertion takes, with the tree that the links hold
+pub passed : (S : Lists) (N : Names) (n : ℕ) → holdsTree S N n ≡ true → Places S N (n + 1) → n + 1 ≤ 65535 → Arena (partOf (n + 1) S) n
+passed S N n e = arena-of S N n (decoded S n) (sound S N n e)
+
+pub passed-tree : (S : Lists) (N : Names) (n : ℕ) (e : holdsTree S N n ≡ true) (room : Places S N (n + 1)) (small : n + 1 ≤ 65535) → passed S N n e room small .t ≡ decoded S n
+unfolding passed
+passed-tree S N n e room small = arena-tree S N n (decoded S n) (sound S N n e) room small

@@ -9,7 +9,6 @@ ghost use Rattle.avl_model.specs.Names.{names, nameAt, byName, isLess};
 ghost use Rattle.avl_model.specs.Seek.{treeAt};
 ghost use Rattle.avl_arena.specs.Test.{places, every, inside, between, cellOk, okTree, wholeTree, holdsTree};
 ghost use Rattle.avl_arena.specs.Seeing.{Named, Lent, Judged};
-
 use layout_name::Order;
 use layout_name::compare;
 
@@ -32,33 +31,33 @@ pub struct Gap {
 }
 
 // A node's number as an index.
-fn index(x: u16) -> usize
+fn widen(x: u16) -> usize
     ensures { λ r. ⌜ (r ≡ x) × (r < 65536) ⌝ }
 {
     x as usize
 }
 
 // A place in the names as an index.
-fn wide(x: u32) -> usize
+fn widen_place(x: u32) -> usize
     ensures { λ r. ⌜ (r ≡ x) × (r < 4294967296) ⌝ }
 {
     x as usize
 }
 
 // The larger of two heights.
-fn taller(x: u8, y: u8) -> u8
+fn choose_taller(x: u8, y: u8) -> u8
     ensures { λ r. ⌜ r ≡ max x y ⌝ }
 {
     if x < y { y } else { x }
 }
 
 // The name of the node i.
-fn name_of<'a>(bytes: &'a [u8], start: &[u32], len: &[u32], i: usize) -> &'a [u8]
+fn read_name<'a>(bytes: &'a [u8], start: &[u32], len: &[u32], i: usize) -> &'a [u8]
     requires { ⌜ Named (names (now bytes) (now start) (now len)) × (i < length (now start)) ⌝ }
     ensures { λ r. ⌜ now r ≡ nameAt (names (now (bytes .entry)) (now (start .entry)) (now (len .entry))) i ⌝ }
 {
-    let s = wide(start[i]);
-    let e = s + wide(len[i]);
+    let s = widen_place(start[i]);
+    let e = s + widen_place(len[i]);
     &bytes[s..e]
 }
 
@@ -67,8 +66,8 @@ fn is_less(bytes: &[u8], start: &[u32], len: &[u32], i: usize, j: usize) -> bool
     requires { ⌜ Named (names (now bytes) (now start) (now len)) × (i < length (now start)) × (j < length (now start)) ⌝ }
     ensures { λ r. ⌜ r ≡ isLess (byName (names (now (bytes .entry)) (now (start .entry)) (now (len .entry))) i j) ⌝ }
 {
-    let a = name_of(bytes, start, len, i);
-    let b = name_of(bytes, start, len, j);
+    let a = read_name(bytes, start, len, i);
+    let b = read_name(bytes, start, len, j);
     match compare(a, b) {
         Order::Less => true,
         Order::Equal => false,
@@ -81,7 +80,7 @@ fn is_after(bytes: &[u8], start: &[u32], len: &[u32], lo: u16, i: usize) -> bool
     requires { ⌜ Named (names (now bytes) (now start) (now len)) × (i < length (now start)) ⌝ }
     ensures { λ r. ⌜ r ≡ (leb (length (now (start .entry))) lo || isLess (byName (names (now (bytes .entry)) (now (start .entry)) (now (len .entry))) lo i)) ⌝ }
 {
-    let k = index(lo);
+    let k = widen(lo);
     if start.len() <= k {
         return true;
     }
@@ -93,7 +92,7 @@ fn is_before(bytes: &[u8], start: &[u32], len: &[u32], hi: u16, i: usize) -> boo
     requires { ⌜ Named (names (now bytes) (now start) (now len)) × (i < length (now start)) ⌝ }
     ensures { λ r. ⌜ r ≡ (leb (length (now (start .entry))) hi || isLess (byName (names (now (bytes .entry)) (now (start .entry)) (now (len .entry))) i hi)) ⌝ }
 {
-    let k = index(hi);
+    let k = widen(hi);
     if start.len() <= k {
         return true;
     }
@@ -131,10 +130,13 @@ fn is_cell(
     if right[i] != r.top {
         return false;
     }
-    if parent[i] != up {
+    let p = parent[i];
+    if p != up {
         return false;
     }
-    if height[i] != taller(l.high, r.high) + 1 {
+    let h = height[i];
+    let m = choose_taller(l.high, r.high) + 1;
+    if h != m {
         return false;
     }
     if r.high + 1 < l.high {
@@ -151,13 +153,13 @@ fn join(ok: bool, at: u16, l: Seen, r: Seen) -> Seen
     Seen {
         ok,
         top: at,
-        high: taller(l.high, r.high) + 1,
+        high: choose_taller(l.high, r.high) + 1,
         size: l.size + r.size + 1,
     }
 }
 
 // What is seen where there is no node; or where something is wrong.
-fn none_seen(ok: bool) -> Seen
+fn see_none(ok: bool) -> Seen
     ensures { λ s. ⌜ (s .ok ≡ ok) × (s .top ≡ 65535) × (s .high ≡ 0) × (s .size ≡ 0) ⌝ }
 {
     Seen {
@@ -185,23 +187,31 @@ fn look(
     ensures { λ s. ⌜ Judged s (okTree (lists 0 (now (left .entry)) (now (right .entry)) (now (parent .entry)) (now (height .entry))) (names (now (bytes .entry)) (now (start .entry)) (now (len .entry))) (length (now (left .entry))) (g .lo) (g .hi) (g .up) (treeAt d (now (left .entry)) (now (right .entry)) at)) (treeAt d (now (left .entry)) (now (right .entry)) at) ⌝ }
 {
     if d == 0 {
-        return none_seen(true);
+        return see_none(true);
     }
-    let k = index(at);
+    let k = widen(at);
     if left.len() <= k {
-        return none_seen(true);
+        return see_none(true);
     }
     if !is_between(bytes, start, len, g.lo, g.hi, k) {
-        return none_seen(false);
+        return see_none(false);
     }
     let a = left[k];
-    let h = Gap { lo: g.lo, hi: at, up: at };
+    let h = Gap {
+        lo: g.lo,
+        hi: at,
+        up: at,
+    };
     let l = look(left, right, parent, height, bytes, start, len, h, a, d - 1);
     if !l.ok {
         return l;
     }
     let b = right[k];
-    let j = Gap { lo: at, hi: g.hi, up: at };
+    let j = Gap {
+        lo: at,
+        hi: g.hi,
+        up: at,
+    };
     let r = look(left, right, parent, height, bytes, start, len, j, b, d - 1);
     if !r.ok {
         return r;
@@ -224,7 +234,11 @@ fn is_whole(
     requires { ⌜ Lent (lists 0 (now left) (now right) (now parent) (now height)) (names (now bytes) (now start) (now len)) (length (now left)) ⌝ }
     ensures { λ r. ⌜ r ≡ wholeTree (lists root (now (left .entry)) (now (right .entry)) (now (parent .entry)) (now (height .entry))) (names (now (bytes .entry)) (now (start .entry)) (now (len .entry))) (length (now (left .entry))) ⌝ }
 {
-    let g = Gap { lo: NONE, hi: NONE, up: NONE };
+    let g = Gap {
+        lo: NONE,
+        hi: NONE,
+        up: NONE,
+    };
     let s = look(left, right, parent, height, bytes, start, len, g, root, 22);
     if s.ok {
         if s.top == root {
@@ -241,7 +255,7 @@ fn are_inside(bytes: &[u8], start: &[u32], len: &[u32]) -> bool
 {
     let mut i = 0;
     while i < start.len() {
-        if bytes.len() < wide(start[i]) + wide(len[i]) {
+        if bytes.len() < widen_place(start[i]) + widen_place(len[i]) {
             return false;
         }
         i += 1;
@@ -293,12 +307,21 @@ pub fn is_tree(
 ) -> bool
     ensures { λ r. ⌜ r ≡ holdsTree (lists root (now (left .entry)) (now (right .entry)) (now (parent .entry)) (now (height .entry))) (names (now (bytes .entry)) (now (start .entry)) (now (len .entry))) count ⌝ }
 {
-    let n = index(count);
+    let n = widen(count);
     if have_places(left, right, parent, height, start, len, n) {
         let s = &start[..n];
         let e = &len[..n];
         if are_inside(bytes, s, e) {
-            return is_whole(&left[..n], &right[..n], &parent[..n], &height[..n], bytes, s, e, root);
+            return is_whole(
+                &left[..n],
+                &right[..n],
+                &parent[..n],
+                &height[..n],
+                bytes,
+                s,
+                e,
+                root,
+            );
         }
     }
     false

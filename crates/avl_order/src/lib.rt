@@ -8,17 +8,17 @@ ghost use Rattle.avl_model.specs.Order.{order, Listed};
 ghost use Rattle.avl_order.specs.Held.{heldBy};
 
 // The number that stands for no node.
-pub const NONE: u16 = 65535;
+const NONE: u16 = 65535;
 
 // A node's number as an index.
-fn index(x: u16) -> usize
+fn widen(x: u16) -> usize
     ensures { λ r. ⌜ (r ≡ x) × (r < 65536) ⌝ }
 {
     x as usize
 }
 
 // How many places of the stack a link takes: none where it is to no node.
-fn places(link: u16) -> usize
+fn count_node(link: u16) -> usize
     ensures { λ r. ⌜ (r ≡ heldBy link) × (r ≤ 1) ⌝ }
 {
     if link == NONE { 0 } else { 1 }
@@ -33,19 +33,19 @@ pub fn preorder(left: &[u16], right: &[u16], root: u16, list: &mut [u16])
 {
     let mut stack = [0u16; 23];
     stack[0] = root;
-    let mut held = places(root);
+    let mut held = count_node(root);
     let mut done = 0;
     while 0 < held {
         held -= 1;
         let i = stack[held];
         list[done] = i;
         done += 1;
-        let at = index(i);
+        let at = widen(i);
         let r = right[at];
         stack[held] = r;
-        held += places(r);
+        held += count_node(r);
         let l = left[at];
         stack[held] = l;
-        held += places(l);
+        held += count_node(l);
     }
 }

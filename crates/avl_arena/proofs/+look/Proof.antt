@@ -14,11 +14,11 @@ use borrow.Fn.PlainCycle.{Measures, is, falls, and}
 use Rattle.avl_arena.proofs.look.Reads as look
 use Rattle.avl_arena.proofs.look.Kinds as look-kinds
 use Rattle.avl_arena.proofs.+look.Lts-look as look-lts
-use Rattle.avl_arena.proofs.index.Reads as index-reads
 use Rattle.avl_arena.proofs.is_between.Reads as is-between-reads
 use Rattle.avl_arena.proofs.is_cell.Reads as is-cell-reads
 use Rattle.avl_arena.proofs.join.Reads as join-reads
-use Rattle.avl_arena.proofs.none_seen.Reads as none-seen-reads
+use Rattle.avl_arena.proofs.see_none.Reads as see-none-reads
+use Rattle.avl_arena.proofs.widen.Reads as widen-reads
 use Rattle.avl_arena.proofs.+look.{statement}
 use Rattle.avl_arena.proofs.+look.Tie.{close}
 
@@ -31,11 +31,11 @@ look-at t = and 7 look-kinds.ps (is 7 look-kinds.ps μ-look t) look.Pre
 abbrev look-below : ℕ → In 7 look-kinds.ps
 look-below t = and 7 look-kinds.ps (falls 7 look-kinds.ps _<_ μ-look t) look.Pre
 
-look-none-seen-requires : (t : ℕ) → look-lts.Need-none-seen-requires (
-  none-seen-reads.Asked,
-  none-seen-reads.Learnt,
-  index-reads.Asked,
-  index-reads.Learnt,
+look-see-none-requires : (t : ℕ) → look-lts.Need-see-none-requires (
+  see-none-reads.Asked,
+  see-none-reads.Learnt,
+  widen-reads.Asked,
+  widen-reads.Learnt,
   is-between-reads.Asked,
   is-between-reads.Learnt,
   look-below t,
@@ -45,13 +45,13 @@ look-none-seen-requires : (t : ℕ) → look-lts.Need-none-seen-requires (
   join-reads.Asked,
   join-reads.Learnt,
 ) (look-at t) look.Post
-look-none-seen-requires t c κs = search needs
+look-see-none-requires t c κs = search needs
 
 look-returns : (t : ℕ) → look-lts.Need-returns (
-  none-seen-reads.Asked,
-  none-seen-reads.Learnt,
-  index-reads.Asked,
-  index-reads.Learnt,
+  see-none-reads.Asked,
+  see-none-reads.Learnt,
+  widen-reads.Asked,
+  widen-reads.Learnt,
   is-between-reads.Asked,
   is-between-reads.Learnt,
   look-below t,
@@ -61,13 +61,13 @@ look-returns : (t : ℕ) → look-lts.Need-returns (
   join-reads.Asked,
   join-reads.Learnt,
 ) (look-at t) look.Post
-look-returns t c = seen-zero (lists 0 (c .before .before .before .before .before .before .before .before .before .args .left .now) (c .before .before .before .before .before .before .before .before .before .args .right .now) (c .before .before .before .before .before .before .before .before .before .args .parent .now) (c .before .before .before .before .before .before .before .before .before .args .height .now)) (names (c .before .before .before .before .before .before .before .before .before .args .bytes .now) (c .before .before .before .before .before .before .before .before .before .args .start .now) (c .before .before .before .before .before .before .before .before .before .args .len .now)) (length (c .before .before .before .before .before .before .before .before .before .args .left .now)) (c .before .before .before .before .before .before .before .before .before .args .g .lo) (c .before .before .before .before .before .before .before .before .before .args .g .hi) (c .before .before .before .before .before .before .before .before .before .args .g .up) (c .before .before .before .before .before .before .before .before .before .args .at) (c .before .before .before .before .before .before .before .before .before .args .d) (c .before .if1 .taken) (c .none-seen .ensures)
+look-returns t c = seen-zero (lists 0 (c .before .before .before .before .before .before .before .before .before .args .left .now) (c .before .before .before .before .before .before .before .before .before .args .right .now) (c .before .before .before .before .before .before .before .before .before .args .parent .now) (c .before .before .before .before .before .before .before .before .before .args .height .now)) (names (c .before .before .before .before .before .before .before .before .before .args .bytes .now) (c .before .before .before .before .before .before .before .before .before .args .start .now) (c .before .before .before .before .before .before .before .before .before .args .len .now)) (length (c .before .before .before .before .before .before .before .before .before .args .left .now)) (c .before .before .before .before .before .before .before .before .before .args .g .lo) (c .before .before .before .before .before .before .before .before .before .args .g .hi) (c .before .before .before .before .before .before .before .before .before .args .g .up) (c .before .before .before .before .before .before .before .before .before .args .at) (c .before .before .before .before .before .before .before .before .before .args .d) (c .before .if1 .taken) (c .see-none .ensures)
 
-look-index-requires : (t : ℕ) → look-lts.Need-index-requires (
-  none-seen-reads.Asked,
-  none-seen-reads.Learnt,
-  index-reads.Asked,
-  index-reads.Learnt,
+look-widen-requires : (t : ℕ) → look-lts.Need-widen-requires (
+  see-none-reads.Asked,
+  see-none-reads.Learnt,
+  widen-reads.Asked,
+  widen-reads.Learnt,
   is-between-reads.Asked,
   is-between-reads.Learnt,
   look-below t,
@@ -77,13 +77,13 @@ look-index-requires : (t : ℕ) → look-lts.Need-index-requires (
   join-reads.Asked,
   join-reads.Learnt,
 ) (look-at t) look.Post
-look-index-requires t c κs = search needs
+look-widen-requires t c κs = search needs
 
-look-none-seen-requires-2 : (t : ℕ) → look-lts.Need-none-seen-requires-2 (
-  none-seen-reads.Asked,
-  none-seen-reads.Learnt,
-  index-reads.Asked,
-  index-reads.Learnt,
+look-see-none-requires-2 : (t : ℕ) → look-lts.Need-see-none-requires-2 (
+  see-none-reads.Asked,
+  see-none-reads.Learnt,
+  widen-reads.Asked,
+  widen-reads.Learnt,
   is-between-reads.Asked,
   is-between-reads.Learnt,
   look-below t,
@@ -93,13 +93,13 @@ look-none-seen-requires-2 : (t : ℕ) → look-lts.Need-none-seen-requires-2 (
   join-reads.Asked,
   join-reads.Learnt,
 ) (look-at t) look.Post
-look-none-seen-requires-2 t c κs = search needs
+look-see-none-requires-2 t c κs = search needs
 
 look-returns-2 : (t : ℕ) → look-lts.Need-returns-2 (
-  none-seen-reads.Asked,
-  none-seen-reads.Learnt,
-  index-reads.Asked,
-  index-reads.Learnt,
+  see-none-reads.Asked,
+  see-none-reads.Learnt,
+  widen-reads.Asked,
+  widen-reads.Learnt,
   is-between-reads.Asked,
   is-between-reads.Learnt,
   look-below t,
@@ -109,13 +109,13 @@ look-returns-2 : (t : ℕ) → look-lts.Need-returns-2 (
   join-reads.Asked,
   join-reads.Learnt,
 ) (look-at t) look.Post
-look-returns-2 t c = seen-out (lists 0 (c .before .before .before .before .before .before .before .before .before .before .before .args .left .now) (c .before .before .before .before .before .before .before .before .before .before .before .args .right .now) (c .before .before .before .before .before .before .before .before .before .before .before .args .parent .now) (c .before .before .before .before .before .before .before .before .before .before .before .args .height .now)) (names (c .before .before .before .before .before .before .before .before .before .before .before .args .bytes .now) (c .before .before .before .before .before .before .before .before .before .before .before .args .start .now) (c .before .before .before .before .before .before .before .before .before .before .before .args .len .now)) (length (c .before .before .before .before .before .before .before .before .before .before .before .args .left .now)) (c .before .before .before .before .before .before .before .before .before .before .before .args .g .lo) (c .before .before .before .before .before .before .before .before .before .before .before .args .g .hi) (c .before .before .before .before .before .before .before .before .before .before .before .args .g .up) (c .before .before .before .before .before .before .before .before .before .before .before .args .at) (c .before .before .before .before .before .before .before .before .before .before .before .args .d) (c .before .before .index .result) (c .before .before .index .ensures) (c .before .if2 .taken) (c .none-seen2 .ensures)
+look-returns-2 t c = seen-out (lists 0 (c .before .before .before .before .before .before .before .before .before .before .before .args .left .now) (c .before .before .before .before .before .before .before .before .before .before .before .args .right .now) (c .before .before .before .before .before .before .before .before .before .before .before .args .parent .now) (c .before .before .before .before .before .before .before .before .before .before .before .args .height .now)) (names (c .before .before .before .before .before .before .before .before .before .before .before .args .bytes .now) (c .before .before .before .before .before .before .before .before .before .before .before .args .start .now) (c .before .before .before .before .before .before .before .before .before .before .before .args .len .now)) (length (c .before .before .before .before .before .before .before .before .before .before .before .args .left .now)) (c .before .before .before .before .before .before .before .before .before .before .before .args .g .lo) (c .before .before .before .before .before .before .before .before .before .before .before .args .g .hi) (c .before .before .before .before .before .before .before .before .before .before .before .args .g .up) (c .before .before .before .before .before .before .before .before .before .before .before .args .at) (c .before .before .before .before .before .before .before .before .before .before .before .args .d) (c .before .before .widen .result) (c .before .before .widen .ensures) (c .before .if2 .taken) (c .see-none2 .ensures)
 
 look-is-between-requires : (t : ℕ) → look-lts.Need-is-between-requires (
-  none-seen-reads.Asked,
-  none-seen-reads.Learnt,
-  index-reads.Asked,
-  index-reads.Learnt,
+  see-none-reads.Asked,
+  see-none-reads.Learnt,
+  widen-reads.Asked,
+  widen-reads.Learnt,
   is-between-reads.Asked,
   is-between-reads.Learnt,
   look-below t,
@@ -127,11 +127,11 @@ look-is-between-requires : (t : ℕ) → look-lts.Need-is-between-requires (
 ) (look-at t) look.Post
 look-is-between-requires t c κs = (c .before .before .before .before .before .before .before .before .before .before .pre .1 .0 .named, omega (arith, c .if2 .left, c .before .before .before .before .before .before .before .before .before .before .pre .1 .0 .starts))
 
-look-none-seen-requires-3 : (t : ℕ) → look-lts.Need-none-seen-requires-3 (
-  none-seen-reads.Asked,
-  none-seen-reads.Learnt,
-  index-reads.Asked,
-  index-reads.Learnt,
+look-see-none-requires-3 : (t : ℕ) → look-lts.Need-see-none-requires-3 (
+  see-none-reads.Asked,
+  see-none-reads.Learnt,
+  widen-reads.Asked,
+  widen-reads.Learnt,
   is-between-reads.Asked,
   is-between-reads.Learnt,
   look-below t,
@@ -141,13 +141,13 @@ look-none-seen-requires-3 : (t : ℕ) → look-lts.Need-none-seen-requires-3 (
   join-reads.Asked,
   join-reads.Learnt,
 ) (look-at t) look.Post
-look-none-seen-requires-3 t c κs = search needs
+look-see-none-requires-3 t c κs = search needs
 
 look-returns-3 : (t : ℕ) → look-lts.Need-returns-3 (
-  none-seen-reads.Asked,
-  none-seen-reads.Learnt,
-  index-reads.Asked,
-  index-reads.Learnt,
+  see-none-reads.Asked,
+  see-none-reads.Learnt,
+  widen-reads.Asked,
+  widen-reads.Learnt,
   is-between-reads.Asked,
   is-between-reads.Learnt,
   look-below t,
@@ -157,13 +157,13 @@ look-returns-3 : (t : ℕ) → look-lts.Need-returns-3 (
   join-reads.Asked,
   join-reads.Learnt,
 ) (look-at t) look.Post
-look-returns-3 t c = not-between (lists 0 (c .before .before .before .before .before .before .before .before .before .before .before .before .before .args .left .now) (c .before .before .before .before .before .before .before .before .before .before .before .before .before .args .right .now) (c .before .before .before .before .before .before .before .before .before .before .before .before .before .args .parent .now) (c .before .before .before .before .before .before .before .before .before .before .before .before .before .args .height .now)) (names (c .before .before .before .before .before .before .before .before .before .before .before .before .before .args .bytes .now) (c .before .before .before .before .before .before .before .before .before .before .before .before .before .args .start .now) (c .before .before .before .before .before .before .before .before .before .before .before .before .before .args .len .now)) (length (c .before .before .before .before .before .before .before .before .before .before .before .before .before .args .left .now)) (c .before .before .before .before .before .before .before .before .before .before .before .before .before .args .g .lo) (c .before .before .before .before .before .before .before .before .before .before .before .before .before .args .g .hi) (c .before .before .before .before .before .before .before .before .before .before .before .before .before .args .g .up) (c .before .before .before .before .before .before .before .before .before .before .before .before .before .args .at) (c .before .before .before .before .before .before .before .before .before .before .before .before .before .args .d) (c .before .before .before .before .before .if1 .left) (c .before .before .before .before .index .result) (c .before .before .before .before .index .ensures) (c .before .before .before .if2 .left) (length (c .before .before .before .before .before .before .before .before .before .before .before .before .before .args .start .now)) (c .before .before .before .before .before .before .before .before .before .before .before .before .before .pre .1 .0 .starts) (c .before .before .is-between .ensures) (not-true (c .before .before .is-between .result) (c .before .if3 .taken)) (c .none-seen3 .ensures)
+look-returns-3 t c = not-between (lists 0 (c .before .before .before .before .before .before .before .before .before .before .before .before .before .args .left .now) (c .before .before .before .before .before .before .before .before .before .before .before .before .before .args .right .now) (c .before .before .before .before .before .before .before .before .before .before .before .before .before .args .parent .now) (c .before .before .before .before .before .before .before .before .before .before .before .before .before .args .height .now)) (names (c .before .before .before .before .before .before .before .before .before .before .before .before .before .args .bytes .now) (c .before .before .before .before .before .before .before .before .before .before .before .before .before .args .start .now) (c .before .before .before .before .before .before .before .before .before .before .before .before .before .args .len .now)) (length (c .before .before .before .before .before .before .before .before .before .before .before .before .before .args .left .now)) (c .before .before .before .before .before .before .before .before .before .before .before .before .before .args .g .lo) (c .before .before .before .before .before .before .before .before .before .before .before .before .before .args .g .hi) (c .before .before .before .before .before .before .before .before .before .before .before .before .before .args .g .up) (c .before .before .before .before .before .before .before .before .before .before .before .before .before .args .at) (c .before .before .before .before .before .before .before .before .before .before .before .before .before .args .d) (c .before .before .before .before .before .if1 .left) (c .before .before .before .before .widen .result) (c .before .before .before .before .widen .ensures) (c .before .before .before .if2 .left) (length (c .before .before .before .before .before .before .before .before .before .before .before .before .before .args .start .now)) (c .before .before .before .before .before .before .before .before .before .before .before .before .before .pre .1 .0 .starts) (c .before .before .is-between .ensures) (not-true (c .before .before .is-between .result) (c .before .if3 .taken)) (c .see-none3 .ensures)
 
 look-mul-a : (t : ℕ) → look-lts.Need-mul-a (
-  none-seen-reads.Asked,
-  none-seen-reads.Learnt,
-  index-reads.Asked,
-  index-reads.Learnt,
+  see-none-reads.Asked,
+  see-none-reads.Learnt,
+  widen-reads.Asked,
+  widen-reads.Learnt,
   is-between-reads.Asked,
   is-between-reads.Learnt,
   look-below t,
@@ -176,10 +176,10 @@ look-mul-a : (t : ℕ) → look-lts.Need-mul-a (
 look-mul-a t c = search needs
 
 look-shared-slice-read-a : (t : ℕ) → look-lts.Need-shared-slice-read-a (
-  none-seen-reads.Asked,
-  none-seen-reads.Learnt,
-  index-reads.Asked,
-  index-reads.Learnt,
+  see-none-reads.Asked,
+  see-none-reads.Learnt,
+  widen-reads.Asked,
+  widen-reads.Learnt,
   is-between-reads.Asked,
   is-between-reads.Learnt,
   look-below t,
@@ -192,10 +192,10 @@ look-shared-slice-read-a : (t : ℕ) → look-lts.Need-shared-slice-read-a (
 look-shared-slice-read-a t c = search needs
 
 look-sub-look : (t : ℕ) → look-lts.Need-sub-look (
-  none-seen-reads.Asked,
-  none-seen-reads.Learnt,
-  index-reads.Asked,
-  index-reads.Learnt,
+  see-none-reads.Asked,
+  see-none-reads.Learnt,
+  widen-reads.Asked,
+  widen-reads.Learnt,
   is-between-reads.Asked,
   is-between-reads.Learnt,
   look-below t,
@@ -208,10 +208,10 @@ look-sub-look : (t : ℕ) → look-lts.Need-sub-look (
 look-sub-look t c = omega (arith, c .before .before .before .before .before .if1 .left)
 
 look-look-requires : (t : ℕ) → look-lts.Need-look-requires (
-  none-seen-reads.Asked,
-  none-seen-reads.Learnt,
-  index-reads.Asked,
-  index-reads.Learnt,
+  see-none-reads.Asked,
+  see-none-reads.Learnt,
+  widen-reads.Asked,
+  widen-reads.Learnt,
   is-between-reads.Asked,
   is-between-reads.Learnt,
   look-below t,
@@ -224,10 +224,10 @@ look-look-requires : (t : ℕ) → look-lts.Need-look-requires (
 look-look-requires t c κs = (omega (arith, c .before .before .before .before .before .before .before .before .before .before .before .before .before .pre .0, c .before .before .before .before .before .if1 .left), (c .before .before .before .before .before .before .before .before .before .before .before .before .before .pre .1 .0, omega (arith, c .before .before .before .before .before .before .before .before .before .before .before .before .before .pre .1 .1)))
 
 look-returns-4 : (t : ℕ) → look-lts.Need-returns-4 (
-  none-seen-reads.Asked,
-  none-seen-reads.Learnt,
-  index-reads.Asked,
-  index-reads.Learnt,
+  see-none-reads.Asked,
+  see-none-reads.Learnt,
+  widen-reads.Asked,
+  widen-reads.Learnt,
   is-between-reads.Asked,
   is-between-reads.Learnt,
   look-below t,
@@ -237,13 +237,13 @@ look-returns-4 : (t : ℕ) → look-lts.Need-returns-4 (
   join-reads.Asked,
   join-reads.Learnt,
 ) (look-at t) look.Post
-look-returns-4 t c = not-left (lists 0 (c .before .before .before .before .before .before .before .before .before .before .before .before .before .before .before .before .args .left .now) (c .before .before .before .before .before .before .before .before .before .before .before .before .before .before .before .before .args .right .now) (c .before .before .before .before .before .before .before .before .before .before .before .before .before .before .before .before .args .parent .now) (c .before .before .before .before .before .before .before .before .before .before .before .before .before .before .before .before .args .height .now)) (names (c .before .before .before .before .before .before .before .before .before .before .before .before .before .before .before .before .args .bytes .now) (c .before .before .before .before .before .before .before .before .before .before .before .before .before .before .before .before .args .start .now) (c .before .before .before .before .before .before .before .before .before .before .before .before .before .before .before .before .args .len .now)) (length (c .before .before .before .before .before .before .before .before .before .before .before .before .before .before .before .before .args .left .now)) (c .before .before .before .before .before .before .before .before .before .before .before .before .before .before .before .before .args .g .lo) (c .before .before .before .before .before .before .before .before .before .before .before .before .before .before .before .before .args .g .hi) (c .before .before .before .before .before .before .before .before .before .before .before .before .before .before .before .before .args .g .up) (c .before .before .before .before .before .before .before .before .before .before .before .before .before .before .before .before .args .at) (c .before .before .before .before .before .before .before .before .before .before .before .before .before .before .before .before .args .d) (c .before .before .before .before .before .before .before .before .if1 .left) (c .before .before .before .before .before .before .before .index .result) (c .before .before .before .before .before .before .before .index .ensures) (c .before .before .before .before .before .before .if2 .left) (c .before .before .look .ensures) (not-true (c .before .before .look .result .ok) (c .if4 .taken))
+look-returns-4 t c = not-left (lists 0 (c .before .before .before .before .before .before .before .before .before .before .before .before .before .before .before .before .args .left .now) (c .before .before .before .before .before .before .before .before .before .before .before .before .before .before .before .before .args .right .now) (c .before .before .before .before .before .before .before .before .before .before .before .before .before .before .before .before .args .parent .now) (c .before .before .before .before .before .before .before .before .before .before .before .before .before .before .before .before .args .height .now)) (names (c .before .before .before .before .before .before .before .before .before .before .before .before .before .before .before .before .args .bytes .now) (c .before .before .before .before .before .before .before .before .before .before .before .before .before .before .before .before .args .start .now) (c .before .before .before .before .before .before .before .before .before .before .before .before .before .before .before .before .args .len .now)) (length (c .before .before .before .before .before .before .before .before .before .before .before .before .before .before .before .before .args .left .now)) (c .before .before .before .before .before .before .before .before .before .before .before .before .before .before .before .before .args .g .lo) (c .before .before .before .before .before .before .before .before .before .before .before .before .before .before .before .before .args .g .hi) (c .before .before .before .before .before .before .before .before .before .before .before .before .before .before .before .before .args .g .up) (c .before .before .before .before .before .before .before .before .before .before .before .before .before .before .before .before .args .at) (c .before .before .before .before .before .before .before .before .before .before .before .before .before .before .before .before .args .d) (c .before .before .before .before .before .before .before .before .if1 .left) (c .before .before .before .before .before .before .before .widen .result) (c .before .before .before .before .before .before .before .widen .ensures) (c .before .before .before .before .before .before .if2 .left) (c .before .before .look .ensures) (not-true (c .before .before .look .result .ok) (c .if4 .taken))
 
 look-mul-b : (t : ℕ) → look-lts.Need-mul-b (
-  none-seen-reads.Asked,
-  none-seen-reads.Learnt,
-  index-reads.Asked,
-  index-reads.Learnt,
+  see-none-reads.Asked,
+  see-none-reads.Learnt,
+  widen-reads.Asked,
+  widen-reads.Learnt,
   is-between-reads.Asked,
   is-between-reads.Learnt,
   look-below t,
@@ -256,10 +256,10 @@ look-mul-b : (t : ℕ) → look-lts.Need-mul-b (
 look-mul-b t c = search needs
 
 look-shared-slice-read-b : (t : ℕ) → look-lts.Need-shared-slice-read-b (
-  none-seen-reads.Asked,
-  none-seen-reads.Learnt,
-  index-reads.Asked,
-  index-reads.Learnt,
+  see-none-reads.Asked,
+  see-none-reads.Learnt,
+  widen-reads.Asked,
+  widen-reads.Learnt,
   is-between-reads.Asked,
   is-between-reads.Learnt,
   look-below t,
@@ -272,10 +272,10 @@ look-shared-slice-read-b : (t : ℕ) → look-lts.Need-shared-slice-read-b (
 look-shared-slice-read-b t c = omega (arith, c .before .before .before .before .before .before .before .if2 .left, c .before .before .before .before .before .before .before .before .before .before .before .before .before .before .before .before .before .pre .1 .0 .long .r)
 
 look-sub-look-2 : (t : ℕ) → look-lts.Need-sub-look-2 (
-  none-seen-reads.Asked,
-  none-seen-reads.Learnt,
-  index-reads.Asked,
-  index-reads.Learnt,
+  see-none-reads.Asked,
+  see-none-reads.Learnt,
+  widen-reads.Asked,
+  widen-reads.Learnt,
   is-between-reads.Asked,
   is-between-reads.Learnt,
   look-below t,
@@ -288,10 +288,10 @@ look-sub-look-2 : (t : ℕ) → look-lts.Need-sub-look-2 (
 look-sub-look-2 t c = omega (arith, c .before .before .before .before .before .before .before .before .before .if1 .left)
 
 look-look-requires-2 : (t : ℕ) → look-lts.Need-look-requires-2 (
-  none-seen-reads.Asked,
-  none-seen-reads.Learnt,
-  index-reads.Asked,
-  index-reads.Learnt,
+  see-none-reads.Asked,
+  see-none-reads.Learnt,
+  widen-reads.Asked,
+  widen-reads.Learnt,
   is-between-reads.Asked,
   is-between-reads.Learnt,
   look-below t,
@@ -304,10 +304,10 @@ look-look-requires-2 : (t : ℕ) → look-lts.Need-look-requires-2 (
 look-look-requires-2 t c κs = (omega (arith, c .before .before .before .before .before .before .before .before .before .before .before .before .before .before .before .before .before .pre .0, c .before .before .before .before .before .before .before .before .before .if1 .left), (c .before .before .before .before .before .before .before .before .before .before .before .before .before .before .before .before .before .pre .1 .0, omega (arith, c .before .before .before .before .before .before .before .before .before .before .before .before .before .before .before .before .before .pre .1 .1)))
 
 look-returns-5 : (t : ℕ) → look-lts.Need-returns-5 (
-  none-seen-reads.Asked,
-  none-seen-reads.Learnt,
-  index-reads.Asked,
-  index-reads.Learnt,
+  see-none-reads.Asked,
+  see-none-reads.Learnt,
+  widen-reads.Asked,
+  widen-reads.Learnt,
   is-between-reads.Asked,
   is-between-reads.Learnt,
   look-below t,
@@ -317,13 +317,13 @@ look-returns-5 : (t : ℕ) → look-lts.Need-returns-5 (
   join-reads.Asked,
   join-reads.Learnt,
 ) (look-at t) look.Post
-look-returns-5 t c = not-right (lists 0 (c .before .before .before .before .before .before .before .before .before .before .before .before .before .before .before .before .before .before .before .before .args .left .now) (c .before .before .before .before .before .before .before .before .before .before .before .before .before .before .before .before .before .before .before .before .args .right .now) (c .before .before .before .before .before .before .before .before .before .before .before .before .before .before .before .before .before .before .before .before .args .parent .now) (c .before .before .before .before .before .before .before .before .before .before .before .before .before .before .before .before .before .before .before .before .args .height .now)) (names (c .before .before .before .before .before .before .before .before .before .before .before .before .before .before .before .before .before .before .before .before .args .bytes .now) (c .before .before .before .before .before .before .before .before .before .before .before .before .before .before .before .before .before .before .before .before .args .start .now) (c .before .before .before .before .before .before .before .before .before .before .before .before .before .before .before .before .before .before .before .before .args .len .now)) (length (c .before .before .before .before .before .before .before .before .before .before .before .before .before .before .before .before .before .before .before .before .args .left .now)) (c .before .before .before .before .before .before .before .before .before .before .before .before .before .before .before .before .before .before .before .before .args .g .lo) (c .before .before .before .before .before .before .before .before .before .before .before .before .before .before .before .before .before .before .before .before .args .g .hi) (c .before .before .before .before .before .before .before .before .before .before .before .before .before .before .before .before .before .before .before .before .args .g .up) (c .before .before .before .before .before .before .before .before .before .before .before .before .before .before .before .before .before .before .before .before .args .at) (c .before .before .before .before .before .before .before .before .before .before .before .before .before .before .before .before .before .before .before .before .args .d) (c .before .before .before .before .before .before .before .before .before .before .before .before .if1 .left) (c .before .before .before .before .before .before .before .before .before .before .before .index .result) (c .before .before .before .before .before .before .before .before .before .before .before .index .ensures) (c .before .before .before .before .before .before .before .before .before .before .if2 .left) (c .before .before .look2 .ensures) (not-true (c .before .before .look2 .result .ok) (c .if5 .taken))
+look-returns-5 t c = not-right (lists 0 (c .before .before .before .before .before .before .before .before .before .before .before .before .before .before .before .before .before .before .before .before .args .left .now) (c .before .before .before .before .before .before .before .before .before .before .before .before .before .before .before .before .before .before .before .before .args .right .now) (c .before .before .before .before .before .before .before .before .before .before .before .before .before .before .before .before .before .before .before .before .args .parent .now) (c .before .before .before .before .before .before .before .before .before .before .before .before .before .before .before .before .before .before .before .before .args .height .now)) (names (c .before .before .before .before .before .before .before .before .before .before .before .before .before .before .before .before .before .before .before .before .args .bytes .now) (c .before .before .before .before .before .before .before .before .before .before .before .before .before .before .before .before .before .before .before .before .args .start .now) (c .before .before .before .before .before .before .before .before .before .before .before .before .before .before .before .before .before .before .before .before .args .len .now)) (length (c .before .before .before .before .before .before .before .before .before .before .before .before .before .before .before .before .before .before .before .before .args .left .now)) (c .before .before .before .before .before .before .before .before .before .before .before .before .before .before .before .before .before .before .before .before .args .g .lo) (c .before .before .before .before .before .before .before .before .before .before .before .before .before .before .before .before .before .before .before .before .args .g .hi) (c .before .before .before .before .before .before .before .before .before .before .before .before .before .before .before .before .before .before .before .before .args .g .up) (c .before .before .before .before .before .before .before .before .before .before .before .before .before .before .before .before .before .before .before .before .args .at) (c .before .before .before .before .before .before .before .before .before .before .before .before .before .before .before .before .before .before .before .before .args .d) (c .before .before .before .before .before .before .before .before .before .before .before .before .if1 .left) (c .before .before .before .before .before .before .before .before .before .before .before .widen .result) (c .before .before .before .before .before .before .before .before .before .before .before .widen .ensures) (c .before .before .before .before .before .before .before .before .before .before .if2 .left) (c .before .before .look2 .ensures) (not-true (c .before .before .look2 .result .ok) (c .if5 .taken))
 
 look-is-cell-requires : (t : ℕ) → look-lts.Need-is-cell-requires (
-  none-seen-reads.Asked,
-  none-seen-reads.Learnt,
-  index-reads.Asked,
-  index-reads.Learnt,
+  see-none-reads.Asked,
+  see-none-reads.Learnt,
+  widen-reads.Asked,
+  widen-reads.Learnt,
   is-between-reads.Asked,
   is-between-reads.Learnt,
   look-below t,
@@ -333,13 +333,13 @@ look-is-cell-requires : (t : ℕ) → look-lts.Need-is-cell-requires (
   join-reads.Asked,
   join-reads.Learnt,
 ) (look-at t) look.Post
-look-is-cell-requires t c κs = let h = c .before .before .before .before .before .before .before .before .before .before .if2 .left in let w = c .before .before .before .before .before .before .before .before .before .before .before .before .before .before .before .before .before .before .before .before .pre .1 .0 .long in let l = high-small _ (c .before .before .before .before .before .before .before .before .before .before .before .before .before .before .before .before .before .before .before .before .args .d - 1) (c .before .before .before .before .before .before .before .before .before .before .before .before .before .before .before .before .before .before .before .before .args .left .now) (c .before .before .before .before .before .before .before .before .before .before .before .before .before .before .before .before .before .before .before .before .args .right .now) (getD (c .before .before .before .before .before .before .before .before .before .before .before .before .before .before .before .before .before .before .before .before .args .left .now) (c .before .before .before .before .before .before .before .before .before .before .before .index .result) 0) (c .before .before .before .before .before .before .look .ensures) (not-false (c .before .before .before .before .before .before .look .result .ok) (c .before .before .before .before .if4 .left)) (omega (arith, c .before .before .before .before .before .before .before .before .before .before .before .before .before .before .before .before .before .before .before .before .pre .1 .1)) in let r = high-small _ (c .before .before .before .before .before .before .before .before .before .before .before .before .before .before .before .before .before .before .before .before .args .d - 1) (c .before .before .before .before .before .before .before .before .before .before .before .before .before .before .before .before .before .before .before .before .args .left .now) (c .before .before .before .before .before .before .before .before .before .before .before .before .before .before .before .before .before .before .before .before .args .right .now) (getD (c .before .before .before .before .before .before .before .before .before .before .before .before .before .before .before .before .before .before .before .before .args .right .now) (c .before .before .before .before .before .before .before .before .before .before .before .index .result) 0) (c .before .before .look2 .ensures) (not-false (c .before .before .look2 .result .ok) (c .if5 .left)) (omega (arith, c .before .before .before .before .before .before .before .before .before .before .before .before .before .before .before .before .before .before .before .before .pre .1 .1)) in (h, omega (arith, w .r), omega (arith, w .p), omega (arith, w .h), l .0, r .0)
+look-is-cell-requires t c κs = let h = c .before .before .before .before .before .before .before .before .before .before .if2 .left in let w = c .before .before .before .before .before .before .before .before .before .before .before .before .before .before .before .before .before .before .before .before .pre .1 .0 .long in let l = high-small _ (c .before .before .before .before .before .before .before .before .before .before .before .before .before .before .before .before .before .before .before .before .args .d - 1) (c .before .before .before .before .before .before .before .before .before .before .before .before .before .before .before .before .before .before .before .before .args .left .now) (c .before .before .before .before .before .before .before .before .before .before .before .before .before .before .before .before .before .before .before .before .args .right .now) (getD (c .before .before .before .before .before .before .before .before .before .before .before .before .before .before .before .before .before .before .before .before .args .left .now) (c .before .before .before .before .before .before .before .before .before .before .before .widen .result) 0) (c .before .before .before .before .before .before .look .ensures) (not-false (c .before .before .before .before .before .before .look .result .ok) (c .before .before .before .before .if4 .left)) (omega (arith, c .before .before .before .before .before .before .before .before .before .before .before .before .before .before .before .before .before .before .before .before .pre .1 .1)) in let r = high-small _ (c .before .before .before .before .before .before .before .before .before .before .before .before .before .before .before .before .before .before .before .before .args .d - 1) (c .before .before .before .before .before .before .before .before .before .before .before .before .before .before .before .before .before .before .before .before .args .left .now) (c .before .before .before .before .before .before .before .before .before .before .before .before .before .before .before .before .before .before .before .before .args .right .now) (getD (c .before .before .before .before .before .before .before .before .before .before .before .before .before .before .before .before .before .before .before .before .args .right .now) (c .before .before .before .before .before .before .before .before .before .before .before .widen .result) 0) (c .before .before .look2 .ensures) (not-false (c .before .before .look2 .result .ok) (c .if5 .left)) (omega (arith, c .before .before .before .before .before .before .before .before .before .before .before .before .before .before .before .before .before .before .before .before .pre .1 .1)) in (h, omega (arith, w .r), omega (arith, w .p), omega (arith, w .h), l .0, r .0)
 
 look-join-requires : (t : ℕ) → look-lts.Need-join-requires (
-  none-seen-reads.Asked,
-  none-seen-reads.Learnt,
-  index-reads.Asked,
-  index-reads.Learnt,
+  see-none-reads.Asked,
+  see-none-reads.Learnt,
+  widen-reads.Asked,
+  widen-reads.Learnt,
   is-between-reads.Asked,
   is-between-reads.Learnt,
   look-below t,
@@ -349,13 +349,13 @@ look-join-requires : (t : ℕ) → look-lts.Need-join-requires (
   join-reads.Asked,
   join-reads.Learnt,
 ) (look-at t) look.Post
-look-join-requires t c κs = let l = high-small _ (c .before .before .before .before .before .before .before .before .before .before .before .before .before .before .before .before .before .before .before .before .before .args .d - 1) (c .before .before .before .before .before .before .before .before .before .before .before .before .before .before .before .before .before .before .before .before .before .args .left .now) (c .before .before .before .before .before .before .before .before .before .before .before .before .before .before .before .before .before .before .before .before .before .args .right .now) (getD (c .before .before .before .before .before .before .before .before .before .before .before .before .before .before .before .before .before .before .before .before .before .args .left .now) (c .before .before .before .before .before .before .before .before .before .before .before .before .index .result) 0) (c .before .before .before .before .before .before .before .look .ensures) (not-false (c .before .before .before .before .before .before .before .look .result .ok) (c .before .before .before .before .before .if4 .left)) (omega (arith, c .before .before .before .before .before .before .before .before .before .before .before .before .before .before .before .before .before .before .before .before .before .pre .1 .1)) in let r = high-small _ (c .before .before .before .before .before .before .before .before .before .before .before .before .before .before .before .before .before .before .before .before .before .args .d - 1) (c .before .before .before .before .before .before .before .before .before .before .before .before .before .before .before .before .before .before .before .before .before .args .left .now) (c .before .before .before .before .before .before .before .before .before .before .before .before .before .before .before .before .before .before .before .before .before .args .right .now) (getD (c .before .before .before .before .before .before .before .before .before .before .before .before .before .before .before .before .before .before .before .before .before .args .right .now) (c .before .before .before .before .before .before .before .before .before .before .before .before .index .result) 0) (c .before .before .before .look2 .ensures) (not-false (c .before .before .before .look2 .result .ok) (c .before .if5 .left)) (omega (arith, c .before .before .before .before .before .before .before .before .before .before .before .before .before .before .before .before .before .before .before .before .before .pre .1 .1)) in (l .0, r .0, l .1, r .1)
+look-join-requires t c κs = let l = high-small _ (c .before .before .before .before .before .before .before .before .before .before .before .before .before .before .before .before .before .before .before .before .before .args .d - 1) (c .before .before .before .before .before .before .before .before .before .before .before .before .before .before .before .before .before .before .before .before .before .args .left .now) (c .before .before .before .before .before .before .before .before .before .before .before .before .before .before .before .before .before .before .before .before .before .args .right .now) (getD (c .before .before .before .before .before .before .before .before .before .before .before .before .before .before .before .before .before .before .before .before .before .args .left .now) (c .before .before .before .before .before .before .before .before .before .before .before .before .widen .result) 0) (c .before .before .before .before .before .before .before .look .ensures) (not-false (c .before .before .before .before .before .before .before .look .result .ok) (c .before .before .before .before .before .if4 .left)) (omega (arith, c .before .before .before .before .before .before .before .before .before .before .before .before .before .before .before .before .before .before .before .before .before .pre .1 .1)) in let r = high-small _ (c .before .before .before .before .before .before .before .before .before .before .before .before .before .before .before .before .before .before .before .before .before .args .d - 1) (c .before .before .before .before .before .before .before .before .before .before .before .before .before .before .before .before .before .before .before .before .before .args .left .now) (c .before .before .before .before .before .before .before .before .before .before .before .before .before .before .before .before .before .before .before .before .before .args .right .now) (getD (c .before .before .before .before .before .before .before .before .before .before .before .before .before .before .before .before .before .before .before .before .before .args .right .now) (c .before .before .before .before .before .before .before .before .before .before .before .before .widen .result) 0) (c .before .before .before .look2 .ensures) (not-false (c .before .before .before .look2 .result .ok) (c .before .if5 .left)) (omega (arith, c .before .before .before .before .before .before .before .before .before .before .before .before .before .before .before .before .before .before .before .before .before .pre .1 .1)) in (l .0, r .0, l .1, r .1)
 
 look-returns-6 : (t : ℕ) → look-lts.Need-returns-6 (
-  none-seen-reads.Asked,
-  none-seen-reads.Learnt,
-  index-reads.Asked,
-  index-reads.Learnt,
+  see-none-reads.Asked,
+  see-none-reads.Learnt,
+  widen-reads.Asked,
+  widen-reads.Learnt,
   is-between-reads.Asked,
   is-between-reads.Learnt,
   look-below t,
@@ -365,14 +365,14 @@ look-returns-6 : (t : ℕ) → look-lts.Need-returns-6 (
   join-reads.Asked,
   join-reads.Learnt,
 ) (look-at t) look.Post
-look-returns-6 t c = node-seen (lists 0 (c .before .before .before .before .before .before .before .before .before .before .before .before .before .before .before .before .before .before .before .before .before .before .args .left .now) (c .before .before .before .before .before .before .before .before .before .before .before .before .before .before .before .before .before .before .before .before .before .before .args .right .now) (c .before .before .before .before .before .before .before .before .before .before .before .before .before .before .before .before .before .before .before .before .before .before .args .parent .now) (c .before .before .before .before .before .before .before .before .before .before .before .before .before .before .before .before .before .before .before .before .before .before .args .height .now)) (names (c .before .before .before .before .before .before .before .before .before .before .before .before .before .before .before .before .before .before .before .before .before .before .args .bytes .now) (c .before .before .before .before .before .before .before .before .before .before .before .before .before .before .before .before .before .before .before .before .before .before .args .start .now) (c .before .before .before .before .before .before .before .before .before .before .before .before .before .before .before .before .before .before .before .before .before .before .args .len .now)) (length (c .before .before .before .before .before .before .before .before .before .before .before .before .before .before .before .before .before .before .before .before .before .before .args .left .now)) (c .before .before .before .before .before .before .before .before .before .before .before .before .before .before .before .before .before .before .before .before .before .before .args .g .lo) (c .before .before .before .before .before .before .before .before .before .before .before .before .before .before .before .before .before .before .before .before .before .before .args .g .hi) (c .before .before .before .before .before .before .before .before .before .before .before .before .before .before .before .before .before .before .before .before .before .before .args .g .up) (c .before .before .before .before .before .before .before .before .before .before .before .before .before .before .before .before .before .before .before .before .before .before .args .at) (c .before .before .before .before .before .before .before .before .before .before .before .before .before .before .before .before .before .before .before .before .before .before .args .d) (c .before .before .before .before .before .before .before .before .before .before .before .before .before .before .if1 .left) (c .before .before .before .before .before .before .before .before .before .before .before .before .before .index .result) (c .before .before .before .before .before .before .before .before .before .before .before .before .before .index .ensures) (c .before .before .before .before .before .before .before .before .before .before .before .before .if2 .left) (length (c .before .before .before .before .before .before .before .before .before .before .before .before .before .before .before .before .before .before .before .before .before .before .args .start .now)) (c .before .before .before .before .before .before .before .before .before .before .before .before .before .before .before .before .before .before .before .before .before .before .pre .1 .0 .starts) (c .before .before .before .before .before .before .before .before .before .before .before .is-between .ensures) (not-false (c .before .before .before .before .before .before .before .before .before .before .before .is-between .result) (c .before .before .before .before .before .before .before .before .before .before .if3 .left)) (c .before .before .before .before .before .before .before .before .look .ensures) (not-false (c .before .before .before .before .before .before .before .before .look .result .ok) (c .before .before .before .before .before .before .if4 .left)) (c .before .before .before .before .look2 .ensures) (not-false (c .before .before .before .before .look2 .result .ok) (c .before .before .if5 .left)) (c .before .is-cell .ensures) (c .join .ensures)
+look-returns-6 t c = node-seen (lists 0 (c .before .before .before .before .before .before .before .before .before .before .before .before .before .before .before .before .before .before .before .before .before .before .args .left .now) (c .before .before .before .before .before .before .before .before .before .before .before .before .before .before .before .before .before .before .before .before .before .before .args .right .now) (c .before .before .before .before .before .before .before .before .before .before .before .before .before .before .before .before .before .before .before .before .before .before .args .parent .now) (c .before .before .before .before .before .before .before .before .before .before .before .before .before .before .before .before .before .before .before .before .before .before .args .height .now)) (names (c .before .before .before .before .before .before .before .before .before .before .before .before .before .before .before .before .before .before .before .before .before .before .args .bytes .now) (c .before .before .before .before .before .before .before .before .before .before .before .before .before .before .before .before .before .before .before .before .before .before .args .start .now) (c .before .before .before .before .before .before .before .before .before .before .before .before .before .before .before .before .before .before .before .before .before .before .args .len .now)) (length (c .before .before .before .before .before .before .before .before .before .before .before .before .before .before .before .before .before .before .before .before .before .before .args .left .now)) (c .before .before .before .before .before .before .before .before .before .before .before .before .before .before .before .before .before .before .before .before .before .before .args .g .lo) (c .before .before .before .before .before .before .before .before .before .before .before .before .before .before .before .before .before .before .before .before .before .before .args .g .hi) (c .before .before .before .before .before .before .before .before .before .before .before .before .before .before .before .before .before .before .before .before .before .before .args .g .up) (c .before .before .before .before .before .before .before .before .before .before .before .before .before .before .before .before .before .before .before .before .before .before .args .at) (c .before .before .before .before .before .before .before .before .before .before .before .before .before .before .before .before .before .before .before .before .before .before .args .d) (c .before .before .before .before .before .before .before .before .before .before .before .before .before .before .if1 .left) (c .before .before .before .before .before .before .before .before .before .before .before .before .before .widen .result) (c .before .before .before .before .before .before .before .before .before .before .before .before .before .widen .ensures) (c .before .before .before .before .before .before .before .before .before .before .before .before .if2 .left) (length (c .before .before .before .before .before .before .before .before .before .before .before .before .before .before .before .before .before .before .before .before .before .before .args .start .now)) (c .before .before .before .before .before .before .before .before .before .before .before .before .before .before .before .before .before .before .before .before .before .before .pre .1 .0 .starts) (c .before .before .before .before .before .before .before .before .before .before .before .is-between .ensures) (not-false (c .before .before .before .before .before .before .before .before .before .before .before .is-between .result) (c .before .before .before .before .before .before .before .before .before .before .if3 .left)) (c .before .before .before .before .before .before .before .before .look .ensures) (not-false (c .before .before .before .before .before .before .before .before .look .result .ok) (c .before .before .before .before .before .before .if4 .left)) (c .before .before .before .before .look2 .ensures) (not-false (c .before .before .before .before .look2 .result .ok) (c .before .before .if5 .left)) (c .before .is-cell .ensures) (c .join .ensures)
 
 pub +look-spec : {M : Type 1} → statement M
 +look-spec = close μ-look λ t. look-lts.spec (
-  none-seen-reads.Asked,
-  none-seen-reads.Learnt,
-  index-reads.Asked,
-  index-reads.Learnt,
+  see-none-reads.Asked,
+  see-none-reads.Learnt,
+  widen-reads.Asked,
+  widen-reads.Learnt,
   is-between-reads.Asked,
   is-between-reads.Learnt,
   look-below t,
@@ -384,13 +384,13 @@ pub +look-spec : {M : Type 1} → statement M
 )
     (look-at t)
     look.Post
-    (look-none-seen-requires t)
+    (look-see-none-requires t)
     (look-returns t)
-    (look-index-requires t)
-    (look-none-seen-requires-2 t)
+    (look-widen-requires t)
+    (look-see-none-requires-2 t)
     (look-returns-2 t)
     (look-is-between-requires t)
-    (look-none-seen-requires-3 t)
+    (look-see-none-requires-3 t)
     (look-returns-3 t)
     (look-mul-a t)
     (look-shared-slice-read-a t)

@@ -10,9 +10,6 @@ use native.Mathlib.Omega.{arith}
 use mathlib.Core.Path.{_≡_, refl, sym, ap, subst, _∙_}
 use Rattle.avl_arena.proofs.are_inside.Statement.{statement}
 use Rattle.avl_arena.proofs.are_inside.Tie as tie
-use Rattle.avl_arena.proofs.are_inside.Reads as reads
-use Rattle.avl_arena.proofs.are_inside.Lts as lts
-use Rattle.avl_arena.proofs.wide.Reads as wide-reads
 
 abbrev Inv-loop : tie.InvT-loop
 Inv-loop bytes start len i₀ i = (i ≤ length start) × (every (inside (names bytes start len)) i ≡ true)
@@ -23,23 +20,23 @@ abbrev μ-loop : tie.MeasureT-loop
 loop-holds : tie.Need-loop-holds Inv-loop μ-loop
 loop-holds c = search needs
 
-mul-wide : tie.Need-mul-wide Inv-loop μ-loop
-mul-wide c = search needs
+mul-widen-place : tie.Need-mul-widen-place Inv-loop μ-loop
+mul-widen-place c = search needs
 
-shared-slice-read-wide : tie.Need-shared-slice-read-wide Inv-loop μ-loop
-shared-slice-read-wide c = search needs
+shared-slice-read-widen-place : tie.Need-shared-slice-read-widen-place Inv-loop μ-loop
+shared-slice-read-widen-place c = search needs
 
-wide-requires : tie.Need-wide-requires Inv-loop μ-loop
-wide-requires c κs = search needs
+widen-place-requires : tie.Need-widen-place-requires Inv-loop μ-loop
+widen-place-requires c κs = search needs
 
-mul-wide-2 : tie.Need-mul-wide-2 Inv-loop μ-loop
-mul-wide-2 c = search needs
+mul-widen-place-2 : tie.Need-mul-widen-place-2 Inv-loop μ-loop
+mul-widen-place-2 c = search needs
 
-shared-slice-read-wide-2 : tie.Need-shared-slice-read-wide-2 Inv-loop μ-loop
-shared-slice-read-wide-2 c = search needs
+shared-slice-read-widen-place-2 : tie.Need-shared-slice-read-widen-place-2 Inv-loop μ-loop
+shared-slice-read-widen-place-2 c = search needs
 
-wide-requires-2 : tie.Need-wide-requires-2 Inv-loop μ-loop
-wide-requires-2 c κs = search needs
+widen-place-requires-2 : tie.Need-widen-place-requires-2 Inv-loop μ-loop
+widen-place-requires-2 c κs = search needs
 
 add-if1 : tie.Need-add-if1 Inv-loop μ-loop
 add-if1 c = search needs
@@ -66,12 +63,12 @@ are-inside-spec =
     Inv-loop
     μ-loop
     loop-holds
-    mul-wide
-    shared-slice-read-wide
-    wide-requires
-    mul-wide-2
-    shared-slice-read-wide-2
-    wide-requires-2
+    mul-widen-place
+    shared-slice-read-widen-place
+    widen-place-requires
+    mul-widen-place-2
+    shared-slice-read-widen-place-2
+    widen-place-requires-2
     add-if1
     returns
     add-i

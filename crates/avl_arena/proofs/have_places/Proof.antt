@@ -7,8 +7,6 @@ use Rattle.avl_arena.specs.Test.{places}
 use Rattle.avl_arena.proofs.Tested.{places-last}
 use Rattle.avl_arena.proofs.have_places.Statement.{statement}
 use Rattle.avl_arena.proofs.have_places.Tie as tie
-use Rattle.avl_arena.proofs.have_places.Reads as reads
-use Rattle.avl_arena.proofs.have_places.Lts as lts
 
 returns : tie.Need-returns
 unfolding places

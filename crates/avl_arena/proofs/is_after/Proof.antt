@@ -8,13 +8,9 @@ use Rattle.avl_model.specs.Names.{names, byName, isLess}
 use Rattle.avl_arena.proofs.Tested.{no-bound, by-bound}
 use Rattle.avl_arena.proofs.is_after.Statement.{statement}
 use Rattle.avl_arena.proofs.is_after.Tie as tie
-use Rattle.avl_arena.proofs.is_after.Reads as reads
-use Rattle.avl_arena.proofs.is_after.Lts as lts
-use Rattle.avl_arena.proofs.index.Reads as index-reads
-use Rattle.avl_arena.proofs.is_less.Reads as is-less-reads
 
-index-requires : tie.Need-index-requires
-index-requires c κs = search needs
+widen-requires : tie.Need-widen-requires
+widen-requires c κs = search needs
 
 returns : tie.Need-returns
 returns c = search no-bound
@@ -23,7 +19,7 @@ is-less-requires : tie.Need-is-less-requires
 is-less-requires c κs = search needs
 
 returns-2 : tie.Need-returns-2
-returns-2 c = c .is-less .ensures ∙ by-bound (length (c .before .before .before .before .before .before .args .start .now)) (c .before .before .index .result) (c .before .before .before .before .before .before .args .lo) (λ (v : ℕ). isLess (byName (names (c .before .before .before .before .before .before .args .bytes .now) (c .before .before .before .before .before .before .args .start .now) (c .before .before .before .before .before .before .args .len .now)) v (c .before .before .before .before .before .before .args .i))) (c .before .before .index .ensures) (c .before .if1 .left)
+returns-2 c = c .is-less .ensures ∙ by-bound (length (c .before .before .before .before .before .before .args .start .now)) (c .before .before .widen .result) (c .before .before .before .before .before .before .args .lo) (λ (v : ℕ). isLess (byName (names (c .before .before .before .before .before .before .args .bytes .now) (c .before .before .before .before .before .before .args .start .now) (c .before .before .before .before .before .before .args .len .now)) v (c .before .before .before .before .before .before .args .i))) (c .before .before .widen .ensures) (c .before .if1 .left)
 
 pub is-after-spec : {M : Type 1} → statement M
-is-after-spec = tie.close (tie.spec index-requires returns is-less-requires returns-2)
+is-after-spec = tie.close (tie.spec widen-requires returns is-less-requires returns-2)

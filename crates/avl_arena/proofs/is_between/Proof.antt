@@ -6,10 +6,6 @@ use Rattle.avl_arena.specs.Test.{between}
 use Rattle.avl_arena.proofs.Tested.{and-first, and-second}
 use Rattle.avl_arena.proofs.is_between.Statement.{statement}
 use Rattle.avl_arena.proofs.is_between.Tie as tie
-use Rattle.avl_arena.proofs.is_between.Reads as reads
-use Rattle.avl_arena.proofs.is_between.Lts as lts
-use Rattle.avl_arena.proofs.is_after.Reads as is-after-reads
-use Rattle.avl_arena.proofs.is_before.Reads as is-before-reads
 
 is-after-requires : tie.Need-is-after-requires
 is-after-requires c κs = search needs

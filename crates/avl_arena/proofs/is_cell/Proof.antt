@@ -6,9 +6,6 @@ use Rattle.avl_arena.proofs.Tested.{cell-left, cell-right, cell-up, cel
 use Rattle.avl_model.specs.Lists.{lists}
 use Rattle.avl_arena.proofs.is_cell.Statement.{statement}
 use Rattle.avl_arena.proofs.is_cell.Tie as tie
-use Rattle.avl_arena.proofs.is_cell.Reads as reads
-use Rattle.avl_arena.proofs.is_cell.Lts as lts
-use Rattle.avl_arena.proofs.taller.Reads as taller-reads
 
 mul-if1 : tie.Need-mul-if1
 mul-if1 c = search needs
@@ -28,23 +25,23 @@ shared-slice-read-if2 c = search needs
 returns-2 : tie.Need-returns-2
 returns-2 c = search cell-right
 
-mul-if3 : tie.Need-mul-if3
-mul-if3 c = search needs
+mul-p : tie.Need-mul-p
+mul-p c = search needs
 
-shared-slice-read-if3 : tie.Need-shared-slice-read-if3
-shared-slice-read-if3 c = search needs
+shared-slice-read-p : tie.Need-shared-slice-read-p
+shared-slice-read-p c = search needs
 
 returns-3 : tie.Need-returns-3
 returns-3 c = search cell-up
 
-shared-slice-read-if4 : tie.Need-shared-slice-read-if4
-shared-slice-read-if4 c = search needs
+shared-slice-read-h : tie.Need-shared-slice-read-h
+shared-slice-read-h c = search needs
 
-taller-requires : tie.Need-taller-requires
-taller-requires c κs = search needs
+choose-taller-requires : tie.Need-choose-taller-requires
+choose-taller-requires c κs = search needs
 
-add-if4 : tie.Need-add-if4
-add-if4 c = search needs
+add-m : tie.Need-add-m
+add-m c = search needs
 
 returns-4 : tie.Need-returns-4
 returns-4 c = search cell-high
@@ -59,7 +56,7 @@ add-result : tie.Need-add-result
 add-result c = search needs
 
 returns-6 : tie.Need-returns-6
-returns-6 c = let a = c .before .before .before .before .before .before .before .before .before .before .before .before .before .before .before .before .before .before .before .before .args in cell-last (lists 0 (a .left .now) (a .right .now) (a .parent .now) (a .height .now)) (a .i) (a .up) (a .l .top) (a .r .top) (a .l .high) (a .r .high) (c .before .before .before .before .before .before .before .before .before .before .before .before .before .if1 .left) (c .before .before .before .before .before .before .before .before .before .before .if2 .left) (c .before .before .before .before .before .before .before .before .if3 .left) (c .before .before .before .before .before .before .taller .result) (c .before .before .before .before .before .before .taller .ensures) (c .before .before .before .before .before .if4 .left) (c .before .before .if5 .left)
+returns-6 c = let a = c .before .before .before .before .before .before .before .before .before .before .before .before .before .before .before .before .before .before .before .before .args in cell-last (lists 0 (a .left .now) (a .right .now) (a .parent .now) (a .height .now)) (a .i) (a .up) (a .l .top) (a .r .top) (a .l .high) (a .r .high) (c .before .before .before .before .before .before .before .before .before .before .before .before .before .if1 .left) (c .before .before .before .before .before .before .before .before .before .before .if2 .left) (c .before .before .before .before .before .before .before .before .if3 .left) (c .before .before .before .before .before .before .choose-taller .result) (c .before .before .before .before .before .before .choose-taller .ensures) (c .before .before .before .before .before .if4 .left) (c .before .before .if5 .left)
 
 pub is-cell-spec : {M : Type 1} → statement M
 is-cell-spec =
@@ -71,12 +68,12 @@ is-cell-spec =
     mul-if2
     shared-slice-read-if2
     returns-2
-    mul-if3
-    shared-slice-read-if3
+    mul-p
+    shared-slice-read-p
     returns-3
-    shared-slice-read-if4
-    taller-requires
-    add-if4
+    shared-slice-read-h
+    choose-taller-requires
+    add-m
     returns-4
     add-if5
     returns-5

@@ -6,16 +6,12 @@ use Rattle.avl_model.specs.Names.{names}
 use Rattle.avl_arena.proofs.Tested.{by-names}
 use Rattle.avl_arena.proofs.is_less.Statement.{statement}
 use Rattle.avl_arena.proofs.is_less.Tie as tie
-use Rattle.avl_arena.proofs.is_less.Reads as reads
-use Rattle.avl_arena.proofs.is_less.Lts as lts
-use Rattle.avl_arena.proofs.name_of.Reads as name-of-reads
-use Rattle.layout_name.proofs.compare.Reads as compare-reads
 
-name-of-requires : tie.Need-name-of-requires
-name-of-requires c κs = search needs
+read-name-requires : tie.Need-read-name-requires
+read-name-requires c κs = search needs
 
-name-of-requires-2 : tie.Need-name-of-requires-2
-name-of-requires-2 c κs = search needs
+read-name-requires-2 : tie.Need-read-name-requires-2
+read-name-requires-2 c κs = search needs
 
 compare-requires : tie.Need-compare-requires
 compare-requires c κs = search needs
@@ -30,20 +26,20 @@ enum-told-3 : tie.Need-enum-told-3
 enum-told-3 c = search needs
 
 returns : tie.Need-returns
-returns c = by-names (names (c .before .before .before .before .before .before .before .before .args .bytes .now) (c .before .before .before .before .before .before .before .before .args .start .now) (c .before .before .before .before .before .before .before .before .args .len .now)) (c .before .before .before .before .before .before .before .before .args .i) (c .before .before .before .before .before .before .before .before .args .j) (c .before .before .before .before .name-of .ensures) (c .before .before .before .name-of2 .ensures) (c .before .before .compare .ensures) (c .enum-told .given .1)
+returns c = by-names (names (c .before .before .before .before .before .before .before .before .args .bytes .now) (c .before .before .before .before .before .before .before .before .args .start .now) (c .before .before .before .before .before .before .before .before .args .len .now)) (c .before .before .before .before .before .before .before .before .args .i) (c .before .before .before .before .before .before .before .before .args .j) (c .before .before .before .before .read-name .ensures) (c .before .before .before .read-name2 .ensures) (c .before .before .compare .ensures) (c .enum-told .given .1)
 
 returns-2 : tie.Need-returns-2
-returns-2 c = by-names (names (c .before .before .before .before .before .before .before .before .args .bytes .now) (c .before .before .before .before .before .before .before .before .args .start .now) (c .before .before .before .before .before .before .before .before .args .len .now)) (c .before .before .before .before .before .before .before .before .args .i) (c .before .before .before .before .before .before .before .before .args .j) (c .before .before .before .before .name-of .ensures) (c .before .before .before .name-of2 .ensures) (c .before .before .compare .ensures) (c .enum-told2 .given .1)
+returns-2 c = by-names (names (c .before .before .before .before .before .before .before .before .args .bytes .now) (c .before .before .before .before .before .before .before .before .args .start .now) (c .before .before .before .before .before .before .before .before .args .len .now)) (c .before .before .before .before .before .before .before .before .args .i) (c .before .before .before .before .before .before .before .before .args .j) (c .before .before .before .before .read-name .ensures) (c .before .before .before .read-name2 .ensures) (c .before .before .compare .ensures) (c .enum-told2 .given .1)
 
 returns-3 : tie.Need-returns-3
-returns-3 c = by-names (names (c .before .before .before .before .before .before .before .before .args .bytes .now) (c .before .before .before .before .before .before .before .before .args .start .now) (c .before .before .before .before .before .before .before .before .args .len .now)) (c .before .before .before .before .before .before .before .before .args .i) (c .before .before .before .before .before .before .before .before .args .j) (c .before .before .before .before .name-of .ensures) (c .before .before .before .name-of2 .ensures) (c .before .before .compare .ensures) (c .enum-told3 .given .1)
+returns-3 c = by-names (names (c .before .before .before .before .before .before .before .before .args .bytes .now) (c .before .before .before .before .before .before .before .before .args .start .now) (c .before .before .before .before .before .before .before .before .args .len .now)) (c .before .before .before .before .before .before .before .before .args .i) (c .before .before .before .before .before .before .before .before .args .j) (c .before .before .before .before .read-name .ensures) (c .before .before .before .read-name2 .ensures) (c .before .before .compare .ensures) (c .enum-told3 .given .1)
 
 pub is-less-spec : {M : Type 1} → statement M
 is-less-spec =
     tie.close
     (tie.spec
-    name-of-requires
-    name-of-requires-2
+    read-name-requires
+    read-name-requires-2
     compare-requires
     enum-told
     enum-told-2

@@ -5,9 +5,6 @@ use Rattle.avl_model.specs.Names.{names}
 use Rattle.avl_arena.proofs.Looked.{whole-not, whole-root, whole-is}
 use Rattle.avl_arena.proofs.is_whole.Statement.{statement}
 use Rattle.avl_arena.proofs.is_whole.Tie as tie
-use Rattle.avl_arena.proofs.is_whole.Reads as reads
-use Rattle.avl_arena.proofs.is_whole.Lts as lts
-use Rattle.avl_arena.proofs.look.Reads as look-reads
 
 look-requires : tie.Need-look-requires
 look-requires c κs = search needs

@@ -19,11 +19,11 @@ abbrev μ-loop : tie.MeasureT-loop
 array-write-stack : tie.Need-array-write-stack Inv-loop μ-loop
 array-write-stack c = search needs
 
-places-requires : tie.Need-places-requires Inv-loop μ-loop
-places-requires c κs = search needs
+count-node-requires : tie.Need-count-node-requires Inv-loop μ-loop
+count-node-requires c κs = search needs
 
 loop-holds : tie.Need-loop-holds Inv-loop μ-loop
-loop-holds c = (refl, refl, λ w. subst (λ (v : ℕ). Going (c .before .before .before .before .args .left .now) (c .before .before .before .before .args .right .now) (w .t) (c .before .before .before .before .args .list .now) (set (replicate 23 0) 0 (c .before .before .before .before .args .root)) v 0 (c .before .before .before .before .args .list .now)) (sym (c .places .ensures .0)) (start (c .before .before .before .before .args .left .now) (c .before .before .before .before .args .right .now) (c .before .before .before .before .args .list .now) (replicate 23 0) (c .before .before .before .before .args .root) refl w))
+loop-holds c = (refl, refl, λ w. subst (λ (v : ℕ). Going (c .before .before .before .before .args .left .now) (c .before .before .before .before .args .right .now) (w .t) (c .before .before .before .before .args .list .now) (set (replicate 23 0) 0 (c .before .before .before .before .args .root)) v 0 (c .before .before .before .before .args .list .now)) (sym (c .count-node .ensures .0)) (start (c .before .before .before .before .args .left .now) (c .before .before .before .before .args .right .now) (c .before .before .before .before .args .list .now) (replicate 23 0) (c .before .before .before .before .args .root) refl w))
 
 sub-held : tie.Need-sub-held Inv-loop μ-loop
 sub-held c = search needs
@@ -43,8 +43,8 @@ slice-write-list c = let b = bounds (c .before .before .before .before .before .
 add-done : tie.Need-add-done Inv-loop μ-loop
 add-done c = let b = bounds (c .before .before .before .before .before .before .args .left .now) (c .before .before .before .before .before .before .args .right .now) (c .before .before .before .before .before .before .pre) (c .before .loop .inv .2 (c .before .before .before .before .before .before .pre)) (omega arith) in omega (arith)
 
-index-requires : tie.Need-index-requires Inv-loop μ-loop
-index-requires c κs = search needs
+widen-requires : tie.Need-widen-requires Inv-loop μ-loop
+widen-requires c κs = search needs
 
 mul-r : tie.Need-mul-r Inv-loop μ-loop
 mul-r c = search needs
@@ -58,8 +58,8 @@ mul-stack c = let b = bounds (c .before .before .before .before .before .before 
 array-write-stack-2 : tie.Need-array-write-stack-2 Inv-loop μ-loop
 array-write-stack-2 c = let b = bounds (c .before .before .before .before .before .before .before .before .args .left .now) (c .before .before .before .before .before .before .before .before .args .right .now) (c .before .before .before .before .before .before .before .before .pre) (c .before .before .before .loop .inv .2 (c .before .before .before .before .before .before .before .before .pre)) (omega arith) in omega (arith)
 
-places-requires-2 : tie.Need-places-requires-2 Inv-loop μ-loop
-places-requires-2 c κs = search needs
+count-node-requires-2 : tie.Need-count-node-requires-2 Inv-loop μ-loop
+count-node-requires-2 c κs = search needs
 
 add-held : tie.Need-add-held Inv-loop μ-loop
 add-held c = let b = bounds (c .before .before .before .before .before .before .before .before .before .args .left .now) (c .before .before .before .before .before .before .before .before .before .args .right .now) (c .before .before .before .before .before .before .before .before .before .pre) (c .before .before .before .before .loop .inv .2 (c .before .before .before .before .before .before .before .before .before .pre)) (omega arith) in omega (arith)
@@ -71,22 +71,22 @@ shared-slice-read-l : tie.Need-shared-slice-read-l Inv-loop μ-loop
 shared-slice-read-l c = let b = bounds (c .before .before .before .before .before .before .before .before .before .before .args .left .now) (c .before .before .before .before .before .before .before .before .before .before .args .right .now) (c .before .before .before .before .before .before .before .before .before .before .pre) (c .before .before .before .before .before .loop .inv .2 (c .before .before .before .before .before .before .before .before .before .before .pre)) (omega arith) in omega (arith)
 
 mul-stack-2 : tie.Need-mul-stack-2 Inv-loop μ-loop
-mul-stack-2 c = let b = bounds (c .before .before .before .before .before .before .before .before .before .before .args .left .now) (c .before .before .before .before .before .before .before .before .before .before .args .right .now) (c .before .before .before .before .before .before .before .before .before .before .pre) (c .before .before .before .before .before .loop .inv .2 (c .before .before .before .before .before .before .before .before .before .before .pre)) (omega arith) in omega (arith, c .before .places2 .ensures .1)
+mul-stack-2 c = let b = bounds (c .before .before .before .before .before .before .before .before .before .before .args .left .now) (c .before .before .before .before .before .before .before .before .before .before .args .right .now) (c .before .before .before .before .before .before .before .before .before .before .pre) (c .before .before .before .before .before .loop .inv .2 (c .before .before .before .before .before .before .before .before .before .before .pre)) (omega arith) in omega (arith, c .before .count-node2 .ensures .1)
 
 array-write-stack-3 : tie.Need-array-write-stack-3 Inv-loop μ-loop
-array-write-stack-3 c = let b = bounds (c .before .before .before .before .before .before .before .before .before .before .args .left .now) (c .before .before .before .before .before .before .before .before .before .before .args .right .now) (c .before .before .before .before .before .before .before .before .before .before .pre) (c .before .before .before .before .before .loop .inv .2 (c .before .before .before .before .before .before .before .before .before .before .pre)) (omega arith) in omega (arith, c .before .places2 .ensures .1)
+array-write-stack-3 c = let b = bounds (c .before .before .before .before .before .before .before .before .before .before .args .left .now) (c .before .before .before .before .before .before .before .before .before .before .args .right .now) (c .before .before .before .before .before .before .before .before .before .before .pre) (c .before .before .before .before .before .loop .inv .2 (c .before .before .before .before .before .before .before .before .before .before .pre)) (omega arith) in omega (arith, c .before .count-node2 .ensures .1)
 
-places-requires-3 : tie.Need-places-requires-3 Inv-loop μ-loop
-places-requires-3 c κs = search needs
+count-node-requires-3 : tie.Need-count-node-requires-3 Inv-loop μ-loop
+count-node-requires-3 c κs = search needs
 
 add-held-2 : tie.Need-add-held-2 Inv-loop μ-loop
-add-held-2 c = let b = bounds (c .before .before .before .before .before .before .before .before .before .before .before .args .left .now) (c .before .before .before .before .before .before .before .before .before .before .before .args .right .now) (c .before .before .before .before .before .before .before .before .before .before .before .pre) (c .before .before .before .before .before .before .loop .inv .2 (c .before .before .before .before .before .before .before .before .before .before .before .pre)) (omega arith) in omega (arith, c .before .before .places2 .ensures .1)
+add-held-2 c = let b = bounds (c .before .before .before .before .before .before .before .before .before .before .before .args .left .now) (c .before .before .before .before .before .before .before .before .before .before .before .args .right .now) (c .before .before .before .before .before .before .before .before .before .before .before .pre) (c .before .before .before .before .before .before .loop .inv .2 (c .before .before .before .before .before .before .before .before .before .before .before .pre)) (omega arith) in omega (arith, c .before .before .count-node2 .ensures .1)
 
 loop-less : tie.Need-loop-less Inv-loop μ-loop
 loop-less c = let b = bounds (c .before .before .before .before .before .before .before .before .before .before .before .args .left .now) (c .before .before .before .before .before .before .before .before .before .before .before .args .right .now) (c .before .before .before .before .before .before .before .before .before .before .before .pre) (c .before .before .before .before .before .before .loop .inv .2 (c .before .before .before .before .before .before .before .before .before .before .before .pre)) (omega arith) in omega (arith, length-set (c .before .before .before .before .before .before .loop .list) (c .before .before .before .before .before .before .loop .done) (getD (c .before .before .before .before .before .before .loop .stack) (c .before .before .before .before .before .before .loop .held - 1) 0))
 
 loop-again : tie.Need-loop-again Inv-loop μ-loop
-loop-again c = (length-set (c .before .before .before .before .before .before .loop .list) (c .before .before .before .before .before .before .loop .done) (getD (c .before .before .before .before .before .before .loop .stack) (c .before .before .before .before .before .before .loop .held - 1) 0) ∙ c .before .before .before .before .before .before .loop .inv .0, simp length-set (c .before .before .before .before .before .before .loop .inv .1), λ w. again (c .before .before .before .before .before .before .before .before .before .before .before .args .left .now) (c .before .before .before .before .before .before .before .before .before .before .before .args .right .now) w (c .before .before .before .before .before .before .loop .inv .2 w) (omega arith) (c .before .before .before .before .before .before .loop .inv .1) (c .before .before .before .before .index .result) (c .before .before .places2 .result) (c .places3 .result) (c .before .before .before .before .index .ensures .0) (c .before .before .places2 .ensures .0) (c .places3 .ensures .0))
+loop-again c = (length-set (c .before .before .before .before .before .before .loop .list) (c .before .before .before .before .before .before .loop .done) (getD (c .before .before .before .before .before .before .loop .stack) (c .before .before .before .before .before .before .loop .held - 1) 0) ∙ c .before .before .before .before .before .before .loop .inv .0, simp length-set (c .before .before .before .before .before .before .loop .inv .1), λ w. again (c .before .before .before .before .before .before .before .before .before .before .before .args .left .now) (c .before .before .before .before .before .before .before .before .before .before .before .args .right .now) w (c .before .before .before .before .before .before .loop .inv .2 w) (omega arith) (c .before .before .before .before .before .before .loop .inv .1) (c .before .before .before .before .widen .result) (c .before .before .count-node2 .result) (c .count-node3 .result) (c .before .before .before .before .widen .ensures .0) (c .before .before .count-node2 .ensures .0) (c .count-node3 .ensures .0))
 
 same-length : tie.Need-same-length Inv-loop μ-loop
 same-length c = search needs
@@ -101,7 +101,7 @@ preorder-spec =
     Inv-loop
     μ-loop
     array-write-stack
-    places-requires
+    count-node-requires
     loop-holds
     sub-held
     mul-i
@@ -109,18 +109,18 @@ preorder-spec =
     mul-list
     slice-write-list
     add-done
-    index-requires
+    widen-requires
     mul-r
     shared-slice-read-r
     mul-stack
     array-write-stack-2
-    places-requires-2
+    count-node-requires-2
     add-held
     mul-l
     shared-slice-read-l
     mul-stack-2
     array-write-stack-3
-    places-requires-3
+    count-node-requires-3
     add-held-2
     loop-less
     loop-again
