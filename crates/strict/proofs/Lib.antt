@@ -1,0 +1,3 @@
+-- Names, the stack of visits, the map of units.
+pub mod Names
+pub mod Stack
