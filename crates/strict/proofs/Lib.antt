@@ -1,3 +1,5 @@
 -- Names, the stack of visits, the map of units.
 pub mod Names
 pub mod Stack
+pub mod Units
+pub mod Judging

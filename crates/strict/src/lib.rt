@@ -187,3 +187,91 @@ fn push_links(scratch: &mut [u64], top: usize, c: u64, h: Header) -> usize
     let t = push_link(scratch, top, right, 65535 + 65536 * k);
     push_link(scratch, t, left, k + 4294901760)
 }
+
+// The check itself. What it leaves in the list past its count, and in the scratch, is cleared by the caller.
+fn run(w: &[u8], first: Sector, table: Region, list: &mut [u32], scratch: &mut [u64]) -> Checked
+    requires { ⌜ length (now list) < length (now scratch) ⌝ }
+    ensures { λ r. ⌜ Runs (strictFrom (now (w .entry)) (readAt (now (w .entry)) first table) (table .size) (length (now (list .entry))) [] (root ∷ [])) r (now (list .exit)) ⌝ }
+{
+    let mut map = [0u8; 65604];
+    scratch[0] = 281474976645120;
+    let mut top: usize = 1;
+    let mut n: usize = 0;
+    while 0 < top {
+        top -= 1;
+        let c = scratch[top];
+        let l = Link::new((c % 65536) as u16);
+        let o = l.offset();
+        match read_entry::read_at(w, first, table, o) {
+            Read::Entry(h, at) => match judge(w, first, table, &map, list.len() - n, c, h, at) {
+                Verdict::Good => {
+                    list[n] = o.number();
+                    n += 1;
+                    mark_entry(&mut map, l, h);
+                    top = push_links(scratch, top, c, h);
+                }
+                Verdict::Bad(a) => return a,
+            },
+            Read::Nothing => {}
+            Read::OutOfBounds(p) => return Checked::OutOfBounds(p),
+            Read::Truncated(p) => return Checked::Truncated(p),
+        }
+    }
+    Checked::Done(n)
+}
+
+// How many places of the list an answer keeps.
+fn kept(r: Checked) -> usize
+    ensures { λ n. ⌜ n ≡ keptOf r ⌝ }
+{
+    match r {
+        Checked::Done(n) => n,
+        Checked::Room => 0,
+        Checked::OutOfBounds(_) => 0,
+        Checked::Truncated(_) => 0,
+        Checked::WalkFull => 0,
+        Checked::Shared(_) => 0,
+        Checked::OutOfOrder(_) => 0,
+        Checked::BadPlace(_) => 0,
+    }
+}
+
+// All zeros.
+fn clear_all(s: &mut [u64])
+    ensures { λ _. ⌜ now (s .exit) ≡ replicate (length (now (s .entry))) 0 ⌝ }
+{
+    let mut i = 0;
+    while i < s.len() {
+        s[i] = 0;
+        i += 1;
+    }
+}
+
+// The strict check of a table: where it finds no fault, the offsets of its entries in walk order in the list, and zeros past them; else the first fault, and a
+// list of zeros. The scratch is all zero after it. Where the scratch is not longer than the list, all is unchanged.
+pub fn check_table(
+    w: &[u8],
+    first: Sector,
+    table: Region,
+    list: &mut [u32],
+    scratch: &mut [u64],
+) -> Checked
+    ensures { λ r. ⌜ told r ≡ strictAnswer (now (w .entry)) first table (length (now (list .entry))) (length (now (scratch .entry))) ⌝ }
+    ensures { λ _. ⌜ now (list .exit) ≡ listAfter (now (w .entry)) first table (now (list .entry)) (length (now (scratch .entry))) ⌝ }
+    ensures { λ _. ⌜ now (scratch .exit) ≡ scratchAfter (length (now (list .entry))) (now (scratch .entry)) ⌝ }
+{
+    if scratch.len() <= list.len() {
+        return Checked::Room;
+    }
+    let size = table.size;
+    if size == 0 {
+        read_walk::clear_from(list, 0);
+        clear_all(scratch);
+        return Checked::Done(0);
+    }
+    let r = run(w, first, table, list, scratch);
+    let n = kept(r);
+    read_walk::clear_from(list, n);
+    clear_all(scratch);
+    r
+}
