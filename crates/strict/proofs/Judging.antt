@@ -58,6 +58,10 @@ module _ (l : Link) (from : Offset) (is-from : from .0 ≡ 4 * l .0) (o : ℕ) (
       let b : (o + len) / 4 ≡ endOf h (4 * l .0) / 4 = omega arith in
       subst (λ (t : ℕ). Marked m (l .0) t after) b (subst (λ (k : ℕ). Marked m k ((o + len) / 4) after) a d)
 
+-- an entry at a link ends on the map
+pub on-map : (l : Link) (h : Header) → l .0 < 65536 → h .«name_len» < 256 → endOf h (4 * l .0) / 4 ≤ 65604
+on-map l h low name = omega arith
+
 -- an entry that is read at visit c, of link l
 module _ (w : List ℕ) (f : ℕ → Told (Option Placed)) (size : ℕ) (m : List ℕ) (left c : ℕ) (h : Header) (at : ℕ)
     (l : Link) (is-l : l .0 ≡ c % 65536) (o : Offset) (is-o : o .0 ≡ 4 * l .0) (a : Bool) (is-a : a ≡ eqb (getD m (c % 65536) 0) 1) where

@@ -3,3 +3,5 @@ pub mod Names
 pub mod Stack
 pub mod Units
 pub mod Judging
+pub mod Steps
+pub mod Turn

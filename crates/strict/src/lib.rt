@@ -122,7 +122,7 @@ fn is_placed(table: Region, map: &[u8; 65604], l: Link, h: Header) -> bool
 // An entry at a link marked on the map.
 fn mark_entry(map: &mut [u8; 65604], l: Link, h: Header)
     requires { ⌜ length (now map) ≡ 65604 ⌝ }
-    ensures { λ _. ⌜ Marked (now (map .entry)) (l .0) (endOf h (4 * l .0) / 4) (now (map .exit)) ⌝ }
+    ensures { λ _. ⌜ (Marked (now (map .entry)) (l .0) (endOf h (4 * l .0) / 4) (now (map .exit))) × (endOf h (4 * l .0) / 4 ≤ 65604) ⌝ }
 {
     let from = l.offset();
     let o = from.number();

@@ -1,5 +1,5 @@
 -- `strict::mark_entry` meets its contract: an offset over 4 is a unit. Assumes nothing.
-use Rattle.strict.proofs.Judging.{entry-marked}
+use Rattle.strict.proofs.Judging.{entry-marked, on-map}
 use borrow.Author.Needs.{needs}
 use Rattle.strict.proofs.mark_entry.Statement.{statement}
 use Rattle.strict.proofs.mark_entry.Tie as tie
@@ -32,7 +32,7 @@ mark-requires : tie.Need-mark-requires
 mark-requires c κs = search needs
 
 returns : tie.Need-returns
-returns c = search entry-marked
+returns c = (search entry-marked, search on-map)
 
 pub mark-entry-spec : {M : Type 1} → statement M
 mark-entry-spec =
