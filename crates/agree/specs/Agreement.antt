@@ -30,12 +30,13 @@ placedAt place y = record { header = headerFor y; place = place + y .offset }
 abbrev pub Same : List ℕ → List ℕ → Type 0
 Same a b = map raised a ≡ map raised b
 
-module _ (absent : List ℕ) (w : List ℕ) (first : Sector) (t : Region) (place : ℕ) where
+module _ (w : List ℕ) (first : Sector) (t : Region) (place : ℕ) where
   -- an item is read back at its offset: its links, sector, size and kind, and its name
   pub record ReadBack (y : Item) : Type 0 where
     pub reads : readAt w first t (y .offset) ≡ gives (some (placedAt place y))
     pub named : nameOf w (place + y .offset) (length (y .entry .name)) ≡ y .entry .name
 
+module _ (absent : List ℕ) (w : List ℕ) (first : Sector) (t : Region) (place : ℕ) where
   -- an item is reached: there is a way to it from the first entry along links that are read, and a lookup of its name, raised, answers along that
   -- way; that is, it finds the item at its offset, unless a link on the way is taken for absent, and then answers 22
   pub record Reached (y : Item) : Type 0 where
@@ -56,7 +57,7 @@ module _ (absent : List ℕ) (w : List ℕ) (first : Sector) (t : Region) (place
     -- none of them twice
     pub once : (i j : ℕ) → i < length (offsets xs) → j < length (offsets xs) → getD (offsets xs) i 0 ≡ getD (offsets xs) j 0 → i ≡ j
     -- at each the item is read back
-    pub read : AllIn ReadBack xs
+    pub read : AllIn (ReadBack w first t place) xs
     -- each is found under its name unless a link on the way is taken for absent
     pub reached : AllIn Reached xs
     -- nothing else is found, and no lookup reads more than 19 headers
