@@ -1,3 +1,6 @@
 pub mod Setting
 pub mod Readback
 pub mod Holds
+pub mod Walks
+pub mod Reaches
+pub mod Agrees

@@ -176,7 +176,7 @@ module _ (P : ℕ → Type 0) where
         (λ q. (a .0, (p, al, a .1), a .2), λ u c v f q. let d : All P (node u c v) = subst (All P) f (a .1) in (d .0, (p, al, d .1), (a .0, d .2, a .2))),
   )
 
-  all-ins : (less : ℕ → Bool) (new : ℕ) (t : Tree) → P new → All P t → All P (ins less new t)
+  pub all-ins : (less : ℕ → Bool) (new : ℕ) (t : Tree) → P new → All P t → All P (ins less new t)
   all-ins less new leaf p a = (p, tt, tt)
   all-ins less new (node l i r) p a = elim (less i) as (λ b. All P (insBy b l (ins less new l) i r (ins less new r))) [
     | true ↦ all-bal (ins less new l) i r (a .0) (all-ins less new l p (a .1)) (a .2)
@@ -312,7 +312,7 @@ size-tally n (node l i r) a = tally-add n (λ j. cnt j l) (λ j. δ i j + cnt j 
 pub size-le : (n : ℕ) (t : Tree) → All (λ j. j < n) t → ((j : ℕ) → cnt j t ≤ 1) → size t ≤ n
 size-le n t a o = omega (arith, size-tally n t a, tally-le n (λ j. cnt j t) o)
 
-least-mono : (a b : ℕ) → a ≤ b → least a ≤ least b
+pub least-mono : (a b : ℕ) → a ≤ b → least a ≤ least b
 least-mono a zero h = subst (λ (v : ℕ). least v ≤ least zero) {x = zero} {y = a} (omega arith) (omega arith)
 least-mono a (suc b) h = elim (decLe a b) [
   | yes k ↦ omega (arith, least-mono a b k, least-step b)
