@@ -4,3 +4,4 @@ pub mod Holds
 pub mod Walks
 pub mod Reaches
 pub mod Agrees
+pub mod Plain

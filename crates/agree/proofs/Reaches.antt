@@ -3,7 +3,8 @@
 use Prim.Native.Nat.{ℕ, zero, suc, _+_, _-_, _*_, _/_, _≤_, _<_, max}
 use mathlib.Core.Path.{_≡_, refl, sym, ap, subst, _∙_}
 use mathlib.Core.Bool.{Bool, true, false}
-use mathlib.Core.List.{List, [], _∷_, _++_, List·Memᴰ, List·Memᴰ·head, List·Memᴰ·tail, Memᴰ·append-left, Memᴰ·append-right}
+use mathlib.Core.Logic.{_⊎_, inl, inr}
+use mathlib.Core.List.{List, [], _∷_, _++_, List·Memᴰ, List·Memᴰ·head, List·Memᴰ·tail, List·Memᴰ·not-nil, List·Memᴰ·cases-cons, Memᴰ·append-left, Memᴰ·append-right}
 use native.Mathlib.Omega.{arith}
 use borrow.Author.Tests.{ne-eqb}
 use Rattle.units.specs.Told.{Told, gives, refuses, pick}
@@ -43,6 +44,17 @@ by-link : (b : Bool) (o n p : ℕ) (onto : ℕ → Told Finding) → ending (pic
 by-link true o n p onto = refl
 by-link false o n p onto = refl
 
+-- none of the links is 0 or 65,535
+abbrev Real : List ℕ → Type 0
+Real ks = (k : ℕ) → List·Memᴰ k ks → (k ≡ 0 → ⊥) × (k ≡ 65535 → ⊥)
+
+real-cons : (k : ℕ) (ks : List ℕ) → (k ≡ 0 → ⊥) → (k ≡ 65535 → ⊥) → Real ks → Real (k ∷ ks)
+real-cons k ks a b f j m = go (List·Memᴰ·cases-cons m)
+  where
+    go : (j ≡ k) ⊎ List·Memᴰ j ks → (j ≡ 0 → ⊥) × (j ≡ 65535 → ⊥)
+    go (inl e) = (λ z. a (omega arith), λ z. b (omega arith))
+    go (inr q) = f j q
+
 module _ (F : Setting) (absent : List ℕ) (none : isIn 0 absent ≡ true) where
   abbrev chain : List ℕ → ℕ → ℕ → ℕ → Told Finding
   chain name m n o = chainFrom (stepAt absent (F .w) (F .first) (F .t) name) m n o
@@ -73,17 +85,21 @@ module _ (F : Setting) (absent : List ℕ) (none : isIn 0 absent ≡ true) where
   record From (l : Tree) (i : ℕ) (r : Tree) (e : ℕ) (y : Item) : Type 0 where
     links : List ℕ
     way : Along (λ o. reads F o) (start F e i) (y .offset) links
+    real : Real links
     answers : (name : List ℕ) (m n : ℕ) → size l + size r ≤ m → nameOrder name (y .entry .name) ≡ Equal → chain name (suc m) n (start F e i) ≡ along y (n + 1) links
 
   record Below (x : Tree) (e : ℕ) (y : Item) : Type 0 where
     links : List ℕ
     way : Along (λ o. reads F o) (4 * link F e x) (y .offset) links
+    real : Real (link F e x ∷ links)
     answers : (name : List ℕ) (m n o : ℕ) → size x ≤ m → nameOrder name (y .entry .name) ≡ Equal → follow name m n o (link F e x) ≡ along y n (link F e x ∷ links)
 
-  below-from : (l : Tree) (i : ℕ) (r : Tree) (e : ℕ) (y : Item) → start F e i ≡ 4 * (start F e i / 4) → From l i r e y → Below (node l i r) e y
+  below-from : (l : Tree) (i : ℕ) (r : Tree) (e : ℕ) (y : Item) → (start F e i / 4 ≡ 0 → ⊥) × (start F e i / 4 ≡ 65535 → ⊥) × (start F e i ≡ 4 * (start F e i / 4))
+      → From l i r e y → Below (node l i r) e y
   below-from l i r e y k g = record {
     links = g .links;
-    way = subst (λ (o : ℕ). Along (λ p. reads F p) o (y .offset) (g .links)) k (g .way);
+    way = subst (λ (o : ℕ). Along (λ p. reads F p) o (y .offset) (g .links)) (k .2) (g .way);
+    real = real-cons (start F e i / 4) (g .links) (k .0) (k .1) (g .real);
     answers = λ name m n o h q. go name m n o h q;
   }
     where
@@ -93,12 +109,13 @@ module _ (F : Setting) (absent : List ℕ) (none : isIn 0 absent ≡ true) where
       go name (suc m) n o h q =
           follow-is name (suc m) n o (start F e i / 4)
           ∙ ap (pick (isIn (start F e i / 4) absent) (refuses 22 (n ∷ [])))
-          (ap (chain name (suc m) n) (sym k) ∙ g .answers name m n (omega arith) q)
+          (ap (chain name (suc m) n) (sym (k .2)) ∙ g .answers name m n (omega arith) q)
 
   from-left : (l : Tree) (i : ℕ) (r : Tree) (e s : ℕ) (y : Item) → Back F (item F e s l i r) → Below l (stop F e i) y → nameOrder (y .entry .name) (F .entry i .name) ≡ Less → From l i r e y
   from-left l i r e s y has b q = record {
     links = link F (stop F e i) l ∷ b .links;
     way = left (has .reads) (b .way);
+    real = b .real;
     answers = λ name m n h p.
         chain-item name (item F e s l i r) m n Less has (name-same-left name (y .entry .name) (F .entry i .name) p ∙ q) ∙ b .answers name m (n + 1) (start F e i) (omega arith) p;
   }
@@ -107,12 +124,13 @@ module _ (F : Setting) (absent : List ℕ) (none : isIn 0 absent ≡ true) where
   from-right l i r e s y has b q = record {
     links = link F (end F (stop F e i) l) r ∷ b .links;
     way = right (has .reads) (b .way);
+    real = b .real;
     answers = λ name m n h p.
         chain-item name (item F e s l i r) m n Greater has (name-same-left name (y .entry .name) (F .entry i .name) p ∙ q) ∙ b .answers name m (n + 1) (start F e i) (omega arith) p;
   }
 
   from-here : (l : Tree) (i : ℕ) (r : Tree) (e s : ℕ) → Back F (item F e s l i r) → From l i r e (item F e s l i r)
-  from-here l i r e s has = record { links = []; way = there; answers = λ name m n h p. chain-item name (item F e s l i r) m n Equal has p }
+  from-here l i r e s has = record { links = []; way = there; real = λ k m. absurd (List·Memᴰ·not-nil m); answers = λ name m n h p. chain-item name (item F e s l i r) m n Equal has p }
 
   -- a node's own item, and those of the trees below it
   from-node : (l : Tree) (i : ℕ) (r : Tree) (e s : ℕ) → Ready F (node l i r) e s → Ordered (Before (F .entry)) (node l i r)
@@ -137,7 +155,7 @@ module _ (F : Setting) (absent : List ℕ) (none : isIn 0 absent ≡ true) where
   unfolding items
   below-all leaf e s h g ord = tt
   below-all (node l i r) e s h g ord =
-      all-map _ _ (its F e s (node l i r)) (λ y z. below-from l i r e y (linked F l i r e s g h .2) z)
+      all-map _ _ (its F e s (node l i r)) (λ y z. below-from l i r e y (linked F l i r e s g h) z)
       (from-node l i r e s g ord
       (below-all l (stop F e i) (next F s i) (omega arith) (left-ready F l i r e s g) (ord .2))
       (below-all r (end F (stop F e i) l) (free F (next F s i) l) (omega (arith, ends F l i r e s g .0)) (right-ready F l i r e s g) (ord .3)))
@@ -195,6 +213,7 @@ module _ (F : Setting) (absent : List ℕ) (none : isIn 0 absent ≡ true) where
         all-map _ _ (its F 0 s (node l i r)) (λ y z. record {
           links = z .links;
           way = subst (λ (o : ℕ). Along (λ p. reads F p) o (y .offset) (z .links)) (at-zero F l i r s g) (z .way);
+          real = z .real;
           answers = λ name a q. lookup-is name a ∙ z .answers name 65535 0 few (name-equal name (y .entry .name) q);
         })
         (from-node l i r 0 s g ord

@@ -42,6 +42,8 @@ module _ (absent : List ℕ) (w : List ℕ) (first : Sector) (t : Region) (place
   pub record Reached (y : Item) : Type 0 where
     pub links : List ℕ
     pub way : Along (readAt w first t) 0 (y .offset) links
+    -- (none of these links is 0 or 65,535, so that with today's set the one that is taken for absent is 255)
+    pub real : (k : ℕ) → List·Memᴰ k links → (k ≡ 0 → ⊥) × (k ≡ 65535 → ⊥)
     pub answers : (name : List ℕ) → anyHigh name ≡ false → Same name (y .entry .name) →
         lookupBy absent w first t name ≡ answerAlong absent (placedAt place y) (y .offset) 1 links
 
