@@ -9,7 +9,10 @@ use lib.ListN.{length, getD, set, length-set}
 use lib.Seq.{getD-set-same, getD-set-other}
 use Rattle.layout_name.specs.declared.Order.{Order}
 use Rattle.layout_name.specs.declared.Order.the-variants.{Less, Equal, Greater}
-use Rattle.avl_model.specs.Names.{isLess}
+use Rattle.avl_model.specs.declared.Inserted.{Inserted}
+use Rattle.avl_model.specs.declared.Inserted.the-variants.{Done, Duplicate}
+use Rattle.avl_model.specs.Names.{Names, Inside, isLess}
+use Rattle.avl_model.specs.Laws.{Avl, All}
 use Rattle.avl_model.specs.declared.Place.{Place}
 use Rattle.avl_model.specs.declared.Place.the-variants.{Root, Left, Right}
 use Rattle.avl_model.specs.declared.Spot.{Spot}
@@ -17,16 +20,22 @@ use Rattle.avl_model.specs.declared.Spot.the-variants.{Same, Free}
 use Rattle.avl_model.specs.Lists.{Lists, lists, putRoot, putLeft, putRight, aboveOf, attached}
 use Rattle.avl_model.specs.Tree.{Tree, leaf, node, none, top, ht, δ, cnt, bal, ins, insBy}
 use Rattle.avl_model.specs.Rep.{Arr, arr, Rep, Ctx, hole, inL, inR, over, cntK, climb, Link, Step, RepK, At}
-use Rattle.avl_model.specs.Held.{Long, arrOf, Held, Ready, Whole, peak, Arena}
-use Rattle.avl_model.specs.Insert.{Out, OutBy}
-use Rattle.avl_model.specs.Seek.{spotIn, spotBy, path, pathBy, placeIn, Links, Linked}
+use Rattle.avl_model.specs.Held.{Long, arrOf, Held, Ready, Whole, peak, Even, Arena}
+use Rattle.avl_model.specs.Insert.{Filled, Out, OutBy}
+use Rattle.avl_model.specs.Seek.{spotIn, spotBy, path, pathBy, placeIn, Links, Linked, Sought}
 use Rattle.avl_model.proofs.Frame.{δ-same, δ-apart, Agree, apart, frame, frame-link, frameK}
 use Rattle.avl_model.proofs.Stores.{put-left-length, put-right-length}
+use Rattle.avl_model.proofs.Avl.{at-most-22}
 
 -- the links of a tree that is held
 pub links-of : (S : Lists) (n p : ℕ) (t : Tree) → Rep (arrOf S) n p t → Links (S .L) (S .R) n t
 links-of S n p leaf c = tt
 links-of S n p (node l i r) c = (record { fits = c .0 .fits; left = c .0 .left; right = c .0 .right }, links-of S n i l (c .1), links-of S n i r (c .2))
+
+-- a tree that is held has only indices
+pub below : (A : Arr) (n p : ℕ) (t : Tree) → Rep A n p t → All (λ j. j < n) t
+below A n p leaf c = tt
+below A n p (node l i r) c = (c .0 .fits, below A n i l (c .1), below A n i r (c .2))
 
 -- one step down
 down-left : (A : Arr) (n : ℕ) (l : Tree) (i : ℕ) (r : Tree) (k : Ctx) → Held A n (node l i r) k (ht (node l i r)) → Held A n l (inL i r k) (ht l)
@@ -70,6 +79,14 @@ module _ (less : ℕ → Bool) where
   path-peak (node l i r) k = elim (less i) as (λ b. peak 0 (pathBy b (path less l (inL i r k)) (path less r (inR l i k))) ≡ peak (suc (max (ht l) (ht r))) k) [
     | true ↦ path-peak l (inL i r k)
     | false ↦ path-peak r (inR l i k) ∙ ap (λ (g : ℕ). peak g k) (omega arith)
+  ]
+
+  -- what is around the place of a new node is balanced
+  pub path-even : (t : Tree) (k : Ctx) → Avl t → Even (ht t) k → Even 0 (path less t k)
+  path-even leaf k a e = e
+  path-even (node l i r) k a e = elim (less i) as (λ b. Even 0 (pathBy b (path less l (inL i r k)) (path less r (inR l i k)))) [
+    | true ↦ path-even l (inL i r k) (a .2) (a .0, a .1, e)
+    | false ↦ path-even r (inR l i k) (a .3) (a .1, a .0, subst (λ (g : ℕ). Even g k) (omega arith) e)
   ]
 
   -- the climb from the new node makes the insertion
@@ -194,6 +211,9 @@ module _ (S : Lists) (n new : ℕ) (W : Long n S) (f : new < n) where
 
 -- what `insert` needs, of the arena that it is lent
 module _ (S : Lists) (new : ℕ) (w : Arena S new) where
+  low : ht (w .t) ≤ 22
+  low = at-most-22 (length (S .L)) (w .t) (w .small) (below (arrOf S) (length (S .L)) none (w .t) (w .held .rep)) (λ j. omega (arith, w .held .once j)) (w .even)
+
   pub linked : Linked (S .L) (S .R) (S .root)
   linked = record {
     t = w .t;
@@ -201,7 +221,7 @@ module _ (S : Lists) (new : ℕ) (w : Arena S new) where
     small = w .small;
     links = links-of S (length (S .L)) none (w .t) (w .held .rep);
     root-is = w .held .link;
-    bound = w .bound;
+    bound = omega (arith, low);
   }
 
   module _ (by : ℕ → Order) (q : Place) (e : spotIn by (w .t) Root ≡ Free q) where
@@ -237,7 +257,8 @@ module _ (S : Lists) (new : ℕ) (w : Arena S new) where
           at = subst (λ (m : ℕ). At (arrOf (attached S q new)) m new new leaf leaf k 0) (sym en) at-new;
           old = getD-set-same (S .H) new 0 0 (omega (arith, w .new<, w .long .h));
           grown = omega arith;
-          bound = omega (arith, path-peak less (w .t) hole, w .bound);
+          bound = omega (arith, path-peak less (w .t) hole, low);
+          even = path-even less (w .t) hole (w .even) tt;
           full = λ j h. elim (ℕ-discrete j new) [
             | yes g ↦ let d : δ new j ≡ 1 = subst (λ (v : ℕ). δ new v ≡ 1) (sym g) (δ-same new) in omega arith
             | no g ↦ omega (arith, w .full j (omega arith) g, path-cnt less j (w .t) hole)
@@ -254,25 +275,24 @@ module _ (S : Lists) (new : ℕ) (w : Arena S new) where
         subst (λ (m : ℕ). Whole U m (ins less new (w .t))) en
         (subst (λ (s : Tree). Whole U (length (attached S q new .L)) s) (path-climb less new (w .t) hole) (g new-ready))
 
--- the two ways out of `insert`
-pub out-same : (S : Lists) (new : ℕ) (w : Arena S new) (by : ℕ → Order) {s : Spot} {i : ℕ} → s ≡ Same i
-    → ((v : Linked (S .L) (S .R) (S .root)) → s ≡ spotIn by (v .t) Root) → Out S S by new (w .t) false
-unfolding linked
-out-same S new w by e f = subst (λ (z : Spot). OutBy z S S (λ i. isLess (by i)) new (w .t) false) (sym e ∙ f (linked S new w)) (refl, refl)
+-- the two ways out of `insert`; the search was told of the names, in N, and is `by`
+module _ (S : Lists) (N : Names) (new : ℕ) (w : Filled S N new) where
+  pub sought : Sought (S .L) (S .R) (S .root) N
+  unfolding linked
+  sought = record { linked = linked S new (w .arena); named = w .named }
 
-pub spot-is : (S : Lists) (new : ℕ) (w : Arena S new) (by : ℕ → Order) {s : Spot} {q : Place} → s ≡ Free q
-    → ((v : Linked (S .L) (S .R) (S .root)) → s ≡ spotIn by (v .t) Root)
-    → spotIn by (w .t) Root ≡ Free q
-unfolding linked
-spot-is S new w by e f = sym (f (linked S new w)) ∙ e
+  module _ (by : ℕ → Order) {s : Spot} (f : (v : Sought (S .L) (S .R) (S .root) N) → s ≡ spotIn by (v .linked .t) Root) where
+    spot-is : s ≡ spotIn by (w .arena .t) Root
+    unfolding sought linked
+    spot-is = f sought
 
-pub ready-after : (S : Lists) (new : ℕ) (w : Arena S new) (by : ℕ → Order) {s : Spot} {q : Place} → s ≡ Free q
-    → ((v : Linked (S .L) (S .R) (S .root)) → s ≡ spotIn by (v .t) Root) → {T : Lists} → T ≡ attached S q new → Ready T new
-ready-after S new w by {s} {q} e f {T} et = subst (λ (T : Lists). Ready T new) (sym et) (new-ready S new w by q (spot-is S new w by e f))
+    pub out-same : {i : ℕ} → s ≡ Same i → Out S S by new (w .arena .t) (Duplicate i)
+    out-same {i} e = subst (λ (z : Spot). OutBy z S S (λ j. isLess (by j)) new (w .arena .t) (Duplicate i)) (sym e ∙ spot-is) (refl, refl)
 
-pub out-free : (S : Lists) (new : ℕ) (w : Arena S new) (by : ℕ → Order) {s : Spot} {q : Place} → s ≡ Free q
-    → ((v : Linked (S .L) (S .R) (S .root)) → s ≡ spotIn by (v .t) Root) → {T U : Lists} → T ≡ attached S q new
-    → ((v : Ready T new) → Whole U (length (T .L)) (climb (v .k) (bal (v .l) new (v .r)))) → Out S U by new (w .t) true
-out-free S new w by {s} {q} e f {T} {U} et g =
-    let k : spotIn by (w .t) Root ≡ Free q = spot-is S new w by e f in
-    subst (λ (z : Spot). OutBy z S U (λ i. isLess (by i)) new (w .t) true) (sym k) (refl, inserted S new w by q k et g)
+    pub ready-after : {q : Place} → s ≡ Free q → {T : Lists} → T ≡ attached S q new → Ready T new
+    ready-after {q} e {T} et = subst (λ (T : Lists). Ready T new) (sym et) (new-ready S new (w .arena) by q (sym spot-is ∙ e))
+
+    pub out-free : {q : Place} → s ≡ Free q → {T U : Lists} → T ≡ attached S q new
+        → ((v : Ready T new) → Whole U (length (T .L)) (climb (v .k) (bal (v .l) new (v .r)))) → Out S U by new (w .arena .t) Done
+    out-free {q} e {T} {U} et g =
+        subst (λ (z : Spot). OutBy z S U (λ i. isLess (by i)) new (w .arena .t) Done) (sym e ∙ spot-is) (refl, inserted S new (w .arena) by q (sym spot-is ∙ e) et g)

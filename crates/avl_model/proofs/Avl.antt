@@ -319,9 +319,21 @@ least-mono a (suc b) h = elim (decLe a b) [
   | no k ↦ subst (λ (v : ℕ). least v ≤ least (suc b)) {x = suc b} {y = a} (omega arith) (omega arith)
 ]
 
--- of 17,709 nodes or fewer no AVL tree is 20 high
-pub low-tree : (n : ℕ) (t : Tree) → n < 17710 → All (λ j. j < n) t → ((j : ℕ) → cnt j t ≤ 1) → Avl t → ht t ≤ 19
-low-tree n t h a o v = elim (decLe (ht t) 19) [
+-- of fewer nodes than a height takes no AVL tree is so high
+pub few-low : (m n : ℕ) (t : Tree) → n < least (suc m) → All (λ j. j < n) t → ((j : ℕ) → cnt j t ≤ 1) → Avl t → ht t ≤ m
+few-low m n t h a o v = elim (decLe (ht t) m) [
   | yes k ↦ k
-  | no k ↦ absurd (omega (arith, least-20, least-mono 20 (ht t) (omega arith), avl-size t v, size-le n t a o))
+  | no k ↦ absurd (omega (arith, least-mono (suc m) (ht t) (omega arith), avl-size t v, size-le n t a o))
 ]
+
+least-23 : least 23 ≡ 75024
+unfolding least
+least-23 = refl
+
+-- a balanced tree of at most 16,384 nodes is at most 19 high
+pub at-most-19 : (n : ℕ) (t : Tree) → n ≤ 16384 → All (λ j. j < n) t → ((j : ℕ) → cnt j t ≤ 1) → Avl t → ht t ≤ 19
+at-most-19 n t h = few-low 19 n t (omega (arith, least-20))
+
+-- a balanced tree of at most 65,535 nodes is at most 22 high
+pub at-most-22 : (n : ℕ) (t : Tree) → n ≤ 65535 → All (λ j. j < n) t → ((j : ℕ) → cnt j t ≤ 1) → Avl t → ht t ≤ 22
+at-most-22 n t h = few-low 22 n t (omega (arith, least-23))

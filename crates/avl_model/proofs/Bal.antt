@@ -5,7 +5,7 @@ use mathlib.Core.Path.{_≡_, refl, sym, ap, subst, _∙_}
 use mathlib.Core.Bool.{Bool, true, false}
 use lib.Dec.{ltb}
 use borrow.Author.Tests.{ltb-true, ltb-false}
-use Rattle.avl_model.specs.Tree.{Tree, leaf, node, none, top, ht, δ, cnt, turnLeft, turnLeftBy, turnRight, turnRightBy, bal, balBy}
+use Rattle.avl_model.specs.Tree.{Tree, leaf, node, none, top, ht, δ, cnt, turnLeft, turnLeftBy, turnRight, turnRightBy, bal, balBy, ins, insBy}
 
 -- A property that the node l i r has where the heights are near, and that each rotation has where it is made, `bal l i r` has.
 module _ (P : Tree → Type 0) where
@@ -55,3 +55,11 @@ bal-ht l i r = bal-ind (λ s. (1 ≤ ht s) × (ht s ≤ suc (max (ht l) (ht r)))
   (λ y b z e h. let k : ht r ≡ suc (max (ht y) (ht z)) = ap ht e in
       (λ q. omega arith, λ u c v f q. let m : ht y ≡ suc (max (ht u) (ht v)) = ap ht f in omega arith)),
 )
+
+-- insertion puts in the new node and keeps all others: each number as often as before, and `new` once more
+pub ins-cnt : (less : ℕ → Bool) (new j : ℕ) (t : Tree) → cnt j (ins less new t) ≡ cnt j t + δ new j
+ins-cnt less new j leaf = omega arith
+ins-cnt less new j (node l i r) = elim (less i) as (λ b. cnt j (insBy b l (ins less new l) i r (ins less new r)) ≡ cnt j l + (δ i j + cnt j r) + δ new j) [
+  | true ↦ omega (arith, bal-cnt j (ins less new l) i r, ins-cnt less new j l)
+  | false ↦ omega (arith, bal-cnt j l i (ins less new r), ins-cnt less new j r)
+]

@@ -9,26 +9,8 @@ use lib.Dec.{ltb}
 use borrow.Author.Tests.{lt-ltb, le-ltb}
 use Rattle.avl_model.specs.Tree.{Tree, leaf, node, ht, bal, balBy, ins, insBy, turnLeft, turnLeftBy, turnRight, turnRightBy}
 use Rattle.avl_model.specs.Laws.{Avl}
+use Rattle.avl_model.specs.Rust.{rust, rustBy, insRust}
 use Rattle.avl_model.proofs.Avl.{Lean, Grown, ins-grown}
-
-abbrev pick : Bool → Tree → Tree → Tree
-pick true a b = a
-pick false a b = b
-
--- i, come to from the left (true) or from the right; below, the climb came by `less`
-abbrev pub rust : (ℕ → Bool) → Bool → Tree → ℕ → Tree → Tree
-rust less true leaf i r = node leaf i r
-rust less true (node x b y) i r = pick (ltb (suc (ht r)) (ht (node x b y))) (turnRightBy (not (less b)) x b y i r) (node (node x b y) i r)
-rust less false l i leaf = node l i leaf
-rust less false l i (node y b z) = pick (ltb (suc (ht l)) (ht (node y b z))) (turnLeftBy (less b) l i y b z) (node l i (node y b z))
-
-abbrev rustBy : (ℕ → Bool) → Bool → Tree → Tree → ℕ → Tree → Tree → Tree
-rustBy less true l l2 i r r2 = rust less true l2 i r
-rustBy less false l l2 i r r2 = rust less false l i r2
-
-abbrev pub insRust : (ℕ → Bool) → ℕ → Tree → Tree
-insRust less new leaf = node leaf new leaf
-insRust less new (node l i r) = rustBy less (less i) l (insRust less new l) i r (insRust less new r)
 
 -- the side that is higher is the way that was gone
 flag-left : (b : Bool) (x y : ℕ) → (b ≡ true → y < x) × (b ≡ false → x < y) → not b ≡ ltb x y

@@ -9,8 +9,8 @@ use lib.Dec.{ltb}
 use borrow.Author.Tests.{lt-ltb, le-ltb}
 use Rattle.avl_model.specs.Lists.{Lists, lists}
 use Rattle.avl_model.specs.Tree.{Tree, leaf, node, none, top, ht, δ, cnt, bal}
-use Rattle.avl_model.specs.Rep.{Arr, arr, Rep, Ctx, hole, inL, inR, over, cntK, climb, Link, Step, RepK, At}
-use Rattle.avl_model.specs.Held.{Long, arrOf, Held, Ready, Up, Whole, peak}
+use Rattle.avl_model.specs.Rep.{Arr, arr, Rep, Ctx, hole, inL, inR, over, plug, cntK, climb, Link, Step, RepK, At}
+use Rattle.avl_model.specs.Held.{Long, arrOf, Held, Ready, Up, Whole, peak, Even}
 use Rattle.avl_model.proofs.Bal.{bal-cnt, bal-ht}
 use Rattle.avl_model.proofs.Peak.{peak-ge}
 use Rattle.avl_model.proofs.Weigh.{top-in}
@@ -22,7 +22,7 @@ pub record Going (S : Lists) (n at : ℕ) (goal : Tree) : Type 0 where
   pub goal-is : goal ≡ climb (ready .k) (bal (ready .l) at (ready .r))
 
 pub record Ended (S : Lists) (n at : ℕ) (goal : Tree) : Type 0 where
-  pub out : n ≤ at
+  pub out : none ≤ at
   pub whole : Whole S n goal
 
 abbrev pub State : Lists → ℕ → ℕ → Tree → Type 0
@@ -46,9 +46,9 @@ module _ (T : Lists) (n t : ℕ) (s : Tree) where
   parent-is k hh U h = ap (λ (g : ℕ). getD (T .P) g 0) (U .root) ∙ rep-up (arrOf T) n (over k) s (U .held .rep) h
 
   -- s, settled, is left of i
-  next-left : (i : ℕ) (o : Tree) (k : Ctx) (hh : ℕ) → Up T n t s (inL i o k) hh → n ≤ none → ht s ≤ suc hh → peak hh (inL i o k) < 100
+  next-left : (i : ℕ) (o : Tree) (k : Ctx) (hh : ℕ) → Up T n t s (inL i o k) hh → n ≤ none → ht s ≤ suc hh → peak hh (inL i o k) < 100 → Even hh (inL i o k)
       → ((j : ℕ) → j < n → 1 ≤ cnt j s + (δ i j + (cnt j o + cntK j k))) → Ready T i
-  next-left i o k hh U small g b f =
+  next-left i o k hh U small g b v f =
       let en : length (T .L) ≡ n = U .long .l in
       let H : Held (arrOf T) n s (inL i o k) hh = U .held in
       record {
@@ -72,12 +72,13 @@ module _ (T : Lists) (n t : ℕ) (s : Tree) where
         old = H .krep .1 .high;
         grown = omega arith;
         bound = b;
+        even = v .2;
         full = λ j h. omega (arith, f j (omega arith));
       }
 
-  next-right : (o : Tree) (i : ℕ) (k : Ctx) (hh : ℕ) → Up T n t s (inR o i k) hh → n ≤ none → ht s ≤ suc hh → peak hh (inR o i k) < 100
+  next-right : (o : Tree) (i : ℕ) (k : Ctx) (hh : ℕ) → Up T n t s (inR o i k) hh → n ≤ none → ht s ≤ suc hh → peak hh (inR o i k) < 100 → Even hh (inR o i k)
       → ((j : ℕ) → j < n → 1 ≤ cnt j s + (δ i j + (cnt j o + cntK j k))) → Ready T i
-  next-right o i k hh U small g b f =
+  next-right o i k hh U small g b v f =
       let en : length (T .L) ≡ n = U .long .l in
       let H : Held (arrOf T) n s (inR o i k) hh = U .held in
       record {
@@ -101,14 +102,15 @@ module _ (T : Lists) (n t : ℕ) (s : Tree) where
         old = H .krep .1 .high;
         grown = omega arith;
         bound = b;
+        even = v .2;
         full = λ j h. omega (arith, f j (omega arith));
       }
 
-  next-state : (k : Ctx) (hh : ℕ) → Up T n t s k hh → n ≤ none → ht s ≤ suc hh → peak hh k < 100 → ((j : ℕ) → j < n → 1 ≤ cnt j s + cntK j k) → State T n (over k) (climb k s)
+  next-state : (k : Ctx) (hh : ℕ) → Up T n t s k hh → n ≤ none → ht s ≤ suc hh → peak hh k < 100 → Even hh k → ((j : ℕ) → j < n → 1 ≤ cnt j s + cntK j k) → State T n (over k) (climb k s)
   unfolding next-left next-right
-  next-state hole hh U small g b f = inr (record { out = small; whole = record { long = U .long; held = record { link = U .held .link; rep = U .held .rep; krep = tt; once = U .held .once } } })
-  next-state (inL i o k) hh U small g b f = inl (record { n-is = U .long .l; ready = next-left i o k hh U small g b f; goal-is = refl })
-  next-state (inR o i k) hh U small g b f = inl (record { n-is = U .long .l; ready = next-right o i k hh U small g b f; goal-is = refl })
+  next-state hole hh U small g b v f = inr (record { out = omega arith; whole = record { long = U .long; held = record { link = U .held .link; rep = U .held .rep; krep = tt; once = U .held .once } } })
+  next-state (inL i o k) hh U small g b v f = inl (record { n-is = U .long .l; ready = next-left i o k hh U small g b v f; goal-is = refl })
+  next-state (inR o i k) hh U small g b v f = inl (record { n-is = U .long .l; ready = next-right o i k hh U small g b v f; goal-is = refl })
 
   next-mu : (k : Ctx) (hh x : ℕ) → Up T n t s k hh → n ≤ none → peak hh k < 100 → x ≡ hh → mu T (over k) < suc (140 - x)
   unfolding mu
@@ -124,7 +126,7 @@ module _ (S T : Lists) (at t : ℕ) (w : Ready S at) (U : Up T (length (S .L)) t
 
   pub next : State T (length (S .L)) (getD (T .P) t 0) (climb (w .k) (bal (w .l) at (w .r)))
   next = subst (λ (g : ℕ). State T (length (S .L)) g (climb (w .k) (bal (w .l) at (w .r)))) (sym up-at)
-      (next-state T (length (S .L)) t (bal (w .l) at (w .r)) (w .k) (w .hh) U (w .small) (omega (arith, bal-ht (w .l) at (w .r) .1, w .grown)) (w .bound)
+      (next-state T (length (S .L)) t (bal (w .l) at (w .r)) (w .k) (w .hh) U (w .small) (omega (arith, bal-ht (w .l) at (w .r) .1, w .grown)) (w .bound) (w .even)
       (λ j h. omega (arith, w .full j h, bal-cnt j (w .l) at (w .r))))
 
   pub less : mu T (getD (T .P) t 0) < mu S at
@@ -136,17 +138,75 @@ module _ (S T : Lists) (at t : ℕ) (w : Ready S at) (U : Up T (length (S .L)) t
   pub inside : t < length (S .L)
   inside = subst (λ (g : ℕ). g < length (S .L)) (sym (U .root)) (top-in (arrOf T) (length (S .L)) (over (w .k)) (bal (w .l) at (w .r)) (U .held .rep) (bal-ht (w .l) at (w .r) .0))
 
--- the loop's turn, said of its state
-pub going : {S : Lists} {n at : ℕ} {goal : Tree} → State S n at goal → at < n → Going S n at goal
+-- ---- an unchanged height leaves all above unchanged
+
+bal-near : (l : Tree) (i : ℕ) (r : Tree) → ht l ≤ suc (ht r) → ht r ≤ suc (ht l) → bal l i r ≡ node l i r
+unfolding bal
+bal-near l i r p q = rw (le-ltb (suc (ht r)) (ht l) p, le-ltb (suc (ht l)) (ht r) q)
+
+-- where all around the hole is balanced with the height of s in it, nothing is rotated on the way up
+pub climb-even : (k : Ctx) (s : Tree) → Even (ht s) k → climb k s ≡ plug k s
+climb-even hole s e = refl
+climb-even (inL i r k) s e = ap (climb k) (bal-near s i r (e .0) (e .1)) ∙ climb-even k (node s i r) (e .2)
+climb-even (inR l i k) s e = ap (climb k) (bal-near l i s (e .1) (e .0)) ∙ climb-even k (node l i s) (subst (λ (g : ℕ). Even g k) (omega arith) (e .2))
+
+-- where the heights around the hole are those with s in it, the whole is held
+pub plug-held : (A : Arr) (n : ℕ) (k : Ctx) (s : Tree) → Held A n s k (ht s) → Held A n (plug k s) hole 0
+plug-held A n hole s H = record { link = H .link; rep = H .rep; krep = tt; once = H .once }
+plug-held A n (inL i r k) s H = plug-held A n k (node s i r) (record {
+  link = H .krep .1 .link;
+  rep = (record { fits = H .krep .1 .fits; left = H .link; right = H .krep .0; up = H .krep .1 .up; high = H .krep .1 .high }, H .rep, H .krep .1 .sib);
+  krep = H .krep .2;
+  once = λ j. omega (arith, H .once j);
+})
+plug-held A n (inR l i k) s H = plug-held A n k (node l i s) (record {
+  link = H .krep .1 .link;
+  rep = (record { fits = H .krep .1 .fits; left = H .krep .0; right = H .link; up = H .krep .1 .up; high = H .krep .1 .high ∙ omega arith }, H .krep .1 .sib, H .rep);
+  krep = subst (λ (g : ℕ). RepK A n g k) (omega arith) (H .krep .2);
+  once = λ j. omega (arith, H .once j);
+})
+
+rep-high : (A : Arr) (n p : ℕ) (s : Tree) → Rep A n p s → 1 ≤ ht s → A .H (top s) ≡ ht s
+rep-high A n p leaf c h = absurd (omega arith)
+rep-high A n p (node l i r) c h = c .0 .high
+
+module _ (S T : Lists) (at t : ℕ) (w : Ready S at) (U : Up T (length (S .L)) t (bal (w .l) at (w .r)) (w .k) (w .hh)) (e : getD (T .H) t 0 ≡ getD (S .H) at 0) where
+  abbrev s : Tree
+  s = bal (w .l) at (w .r)
+
+  high : w .hh ≡ ht s
+  high = sym (w .old) ∙ sym e ∙ ap (λ (g : ℕ). getD (T .H) g 0) (U .root) ∙ rep-high (arrOf T) (length (S .L)) (over (w .k)) s (U .held .rep) (bal-ht (w .l) at (w .r) .0)
+
+  pub settled : Whole T (length (S .L)) (climb (w .k) s)
+  settled = record {
+    long = U .long;
+    held = subst (λ (g : Tree). Held (arrOf T) (length (S .L)) g hole 0) (sym (climb-even (w .k) s (subst (λ (g : ℕ). Even g (w .k)) high (w .even))))
+        (plug-held (arrOf T) (length (S .L)) (w .k) s (subst (λ (g : ℕ). Held (arrOf T) (length (S .L)) s (w .k) g) high (U .held)));
+  }
+
+-- ---- the loop's turn, said of its state. i is the node and j what came up, as they are read as indices
+
+pub going : {S : Lists} {n at : ℕ} {goal : Tree} → State S n at goal → at < none → Going S n at goal
 going (inl g) h = g
 going (inr e) h = absurd (omega (arith, e .out))
 
-pub ended : {S : Lists} {n at : ℕ} {goal : Tree} → State S n at goal → n ≤ at → Whole S n goal
-ended (inl g) h = absurd (omega (arith, g .ready .at .fits, g .n-is))
+pub ended : {S : Lists} {n at : ℕ} {goal : Tree} → State S n at goal → none ≤ at → Whole S n goal
+ended (inl g) h = absurd (omega (arith, g .ready .at .fits, g .ready .small))
 ended (inr e) h = e .whole
 
-pub again : {S T : Lists} {n at t : ℕ} {goal : Tree} (g : Going S n at goal)
-    → ((w : Ready S at) → Up T (length (S .L)) t (bal (w .l) at (w .r)) (w .k) (w .hh)) → State T n (getD (T .P) t 0) goal
-again {S} {T} {n} {at} {t} {goal} g f =
-    subst (λ (m : ℕ). State T m (getD (T .P) t 0) goal) (g .n-is)
-    (subst (λ (q : Tree). State T (length (S .L)) (getD (T .P) t 0) q) (sym (g .goal-is)) (next S T at t (g .ready) (f (g .ready))))
+module _ {S T : Lists} {n at t : ℕ} {goal : Tree} (g : Going S n at goal) (f : (w : Ready S at) → Up T (length (S .L)) t (bal (w .l) at (w .r)) (w .k) (w .hh)) {j : ℕ} (js : j ≡ t) where
+  pub risen : j < n
+  risen = subst (λ (m : ℕ). j < m) (g .n-is) (subst (λ (v : ℕ). v < length (S .L)) (sym js) (inside S T at t (g .ready) (f (g .ready))))
+
+  pub again : State T n (getD (T .P) j 0) goal
+  again = subst (λ (v : ℕ). State T n (getD (T .P) v 0) goal) (sym js)
+      (subst (λ (m : ℕ). State T m (getD (T .P) t 0) goal) (g .n-is)
+      (subst (λ (q : Tree). State T (length (S .L)) (getD (T .P) t 0) q) (sym (g .goal-is)) (next S T at t (g .ready) (f (g .ready)))))
+
+  pub nearer : mu T (getD (T .P) j 0) < mu S at
+  nearer = subst (λ (v : ℕ). mu T (getD (T .P) v 0) < mu S at) (sym js) (less S T at t (g .ready) (f (g .ready)))
+
+  pub stopped : {i : ℕ} → i ≡ at → getD (T .H) j 0 ≡ getD (S .H) i 0 → Whole T n goal
+  stopped {i} is e = subst (λ (m : ℕ). Whole T m goal) (g .n-is)
+      (subst (λ (q : Tree). Whole T (length (S .L)) q) (sym (g .goal-is))
+      (settled S T at t (g .ready) (f (g .ready)) (ap (λ (v : ℕ). getD (T .H) v 0) (sym js) ∙ e ∙ ap (λ (v : ℕ). getD (S .H) v 0) is)))

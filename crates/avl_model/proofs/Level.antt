@@ -17,7 +17,7 @@ use Rattle.avl_model.specs.Held.{Long, arrOf, Held, Heavy, Ready, Up}
 use Rattle.avl_model.proofs.Frame.{δ-same, Agree, apart, frame, frame-link, frameK}
 use Rattle.avl_model.proofs.Hung.{top-apart}
 use Rattle.avl_model.proofs.Low.{low-risen}
-use Rattle.avl_model.proofs.Peak.{low-from, peak-ge}
+use Rattle.avl_model.proofs.Peak.{low-from}
 use Rattle.avl_model.proofs.Stores.{height-read, risen-same}
 use Rattle.avl_model.proofs.Mirror.{flip, mir, mirK, ht-mir, top-mir, at-mir}
 use Rattle.avl_model.proofs.Sides.{held, held-unmir, turn-mir}
@@ -185,38 +185,36 @@ module _ (S : Lists) (i : ℕ) (w : Ready S i) where
         rw (le-ltb (suc (ht (w .r))) (ht (w .l)) (omega (arith, is-l, is-r)), le-ltb (suc (ht (w .l))) (ht (w .r)) (omega (arith, is-l, is-r)))
         (record { long = long1; held = held (arrOf S1) n i (w .l) (w .r) (w .k) (w .hh) (T1, hi); root = refl })
 
-  -- the same of a list of heights that is known to be `h1`, as a call leaves it
-  module _ (hs : List ℕ) (e : hs ≡ h1) (a b : ℕ) (ea : a ≡ getD hs (getD (S .L) i 0) 0) (eb : b ≡ getD hs (getD (S .R) i 0) 0) where
+  -- the same of a list of heights that is known to be `h1`, as a call leaves it; g is i, as it is read as an index
+  module _ (hs : List ℕ) (e : hs ≡ h1) (g : ℕ) (is : g ≡ i) (a b : ℕ) (ea : a ≡ getD hs (getD (S .L) g 0) 0) (eb : b ≡ getD hs (getD (S .R) g 0) 0) where
     abbrev Ss : Lists
     Ss = lists (S .root) (S .L) (S .R) (S .P) hs
 
     a1 : a ≡ getD h1 (getD (S .L) i 0) 0
-    a1 = ea ∙ ap (λ (q : List ℕ). getD q (getD (S .L) i 0) 0) e
+    a1 = ea ∙ λ d. getD (e d) (getD (S .L) (is d) 0) 0
 
     b1 : b ≡ getD h1 (getD (S .R) i 0) 0
-    b1 = eb ∙ ap (λ (q : List ℕ). getD q (getD (S .R) i 0) 0) e
+    b1 = eb ∙ λ d. getD (e d) (getD (S .R) (is d) 0) 0
 
-    pub tilt-low : (a < 2000) × (b < 2000)
-    tilt-low = (
-      omega (arith, a1, hl, w .grown, w .bound, peak-ge (w .k) (w .hh)),
-      omega (arith, b1, hr, w .grown, w .bound, peak-ge (w .k) (w .hh)),
-    )
-
-    pub right-asks : tiltOf a b ≡ ToRight → Heavy Ss i (getD (S .R) i 0)
-    right-asks q = subst (λ (u : List ℕ). Heavy (lists (S .root) (S .L) (S .R) (S .P) u) i (getD (S .R) i 0)) (sym e) (right-turnable a b a1 b1 q .0)
+    pub right-asks : tiltOf a b ≡ ToRight → Heavy Ss i (getD (S .R) g 0)
+    right-asks q = subst (λ (v : ℕ). Heavy Ss i (getD (S .R) v 0)) (sym is)
+        (subst (λ (u : List ℕ). Heavy (lists (S .root) (S .L) (S .R) (S .P) u) i (getD (S .R) i 0)) (sym e) (right-turnable a b a1 b1 q .0))
 
     pub right-leaves : tiltOf a b ≡ ToRight → {T : Lists} {t : ℕ}
-        → ((v : Heavy Ss i (getD (S .R) i 0)) → Up T n t (turnLeft (v .x) i (node (v .y) (getD (S .R) i 0) (v .z))) (v .k) (v .hh)) → Left T t
-    right-leaves q {T} {t} = subst (λ (u : List ℕ). ((v : Heavy (lists (S .root) (S .L) (S .R) (S .P) u) i (getD (S .R) i 0)) → Up T n t (turnLeft (v .x) i (node (v .y) (getD (S .R) i 0) (v .z))) (v .k) (v .hh)) → Left T t)
-        (sym e) (λ g. right-done a b a1 b1 q T t (g (right-turnable a b a1 b1 q .0)))
+        → ((v : Heavy Ss i (getD (S .R) g 0)) → Up T n t (turnLeft (v .x) i (node (v .y) (getD (S .R) g 0) (v .z))) (v .k) (v .hh)) → Left T t
+    right-leaves q {T} {t} = subst (λ (m : ℕ). ((v : Heavy Ss i (getD (S .R) m 0)) → Up T n t (turnLeft (v .x) i (node (v .y) (getD (S .R) m 0) (v .z))) (v .k) (v .hh)) → Left T t) (sym is)
+        (subst (λ (u : List ℕ). ((v : Heavy (lists (S .root) (S .L) (S .R) (S .P) u) i (getD (S .R) i 0)) → Up T n t (turnLeft (v .x) i (node (v .y) (getD (S .R) i 0) (v .z))) (v .k) (v .hh)) → Left T t)
+        (sym e) (λ f. right-done a b a1 b1 q T t (f (right-turnable a b a1 b1 q .0))))
 
-    pub left-asks : tiltOf a b ≡ ToLeft → Heavy (swap Ss) i (getD (S .L) i 0)
-    left-asks q = subst (λ (u : List ℕ). Heavy (lists (S .root) (S .R) (S .L) (S .P) u) i (getD (S .L) i 0)) (sym e) (left-turnable a b a1 b1 q .0)
+    pub left-asks : tiltOf a b ≡ ToLeft → Heavy (swap Ss) i (getD (S .L) g 0)
+    left-asks q = subst (λ (v : ℕ). Heavy (swap Ss) i (getD (S .L) v 0)) (sym is)
+        (subst (λ (u : List ℕ). Heavy (lists (S .root) (S .R) (S .L) (S .P) u) i (getD (S .L) i 0)) (sym e) (left-turnable a b a1 b1 q .0))
 
     pub left-leaves : tiltOf a b ≡ ToLeft → {T : Lists} {t : ℕ}
-        → ((v : Heavy (swap Ss) i (getD (S .L) i 0)) → Up (swap T) (length (S .R)) t (turnLeft (v .x) i (node (v .y) (getD (S .L) i 0) (v .z))) (v .k) (v .hh)) → Left T t
-    left-leaves q {T} {t} = subst (λ (u : List ℕ). ((v : Heavy (lists (S .root) (S .R) (S .L) (S .P) u) i (getD (S .L) i 0)) → Up (swap T) (length (S .R)) t (turnLeft (v .x) i (node (v .y) (getD (S .L) i 0) (v .z))) (v .k) (v .hh)) → Left T t)
-        (sym e) (λ g. left-done a b a1 b1 q T t (g (left-turnable a b a1 b1 q .0)))
+        → ((v : Heavy (swap Ss) i (getD (S .L) g 0)) → Up (swap T) (length (S .R)) t (turnLeft (v .x) i (node (v .y) (getD (S .L) g 0) (v .z))) (v .k) (v .hh)) → Left T t
+    left-leaves q {T} {t} = subst (λ (m : ℕ). ((v : Heavy (swap Ss) i (getD (S .L) m 0)) → Up (swap T) (length (S .R)) t (turnLeft (v .x) i (node (v .y) (getD (S .L) m 0) (v .z))) (v .k) (v .hh)) → Left T t) (sym is)
+        (subst (λ (u : List ℕ). ((v : Heavy (lists (S .root) (S .R) (S .L) (S .P) u) i (getD (S .L) i 0)) → Up (swap T) (length (S .R)) t (turnLeft (v .x) i (node (v .y) (getD (S .L) i 0) (v .z))) (v .k) (v .hh)) → Left T t)
+        (sym e) (λ f. left-done a b a1 b1 q T t (f (left-turnable a b a1 b1 q .0))))
 
     pub leaf-leaves : tiltOf a b ≡ Leaf → Left Ss i
     leaf-leaves q = subst (λ (u : List ℕ). Left (lists (S .root) (S .L) (S .R) (S .P) u) i) (sym e) (leaf-done a b a1 b1 q)

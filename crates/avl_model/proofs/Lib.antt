@@ -18,3 +18,8 @@ pub mod Seeking
 pub mod Adding
 pub mod Avl
 pub mod ByPath
+pub mod Written
+pub mod Search
+pub mod Cases
+pub mod Order
+pub mod Counted

@@ -5,6 +5,7 @@ use mathlib.Core.Path.{_≡_}
 use lib.ListN.{length, getD}
 use Rattle.avl_model.specs.Lists.{Lists}
 use Rattle.avl_model.specs.Tree.{Tree, leaf, node, none, top, ht, δ, cnt}
+use Rattle.avl_model.specs.Laws.{Avl}
 use Rattle.avl_model.specs.Rep.{Arr, arr, Rep, Ctx, hole, inL, inR, over, cntK, Link, RepK, At}
 
 -- every list has n elements
@@ -29,6 +30,12 @@ abbrev pub peak : ℕ → Ctx → ℕ
 peak hh hole = hh
 peak hh (inL i r k) = peak (suc (max hh (ht r))) k
 peak hh (inR l i k) = peak (suc (max hh (ht l))) k
+
+-- with something of height hh in the hole, the heights at each node around it differ by at most one
+abbrev pub Even : ℕ → Ctx → Type 0
+Even hh hole = Unit {0}
+Even hh (inL i r k) = (hh ≤ suc (ht r)) × (ht r ≤ suc hh) × Even (suc (max hh (ht r))) k
+Even hh (inR l i k) = (hh ≤ suc (ht l)) × (ht l ≤ suc hh) × Even (suc (max hh (ht l))) k
 
 -- a's right child b is more than one higher than its left child
 pub record Heavy (S : Lists) (a b : ℕ) : Type 0 where
@@ -55,6 +62,7 @@ pub record Ready (S : Lists) (i : ℕ) : Type 0 where
   pub old : getD (S .H) i 0 ≡ hh
   pub grown : max (ht l) (ht r) ≤ hh
   pub bound : peak hh k < 100
+  pub even : Even hh k
   pub full : (j : ℕ) → j < length (S .L) → 1 ≤ cntK j k + (cnt j l + (δ i j + cnt j r))
 
 -- what is left: s in the hole, and t is its root
@@ -68,7 +76,7 @@ pub record Whole (S : Lists) (n : ℕ) (s : Tree) : Type 0 where
   pub long : Long n S
   pub held : Held (arrOf S) n s hole 0
 
--- the lists hold the tree t, of all indices but `new`, which has a place in them
+-- the lists hold the balanced tree t, of all indices but `new`, which has a place in them
 pub record Arena (S : Lists) (new : ℕ) : Type 0 where
   pub t : Tree
   pub long : Long (length (S .L)) S
@@ -77,4 +85,4 @@ pub record Arena (S : Lists) (new : ℕ) : Type 0 where
   pub new< : new < length (S .L)
   pub fresh : cnt new t ≡ 0
   pub full : (j : ℕ) → j < length (S .L) → (j ≡ new → ⊥) → 1 ≤ cnt j t
-  pub bound : ht t < 100
+  pub even : Avl t

@@ -7,3 +7,6 @@ pub mod Lists
 pub mod Held
 pub mod Seek
 pub mod Insert
+pub mod Columns
+pub mod Rust
+pub mod Order

@@ -13,6 +13,8 @@ use Rattle.avl_model.specs.declared.Spot.{Spot}
 use Rattle.avl_model.specs.declared.Spot.the-variants.{Same, Free}
 use Rattle.avl_model.specs.Tree.{Tree, leaf, node, none, top, ht, bal}
 use Rattle.avl_model.specs.Rep.{Ctx, hole, inL, inR}
+use Rattle.avl_model.specs.Laws.{All}
+use Rattle.avl_model.specs.Names.{Names, Inside}
 
 -- where an order sends the search: to the node itself, or to what is found left or right of it
 abbrev pub spotBy : Order → Spot → Spot → Spot → Spot
@@ -54,7 +56,7 @@ unfoldable pub treeAt : ℕ → List ℕ → List ℕ → ℕ → Tree
 treeAt zero L R i = leaf
 treeAt (suc f) L R i = elim (ltb i (length L)) [ true ↦ node (treeAt f L R (getD L i 0)) i (treeAt f L R (getD R i 0)) | false ↦ leaf ]
 
--- what a lookup takes
+-- the links hold a tree, from the root
 pub record Linked (L R : List ℕ) (root : ℕ) : Type 0 where
   pub t : Tree
   pub n-is : length R ≡ length L
@@ -62,3 +64,8 @@ pub record Linked (L R : List ℕ) (root : ℕ) : Type 0 where
   pub links : Links L R (length L) t
   pub root-is : root ≡ top t
   pub bound : ht t < 100
+
+-- what a search by name takes: the links hold a tree, and the name of each node of the tree stands in its place
+pub record Sought (L R : List ℕ) (root : ℕ) (N : Names) : Type 0 where
+  pub linked : Linked L R root
+  pub named : All (Inside N) (linked .t)

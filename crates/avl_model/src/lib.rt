@@ -19,3 +19,9 @@ pub enum Spot {
     Same(u16),
     Free(Place),
 }
+
+// What putting a node in answers: it is in, or its name is that of a node that was there.
+pub enum Inserted {
+    Done,
+    Duplicate(u16),
+}

@@ -58,6 +58,10 @@ ending missing o n next = refuses 22 (n ∷ [])
 ending (refused k vs) o n next = refuses k vs
 ending (onward p) o n next = next p
 
+-- no chain that ends reads more headers: there are no more offsets that a link can name
+abbrev pub most : ℕ
+most = 65536
+
 -- a chain of at most k more headers, from an offset on, with n headers read
 unfoldable pub chainFrom : (ℕ → Leads) → ℕ → ℕ → ℕ → Told Finding
 chainFrom f zero n o = refuses 25 []
@@ -73,7 +77,7 @@ unfoldable pub lookupBy : List ℕ → List ℕ → Sector → Region → List �
 lookupBy absent w first t name =
     pick (anyHigh name) (refuses 2 [])
     (pick (eqb (t .size) 0) (refuses 21 [])
-    (chainFrom (stepAt absent w first t name) 65536 0 0))
+    (chainFrom (stepAt absent w first t name) most 0 0))
 
 -- the answer of a lookup
 abbrev pub lookupOf : List ℕ → Sector → Region → List ℕ → Told Finding

@@ -1,0 +1,169 @@
+// Insertion by name into the balanced tree that lent columns hold. The name of node i is the part of `bytes` that starts at start[i] and has
+// len[i] bytes; nothing is asked of what the columns hold for numbers that are not in the tree.
+ghost use mathlib.Core.Path.{_≡_};
+ghost use Prim.Native.Nat.{ℕ, _≤_, _<_};
+ghost use lib.ListN.{length, getD};
+ghost use Rattle.layout_name.specs.Order.{raisedCopy};
+ghost use Rattle.avl_model.specs.declared.Place.the-variants.{Root};
+ghost use Rattle.avl_model.specs.Tree.{bal};
+ghost use Rattle.avl_model.specs.Rep.{climb};
+ghost use Rattle.avl_model.specs.Lists.{lists, aboveOf, attached};
+ghost use Rattle.avl_model.specs.Held.{Ready, Whole};
+ghost use Rattle.avl_model.specs.Names.{names, nameAt, toName, Inside};
+ghost use Rattle.avl_model.specs.Seek.{spotIn, Sought};
+ghost use Rattle.avl_model.specs.Insert.{Filled, Out};
+use avl_model::Inserted;
+use avl_model::Place;
+use avl_model::Spot;
+use avl_turn::index;
+use avl_turn::put;
+use avl_turn::settle;
+use layout_name::Order;
+use layout_name::compare_raised;
+use layout_name::raise_name;
+
+// The number that stands for no node.
+pub const NONE: u16 = 65535;
+
+fn wide(x: u32) -> usize
+    ensures { λ r. ⌜ (r ≡ x) × (r < 4294967296) ⌝ }
+{
+    x as usize
+}
+
+// The name of a node.
+pub fn name_of<'a>(bytes: &'a [u8], start: &[u32], len: &[u32], at: u16) -> &'a [u8]
+    requires { ⌜ Inside (names (now bytes) (now start) (now len)) at ⌝ }
+    ensures { λ r. ⌜ now r ≡ nameAt (names (now (bytes .entry)) (now (start .entry)) (now (len .entry))) at ⌝ }
+{
+    let i = index(at);
+    let from = wide(start[i]);
+    let to = from + wide(len[i]);
+    &bytes[from..to]
+}
+
+// Where a name, of which `copy` is the raised copy, stands or would hang.
+fn descend(
+    left: &[u16],
+    right: &[u16],
+    bytes: &[u8],
+    start: &[u32],
+    len: &[u32],
+    root: u16,
+    copy: &[u8; 255],
+    name: &[u8],
+) -> Spot
+    requires { ⌜ Sought (now left) (now right) root (names (now bytes) (now start) (now len)) ⌝ }
+    requires { ⌜ (length (now name) ≤ 255) × (now copy ≡ raisedCopy (now name)) ⌝ }
+    ensures { λ s. ⌜ ((w : Sought (now (left .entry)) (now (right .entry)) root (names (now (bytes .entry)) (now (start .entry)) (now (len .entry)))) →
+        s ≡ spotIn (toName (names (now (bytes .entry)) (now (start .entry)) (now (len .entry))) (now (name .entry))) (w .linked .t) Root) ⌝ }
+{
+    let mut at = root;
+    let mut place = Place::Root;
+    while at < NONE {
+        let other = name_of(bytes, start, len, at);
+        let i = index(at);
+        match compare_raised(copy, name, other) {
+            Order::Equal => return Spot::Same(at),
+            Order::Less => {
+                place = Place::Left(at);
+                at = left[i];
+            }
+            Order::Greater => {
+                place = Place::Right(at);
+                at = right[i];
+            }
+        }
+    }
+    Spot::Free(place)
+}
+
+// The parent at a place.
+fn above(place: Place) -> u16
+    ensures { λ p. ⌜ p ≡ aboveOf place ⌝ }
+{
+    match place {
+        Place::Root => NONE,
+        Place::Left(p) => p,
+        Place::Right(p) => p,
+    }
+}
+
+// A node with no children, at a place. Its height is made as the climb starts.
+fn attach(
+    root: &mut u16,
+    left: &mut [u16],
+    right: &mut [u16],
+    parent: &mut [u16],
+    height: &mut [u8],
+    place: Place,
+    new: u16,
+)
+    requires { ⌜ (new < length (now left)) × (new < length (now right)) × (new < length (now parent)) × (new < length (now height)) ⌝ }
+    ensures { λ _. ⌜ lists (now (root .exit)) (now (left .exit)) (now (right .exit)) (now (parent .exit)) (now (height .exit)) ≡ attached (lists (now (root .entry)) (now (left .entry)) (now (right .entry)) (now (parent .entry)) (now (height .entry))) place new ⌝ }
+{
+    put(root, left, right, place, new);
+    let i = index(new);
+    left[i] = NONE;
+    right[i] = NONE;
+    parent[i] = above(place);
+    height[i] = 0;
+}
+
+// From a node whose child has changed upwards: heights, and rotations where they are needed, as far as a height changes.
+fn rebalance(
+    root: &mut u16,
+    left: &mut [u16],
+    right: &mut [u16],
+    parent: &mut [u16],
+    height: &mut [u8],
+    from: u16,
+)
+    requires { ⌜ Ready (lists (now root) (now left) (now right) (now parent) (now height)) from ⌝ }
+    ensures { λ _. ⌜ ((w : Ready (lists (now (root .entry)) (now (left .entry)) (now (right .entry)) (now (parent .entry)) (now (height .entry))) from) →
+        Whole (lists (now (root .exit)) (now (left .exit)) (now (right .exit)) (now (parent .exit)) (now (height .exit))) (length (now (left .entry))) (climb (w .k) (bal (w .l) from (w .r)))) ⌝ }
+{
+    let mut at = from;
+    while at < NONE {
+        let i = index(at);
+        let old = height[i];
+        let t = settle(root, left, right, parent, height, at);
+        let j = index(t);
+        if height[j] == old {
+            return;
+        }
+        at = parent[j];
+    }
+}
+
+// Puts the node `new`, which has this name, into the tree; or says which node has the name already, and leaves all as it is.
+pub fn insert(
+    root: &mut u16,
+    left: &mut [u16],
+    right: &mut [u16],
+    parent: &mut [u16],
+    height: &mut [u8],
+    bytes: &[u8],
+    start: &[u32],
+    len: &[u32],
+    name: &[u8],
+    new: u16,
+) -> Inserted
+    requires { ⌜ Filled (lists (now root) (now left) (now right) (now parent) (now height)) (names (now bytes) (now start) (now len)) new ⌝ }
+    requires { ⌜ length (now name) ≤ 255 ⌝ }
+    ensures { λ r. ⌜ ((w : Filled (lists (now (root .entry)) (now (left .entry)) (now (right .entry)) (now (parent .entry)) (now (height .entry))) (names (now (bytes .entry)) (now (start .entry)) (now (len .entry))) new) →
+        Out (lists (now (root .entry)) (now (left .entry)) (now (right .entry)) (now (parent .entry)) (now (height .entry)))
+        (lists (now (root .exit)) (now (left .exit)) (now (right .exit)) (now (parent .exit)) (now (height .exit)))
+        (toName (names (now (bytes .entry)) (now (start .entry)) (now (len .entry))) (now (name .entry))) new (w .arena .t) r) ⌝ }
+{
+    let copy = raise_name(name);
+    let spot = descend(left, right, bytes, start, len, *root, &copy, name);
+    match spot {
+        Spot::Same(i) => Inserted::Duplicate(i),
+        Spot::Free(place) => {
+            attach(root, left, right, parent, height, place, new);
+            rebalance(root, left, right, parent, height, new);
+            Inserted::Done
+        }
+    }
+}

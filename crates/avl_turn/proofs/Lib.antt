@@ -1,0 +1,2 @@
+-- Laws that several functions of this crate cite.
+mod Hanging

@@ -1,0 +1,3 @@
+-- Laws of what is told of a reading, and of what a reading gives.
+pub mod Told
+pub mod Fit

@@ -1,0 +1,10 @@
+-- Laws of what a lookup answers.
+--     Told     what is told of an answer is one-to-one
+--     Cases    answers computed, Loops: answers 25
+--     Laws     what refusal 25 and a count mean; over Chains, which are of any step, and Pigeonhole
+pub mod Told
+pub mod Cases
+pub mod Pigeonhole
+pub mod Chains
+pub mod Laws
+pub mod Loops

@@ -1,0 +1,70 @@
+-- `read_lookup::any_high` meets its contract. The loop's invariant: the answer for the whole is that for what is left from i on. Assumes nothing.
+use Prim.Native.Nat.{ℕ, _+_, _≤_, _<_, _-_}
+use mathlib.Core.Path.{_≡_, refl, sym, _∙_}
+use mathlib.Core.Bool.{true, false}
+use mathlib.Core.List.{List}
+use native.Mathlib.Omega.{arith}
+use native.Mathlib.Numerals.{add-one}
+use borrow.Author.Needs.{needs}
+use borrow.Author.Tests.{lt-ltb, le-ltb}
+use lib.ListN.{length, drop, getD, drop-of-length-le}
+use lib.Seq.{drop-cons}
+use Rattle.read_lookup.specs.Lookup.{anyHigh}
+use Rattle.read_lookup.proofs.any_high.Statement.{statement}
+use Rattle.read_lookup.proofs.any_high.Tie as tie
+use Rattle.read_lookup.proofs.any_high.Reads as reads
+use Rattle.read_lookup.proofs.any_high.Lts as lts
+
+abbrev Inv-loop : tie.InvT-loop
+Inv-loop s i₀ i = (i ≤ length s) × (anyHigh s ≡ anyHigh (drop i s))
+
+abbrev μ-loop : tie.MeasureT-loop
+μ-loop s i₀ i = length s - i
+
+module _ (s : List ℕ) (i : ℕ) (so-far : anyHigh s ≡ anyHigh (drop i s)) where
+  high : i < length s → 127 < getD s i 0 → true ≡ anyHigh s
+  unfolding anyHigh
+  high h k = sym (so-far ∙ rw (drop-cons s i 0 h, lt-ltb _ _ k))
+
+  one-more : (j : ℕ) → j ≡ i + 1 → i < length s → getD s i 0 ≤ 127 → anyHigh s ≡ anyHigh (drop j s)
+  unfolding anyHigh
+  one-more j e h k = so-far ∙ rw (e, add-one, drop-cons s i 0 h, le-ltb _ _ k)
+
+  ended : length s ≤ i → false ≡ anyHigh s
+  unfolding anyHigh
+  ended h = sym (so-far ∙ rw (drop-of-length-le s h))
+
+loop-holds : tie.Need-loop-holds Inv-loop μ-loop
+loop-holds c = (omega arith, refl)
+
+shared-slice-read-if1 : tie.Need-shared-slice-read-if1 Inv-loop μ-loop
+shared-slice-read-if1 c = search needs
+
+returns : tie.Need-returns Inv-loop μ-loop
+returns c = search high
+
+add-i : tie.Need-add-i Inv-loop μ-loop
+add-i c = search needs
+
+loop-less : tie.Need-loop-less Inv-loop μ-loop
+loop-less c = search needs
+
+loop-again : tie.Need-loop-again Inv-loop μ-loop
+loop-again c = (search needs, search one-more)
+
+returns-2 : tie.Need-returns-2 Inv-loop μ-loop
+returns-2 c = search ended
+
+pub any-high-spec : {M : Type 1} → statement M
+any-high-spec =
+    tie.close
+    (tie.spec
+    Inv-loop
+    μ-loop
+    loop-holds
+    shared-slice-read-if1
+    returns
+    add-i
+    loop-less
+    loop-again
+    returns-2)

@@ -1,0 +1,9 @@
+-- Laws of what a path leads to.
+--     Told       what is told of an answer is one-to-one
+--     Cases      answers computed
+--     Slashes    which slashes of a path matter
+--     Parts      the parts of a path, one after the other
+pub mod Told
+pub mod Cases
+pub mod Parts
+pub mod Slashes
