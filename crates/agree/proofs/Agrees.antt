@@ -1,6 +1,6 @@
 -- DEMAND 3: what is written is what is listed is what is found. Assumes nothing.
 use Prim.Native.Nat.{ℕ, zero, suc, _+_, _-_, _*_, _/_, _≤_, _<_, max}
-use mathlib.Core.Path.{_≡_, refl, sym, ap, _∙_}
+use mathlib.Core.Path.{_≡_, refl, sym, ap, subst, _∙_}
 use mathlib.Core.Bool.{true, false}
 use mathlib.Core.List.{List, [], _∷_, _++_, map}
 use native.Mathlib.Omega.{arith}
@@ -18,9 +18,9 @@ use Rattle.avl_model.proofs.Avl.{avl-size, least-20, least-mono}
 use Rattle.table_model.specs.Entry.{Entry, Item, lengthOf}
 use Rattle.table_model.specs.Place.{stopOf, endOf, freeAfter, freeOf, items}
 use Rattle.table_model.specs.Table.{stop, tableBytes}
-use Rattle.table_model.specs.Said.{AllIn, Fits, LinkFits, Apart}
+use Rattle.table_model.specs.Said.{AllIn, Fits, LinkFits, Stands, Apart}
 use Rattle.table_model.proofs.Places.{FitsAt, start-at}
-use Rattle.table_model.proofs.Geometry.{all-left, all-right, apart, items-length}
+use Rattle.table_model.proofs.Geometry.{all-left, all-right, inside, apart, sectors-apart, items-length}
 use Rattle.table_model.proofs.Placing.{links-fit}
 use Rattle.agree.specs.Written.{Writable, Stand, Written}
 use Rattle.agree.specs.Agreement.{offsets, ReadBack, Reached, Sound, Agreement}
@@ -102,6 +102,9 @@ pub agreement : (absent : List ℕ) → isIn 0 absent ≡ true
     → (entry : ℕ → Entry) (align s : ℕ) (x : Tree) (w : List ℕ) (first : Sector) (t : Region) (g : Written entry align s x w first t)
     → Agreement absent w first t (g .stand .place) (items entry align 0 s x)
 agreement absent none entry align s x w first t g = record {
+  inside = subst (λ (n : ℕ). AllIn (Stands 0 n) (items entry align 0 s x)) (sym (g .sized)) (inside entry align x s (g .writable .fits));
+  apart = apart entry align x s (g .writable .fits);
+  sectors = sectors-apart entry align (g .writable .aligned) x 0 s;
   listed = λ room h. walk-written entry align s x w first t g room (omega (arith, items-length entry align x 0 s));
   once = differ (items entry align 0 s x) (apart entry align x s (g .writable .fits));
   read = all-back (setting entry align s x w first t g) x 0 s (ready entry align s x w first t g);

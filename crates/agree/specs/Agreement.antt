@@ -15,7 +15,7 @@ use Rattle.read_entry.specs.Entry.{Placed, readAt, nameOf}
 use Rattle.read_lookup.specs.Lookup.{Finding, anyHigh, lookupBy}
 use Rattle.read_walk.specs.Walk.{walkOf}
 use Rattle.table_model.specs.Entry.{Item, headerFor}
-use Rattle.table_model.specs.Said.{AllIn}
+use Rattle.table_model.specs.Said.{AllIn, Stands, Apart, SectorsApart}
 use Rattle.agree.specs.Along.{Along, answerAlong}
 
 -- the items' offsets
@@ -54,6 +54,10 @@ module _ (absent : List ℕ) (w : List ℕ) (first : Sector) (t : Region) (place
     missing : (c : ℕ) → c ≤ m → Sound xs m name (refuses 22 (c ∷ []))
 
   pub record Agreement (xs : List Item) : Type 0 where
+    -- the items are inside the table, cross no sector line and do not overlap, nor do their sectors
+    pub inside : AllIn (Stands 0 (t .size)) xs
+    pub apart : Apart xs
+    pub sectors : SectorsApart xs
     -- the walk lists the items' offsets, in preorder, where its list has room
     pub listed : (room : ℕ) → length xs ≤ room → walkOf w first t room ≡ gives (offsets xs)
     -- none of them twice

@@ -2,3 +2,4 @@
 pub mod Written
 pub mod Along
 pub mod Agreement
+pub mod Given

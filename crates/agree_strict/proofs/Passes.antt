@@ -3,7 +3,7 @@
 use Prim.Native.Nat.{ℕ, zero, suc, _+_, _-_, _*_, _/_, _≤_, _<_}
 use mathlib.Core.Path.{_≡_, refl, sym, ap, ap₂, _∙_}
 use mathlib.Core.Bool.{Bool, true, false}
-use mathlib.Core.List.{List, [], _∷_, _++_, append-assoc, append-nil}
+use mathlib.Core.List.{List, [], _∷_, _++_, append-assoc, append-nil, map-append}
 use mathlib.Core.Option.{Option, some, none}
 use native.Mathlib.Omega.{arith}
 use native.Mathlib.Nat.{sub-zero}
@@ -34,7 +34,7 @@ use Rattle.agree.specs.Written.{Before, Written}
 use Rattle.agree.specs.Agreement.{offsets, placedAt}
 use Rattle.agree.proofs.Setting.{Setting, start, stop, end, link, next, free, item, its, reads, Back}
 use Rattle.agree.proofs.Holds.{Ready, has-node, started, left-ready, right-ready, linked, ends, at-zero, all-back, setting, ready}
-use Rattle.agree.proofs.Walks.{map-append, link-there, link-none, empty-read}
+use Rattle.agree.proofs.Walks.{link-there, link-none, empty-read}
 
 abbrev AllOf : (ℕ → Type 0) → List ℕ → Type 0
 AllOf P [] = Unit {0}

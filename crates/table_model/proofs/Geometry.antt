@@ -2,12 +2,13 @@
 use Prim.Native.Nat.{ℕ, _+_, _-_, _*_, _/_, _%_, _≤_, _<_}
 use mathlib.Core.Path.{_≡_, refl, sym, ap, ap₂, _∙_}
 use mathlib.Core.Bool.{Bool, true, false}
-use mathlib.Core.List.{List, [], _∷_, _++_, map}
+use mathlib.Core.List.{List, [], _∷_, _++_, map, map-append}
 use native.Mathlib.Omega.{arith}
 use lib.ListN.{length, length-append}
 use Rattle.layout_sector.specs.Counter.{sectorsFor, alignedUp}
 use Rattle.avl_model.specs.Tree.{Tree, leaf, node}
 use Rattle.avl_model.specs.Laws.{All, size}
+use Rattle.avl_model.specs.Order.{order}
 use Rattle.table_model.specs.Entry.{Entry, Item, lengthOf}
 use Rattle.table_model.specs.Place.{startOf, stopOf, endOf, freeAfter, freeOf, linkTo, itemOf, items}
 use Rattle.table_model.specs.Table.{stop, sizeOf}
@@ -149,6 +150,18 @@ module _ (entry : ℕ → Entry) (align : ℕ) where
   unfolding items
   link-first leaf e s = refl
   link-first (node l i r) e s = refl
+
+  -- the items' entries are those of the tree's numbers in preorder
+  pub items-entries : (t : Tree) (e s : ℕ) → map (λ (y : Item). y .entry) (items entry align e s t) ≡ map entry (order t)
+  unfolding items
+  items-entries leaf e s = refl
+  items-entries (node l i r) e s =
+      let e₁ : ℕ = stopOf entry e i in
+      let s₁ : ℕ = freeAfter entry align s i in
+      ap (λ (z : List Entry). entry i ∷ z)
+      (map-append (λ (y : Item). y .entry) (items entry align e₁ s₁ l) (items entry align (endOf entry e₁ l) (freeOf entry align s₁ l) r)
+      ∙ ap₂ _++_ (items-entries l e₁ s₁) (items-entries r (endOf entry e₁ l) (freeOf entry align s₁ l))
+      ∙ sym (map-append entry (order l) (order r)))
 
   -- an item for each node
   pub items-length : (t : Tree) (e s : ℕ) → length (items entry align e s t) ≡ size t
