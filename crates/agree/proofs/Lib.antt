@@ -6,3 +6,4 @@ pub mod Reaches
 pub mod Agrees
 pub mod Plain
 pub mod FromList
+pub mod Cases

@@ -22,6 +22,7 @@ use Rattle.avl_model.specs.Tree.{Tree}
 use Rattle.table_model.specs.Entry.{Entry, Item}
 use Rattle.table_model.specs.Place.{items}
 use Rattle.table_model.specs.Said.{AllIn}
+use Rattle.table_model.proofs.Geometry.{of-item}
 use Rattle.agree.specs.Written.{Written}
 use Rattle.agree.specs.Along.{answerAlong}
 use Rattle.agree.specs.Agreement.{placedAt, Same, Reached, Sound, found, missing, Agreement}
@@ -46,15 +47,6 @@ along-absent absent x o n (j ∷ ks) k m e = go (isIn j absent) refl (List·Mem�
     go true d q ih = (n, refl)
     go false d (inl q) ih = let z : false ≡ true = sym d ∙ ap (λ (i : ℕ). isIn i absent) (sym q) ∙ e in let y : _≡_ {A = ℕ} 0 1 = cc in absurd (omega arith)
     go false d (inr q) ih = ih q
-
--- of one of the items
-of-item : (P : Item → Type 0) (xs : List Item) (y : Item) → AllIn P xs → List·Memᴰ y xs → P y
-of-item P [] y a m = absurd (List·Memᴰ·not-nil m)
-of-item P (x ∷ xs) y a m = go (List·Memᴰ·cases-cons m) (λ k. of-item P xs y (a .1) k)
-  where
-    go : (y ≡ x) ⊎ List·Memᴰ y xs → (List·Memᴰ y xs → P y) → P y
-    go (inl e) ih = rw e (a .0)
-    go (inr k) ih = ih k
 
 -- which links today's lookup takes for absent
 in-lookup : (k : ℕ) → (k ≡ 0 → ⊥) → (k ≡ 255 → ⊥) → isIn k lookupAbsent ≡ false

@@ -3,3 +3,4 @@ pub mod Written
 pub mod Along
 pub mod Agreement
 pub mod Given
+pub mod Cases

@@ -2,7 +2,8 @@
 use Prim.Native.Nat.{ℕ, _+_, _-_, _*_, _/_, _%_, _≤_, _<_}
 use mathlib.Core.Path.{_≡_, refl, sym, ap, ap₂, _∙_}
 use mathlib.Core.Bool.{Bool, true, false}
-use mathlib.Core.List.{List, [], _∷_, _++_, map, map-append}
+use mathlib.Core.Logic.{_⊎_, inl, inr}
+use mathlib.Core.List.{List, [], _∷_, _++_, map, map-append, List·Memᴰ, List·Memᴰ·not-nil, List·Memᴰ·cases-cons}
 use native.Mathlib.Omega.{arith}
 use lib.ListN.{length, length-append}
 use Rattle.layout_sector.specs.Counter.{sectorsFor, alignedUp}
@@ -37,6 +38,15 @@ all-left P (x ∷ xs) ys a = (a .0, all-left P xs ys (a .1))
 pub all-right : (P : Item → Type 0) (xs ys : List Item) → AllIn P (xs ++ ys) → AllIn P ys
 all-right P [] ys a = a
 all-right P (x ∷ xs) ys a = all-right P xs ys (a .1)
+
+-- what is said of every item is said of one of them
+pub of-item : (P : Item → Type 0) (xs : List Item) (y : Item) → AllIn P xs → List·Memᴰ y xs → P y
+of-item P [] y a m = absurd (List·Memᴰ·not-nil m)
+of-item P (x ∷ xs) y a m = go (List·Memᴰ·cases-cons m) (λ k. of-item P xs y (a .1) k)
+  where
+    go : (y ≡ x) ⊎ List·Memᴰ y xs → (List·Memᴰ y xs → P y) → P y
+    go (inl e) ih = rw e (a .0)
+    go (inr k) ih = ih k
 
 -- no two of one list overlap, nor of another, and the first list is before the second: no two of both overlap. `from` and `to` say where an item starts
 -- and ends, by its bytes or by its sectors
