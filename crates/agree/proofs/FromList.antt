@@ -21,11 +21,11 @@ use Rattle.dirtab_entry.specs.Entry.{isDirectory, storedSize, isBad, anyBad}
 use Rattle.read_entry.specs.Links.{isIn}
 use Rattle.read_lookup.specs.Lookup.{anyHigh}
 use Rattle.avl_model.specs.Tree.{Tree, leaf, node, δ, cnt, ins}
-use Rattle.avl_model.specs.Laws.{Avl, All, Ordered}
+use Rattle.avl_model.specs.Laws.{Avl, All, Ordered, size}
 use Rattle.avl_model.specs.Names.{Names, nameAt, toName, isLess}
 use Rattle.avl_model.specs.Names as names
 use Rattle.avl_model.specs.Order.{order}
-use Rattle.avl_model.proofs.Avl.{ins-avl, ins-ordered, all-ins, all-map}
+use Rattle.avl_model.proofs.Avl.{ins-avl, ins-ordered, all-ins, all-map, tally, size-tally}
 use Rattle.avl_model.proofs.Bal.{ins-cnt}
 use Rattle.avl_model.proofs.Counted.{all-below}
 use Rattle.avl_model.proofs.Frame.{δ-same, δ-apart}
@@ -70,6 +70,14 @@ module _ (entry : ℕ → Entry) where
     | yes e ↦ omega (arith, all-below n (grown entry n) i (grown-below n) (omega arith), ap (λ (k : ℕ). δ k i) e, δ-same i)
     | no d ↦ omega (arith, grown-once n i (omega arith), δ-apart n i d)
   ]
+
+  grown-size : (n : ℕ) → size (grown entry n) ≡ n
+  grown-size n =
+      sym (size-tally n (grown entry n) (grown-below n)) ∙ tally-ones n (omega arith)
+    where
+      tally-ones : (m : ℕ) → m ≤ n → tally m (λ j. cnt j (grown entry n)) ≡ m
+      tally-ones zero h = refl
+      tally-ones (suc m) h = omega (arith, grown-once n m (omega arith), tally-ones m (omega arith))
 
   -- the same tree as that of names in lent bytes, where the entries' names are those
   pub grown-names : (N : Names) → ((i : ℕ) → entry i .name ≡ nameAt N i) → (n : ℕ) → grown entry n ≡ names.grown N n
@@ -116,6 +124,10 @@ module _ (align s : ℕ) (gs : List Given) (w : List ℕ) (first : Sector) (t : 
   pub list-agreement : (absent : List ℕ) → isIn 0 absent ≡ true → Agreement absent w first t (g .stand .place) (items (entryOf gs) align 0 s (treeOf gs))
   unfolding list-written
   list-agreement absent none = agreement absent none (entryOf gs) align s (treeOf gs) w first t list-written
+
+  -- as many nodes as entries
+  pub list-size : size (treeOf gs) ≡ length gs
+  list-size = grown-size (entryOf gs) (length gs)
 
   -- and it is each entry of the list once
   pub list-once : EachOnce gs (items (entryOf gs) align 0 s (treeOf gs))

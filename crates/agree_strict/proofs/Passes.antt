@@ -8,6 +8,7 @@ use mathlib.Core.Option.{Option, some, none}
 use native.Mathlib.Omega.{arith}
 use native.Mathlib.Nat.{sub-zero}
 use lib.Dec.{leb}
+use lib.ListN.{length}
 use borrow.Author.Tests.{eq-eqb, ne-eqb, le-leb}
 use Rattle.units.specs.Told.{Told, gives, pick}
 use Rattle.units.specs.declared.Sector.{Sector}
@@ -32,8 +33,10 @@ use Rattle.table_model.proofs.Places.{Starts}
 use Rattle.table_model.proofs.Geometry.{items-stand}
 use Rattle.agree.specs.Written.{Before, Written}
 use Rattle.agree.specs.Agreement.{offsets, placedAt}
+use Rattle.agree.specs.Given.{Given, entryOf, treeOf, WrittenList}
 use Rattle.agree.proofs.Setting.{Setting, start, stop, end, link, next, free, item, its, reads, Back}
 use Rattle.agree.proofs.Holds.{Ready, has-node, started, left-ready, right-ready, linked, ends, at-zero, all-back, setting, ready}
+use Rattle.agree.proofs.FromList.{list-written, list-size}
 use Rattle.agree.proofs.Walks.{link-there, link-none, empty-read}
 
 abbrev AllOf : (ℕ → Type 0) → List ℕ → Type 0
@@ -243,3 +246,9 @@ written-passes entry align s leaf w first t g room h =
     rw (ne-eqb (t .size) 0 (λ q. omega (arith, g .sized))) (strict-none w (readAt w first t) (t .size) room (empty-read entry align s w first t (g .stand) (g .sized)))
 written-passes entry align s (node l i r) w first t g room h =
     strict-node (setting entry align s (node l i r) w first t g) l i r s (ready entry align s (node l i r) w first t g) (g .writable .ordered) room h
+
+-- and so the table of every list that is admitted
+pub list-passes : (align s : ℕ) (gs : List Given) (w : List ℕ) (first : Sector) (t : Region) → WrittenList align s gs w first t
+    → (room : ℕ) → length gs ≤ room → strictOf w first t room ≡ gives (offsets (items (entryOf gs) align 0 s (treeOf gs)))
+list-passes align s gs w first t g room h =
+    written-passes (entryOf gs) align s (treeOf gs) w first t (list-written align s gs w first t g) room (omega (arith, list-size align s gs w first t g))
