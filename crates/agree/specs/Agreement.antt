@@ -30,6 +30,10 @@ placedAt place y = record { header = headerFor y; place = place + y .offset }
 abbrev pub Same : List ℕ → List ℕ → Type 0
 Same a b = map raised a ≡ map raised b
 
+-- no lookup in a written table reads more headers
+abbrev pub mostHeaders : ℕ
+mostHeaders = 19
+
 module _ (w : List ℕ) (first : Sector) (t : Region) (place : ℕ) where
   -- an item is read back at its offset: its links, sector, size and kind, and its name
   pub record ReadBack (y : Item) : Type 0 where
@@ -66,5 +70,5 @@ module _ (absent : List ℕ) (w : List ℕ) (first : Sector) (t : Region) (place
     pub read : AllIn (ReadBack w first t place) xs
     -- each is found under its name unless a link on the way is taken for absent
     pub reached : AllIn Reached xs
-    -- nothing else is found, and no lookup reads more than 19 headers
-    pub sound : (name : List ℕ) → anyHigh name ≡ false → Sound xs 19 name (lookupBy absent w first t name)
+    -- nothing else is found, and no lookup reads more headers than that
+    pub sound : (name : List ℕ) → anyHigh name ≡ false → Sound xs mostHeaders name (lookupBy absent w first t name)
