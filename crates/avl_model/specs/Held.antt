@@ -15,6 +15,7 @@ pub record Long (n : ℕ) (S : Lists) : Type 0 where
   pub p : length (S .P) ≡ n
   pub h : length (S .H) ≡ n
 
+-- the four lists and the root as functions from an index
 abbrev pub arrOf : Lists → Arr
 arrOf S = arr (S .root) (S .L) (S .R) (S .P) (S .H)
 
