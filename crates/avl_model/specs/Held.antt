@@ -4,7 +4,7 @@ use Prim.Native.Nat.{ℕ, suc, _+_, _≤_, _<_, max}
 use mathlib.Core.Path.{_≡_}
 use lib.ListN.{length, getD}
 use Rattle.avl_model.specs.Lists.{Lists}
-use Rattle.avl_model.specs.Tree.{Tree, leaf, node, none, top, ht, δ, cnt}
+use Rattle.avl_model.specs.Tree.{Tree, node, none, top, ht, δ, cnt}
 use Rattle.avl_model.specs.Laws.{Avl}
 use Rattle.avl_model.specs.Rep.{Arr, arr, Rep, Ctx, hole, inL, inR, over, cntK, Link, RepK, At}
 

@@ -1,5 +1,5 @@
 -- What an AVL tree is: order, balance, and how few nodes a height takes.
-use Prim.Native.Nat.{ℕ, zero, suc, _+_, _≤_, max}
+use Prim.Native.Nat.{ℕ, zero, suc, _+_, _≤_}
 use Rattle.avl_model.specs.Tree.{Tree, leaf, node, ht}
 
 -- the heights at each node differ by at most one

@@ -1,17 +1,17 @@
 -- Where a new node goes, in the tree and in the arrays.
-use Prim.Native.Nat.{ℕ, zero, suc, _+_, _≤_, _<_, max}
+use Prim.Native.Nat.{ℕ, zero, suc, _≤_, _<_}
 use mathlib.Core.Path.{_≡_}
 use mathlib.Core.Bool.{Bool, true, false}
 use mathlib.Core.List.{List}
 use lib.ListN.{length, getD}
-use lib.Dec.{ltb, eqb}
+use lib.Dec.{ltb}
 use Rattle.layout_name.specs.declared.Order.{Order}
 use Rattle.layout_name.specs.declared.Order.the-variants.{Less, Equal, Greater}
 use Rattle.avl_model.specs.declared.Place.{Place}
 use Rattle.avl_model.specs.declared.Place.the-variants.{Root, Left, Right}
 use Rattle.avl_model.specs.declared.Spot.{Spot}
 use Rattle.avl_model.specs.declared.Spot.the-variants.{Same, Free}
-use Rattle.avl_model.specs.Tree.{Tree, leaf, node, none, top, ht, bal}
+use Rattle.avl_model.specs.Tree.{Tree, leaf, node, none, top, ht}
 use Rattle.avl_model.specs.Rep.{Ctx, hole, inL, inR}
 use Rattle.avl_model.specs.Laws.{All}
 use Rattle.avl_model.specs.Names.{Names, Inside}
