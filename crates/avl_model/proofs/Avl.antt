@@ -312,7 +312,7 @@ size-tally n (node l i r) a = tally-add n (λ j. cnt j l) (λ j. δ i j + cnt j 
 pub size-le : (n : ℕ) (t : Tree) → All (λ j. j < n) t → ((j : ℕ) → cnt j t ≤ 1) → size t ≤ n
 size-le n t a o = omega (arith, size-tally n t a, tally-le n (λ j. cnt j t) o)
 
-least-mono : (a b : ℕ) → a ≤ b → least a ≤ least b
+pub least-mono : (a b : ℕ) → a ≤ b → least a ≤ least b
 least-mono a zero h = subst (λ (v : ℕ). least v ≤ least zero) {x = zero} {y = a} (omega arith) (omega arith)
 least-mono a (suc b) h = elim (decLe a b) [
   | yes k ↦ omega (arith, least-mono a b k, least-step b)

@@ -21,3 +21,5 @@ pub mod ByPath
 pub mod Written
 pub mod Search
 pub mod Cases
+pub mod Order
+pub mod Counted

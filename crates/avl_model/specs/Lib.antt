@@ -9,3 +9,4 @@ pub mod Seek
 pub mod Insert
 pub mod Columns
 pub mod Rust
+pub mod Order

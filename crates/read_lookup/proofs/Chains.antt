@@ -1,7 +1,7 @@
 -- Chains of any step, with the bound of `chainFrom` and without it. A step's refusals are told apart from the answers of a chain: they are 23 or 24.
 -- Assumes nothing.
 use Prim.Native.Nat.{ℕ, zero, suc, _+_, _-_, _*_, _/_, _≤_, _<_}
-use mathlib.Core.Path.{_≡_, refl, sym, ap, _∙_}
+use mathlib.Core.Path.{_≡_, refl, sym, ap, subst, _∙_}
 use mathlib.Core.List.{List, [], _∷_}
 use mathlib.Core.Option.{Option, some, none}
 use native.Mathlib.Nat.{suc-add, zero-add, suc-mul, zero-mul, add-comm, le-mul-of-pos-right}
@@ -84,6 +84,22 @@ module _ (f : ℕ → Leads) where
   -- a chain that reads an offset again never ends
   pub again-endless : (o : ℕ) → ReadsAgain f o → Endless f o
   again-endless o r = record { read = λ k. again-reads o r k .0; reads = λ k. again-reads o r k .1 }
+
+  -- what a chain gives is what the step at its offset leads to
+  found-by : (o : ℕ) (s : Leads) (k n : ℕ) (x : Finding) → f o ≡ s → ((p : ℕ) → chainFrom f k n p ≡ gives x → f (x .offset) ≡ found (x .entry)) →
+      ending s o n (λ p. chainFrom f k n p) ≡ gives x → f (x .offset) ≡ found (x .entry)
+  found-by o (found y) k n x g IH e =
+      let z : Finding = record { entry = y; offset = o; headers = n } in
+      let q : z ≡ x = cc in
+      subst (λ (v : Finding). f (v .offset) ≡ found (v .entry)) q g
+  found-by o missing k n x g IH e = let z : _≡_ {A = ℕ} 0 1 = cc in absurd (omega arith)
+  found-by o (refused c vs) k n x g IH e = let z : _≡_ {A = ℕ} 0 1 = cc in absurd (omega arith)
+  found-by o (onward p) k n x g IH e = IH p e
+
+  pub chain-found : (k n o : ℕ) (x : Finding) → chainFrom f k n o ≡ gives x → f (x .offset) ≡ found (x .entry)
+  unfolding chainFrom
+  chain-found zero n o x e = let z : _≡_ {A = ℕ} 0 1 = cc in absurd (omega arith)
+  chain-found (suc k) n o x e = found-by o (f o) k (n + 1) x refl (λ p q. chain-found k (n + 1) p x q) e
 
 -- every offset that a chain reads is four times a number below m
 abbrev pub Linked : ℕ → ℕ → Type 0

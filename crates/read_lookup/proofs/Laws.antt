@@ -1,9 +1,10 @@
--- What refusal 25 means, and what a count means, for every set of absent links. Assumes nothing.
+-- What an entry that is given, refusal 25 and a count mean, for every set of absent links. Assumes nothing.
 --     looped-again, again-looped        25 is answered exactly where an offset would be read again ..
 --     looped-endless, endless-looped    .. which is exactly where the chain never ends
+--     found-stands                      an entry that is given stands at its offset, and its name is the one sought
 --     count-is-length                   a count is the length of the chain
 use Prim.Native.Nat.{ℕ, _+_, _*_, _<_}
-use mathlib.Core.Path.{_≡_, refl, sym, _∙_}
+use mathlib.Core.Path.{_≡_, refl, ap, subst}
 use mathlib.Core.Bool.{Bool, true, false}
 use mathlib.Core.List.{List, [], _∷_}
 use mathlib.Core.Option.{Option, some, none}
@@ -23,7 +24,7 @@ use Rattle.read_lookup.specs.Lookup.{Leads, found, missing, refused, onw
 use Rattle.read_lookup.specs.Chain.{Endless, ReadsAgain, LengthIs, countOf}
 use Rattle.read_lookup.proofs.Chains as chains
 
--- one step's offset is four times a link, and its refusals are those of reading
+-- where one step leads: its offset is four times a link, its refusals are those of reading, and what it finds is what was read
 module _ (absent : List ℕ) where
   pick-linked : (b : Bool) (k p : ℕ) → k < 65536 → pick b missing (onward (4 * k)) ≡ onward p → chains.Linked most p
   pick-linked true k p h e = let z : _≡_ {A = ℕ} 0 1 = cc in absurd (omega arith)
@@ -51,7 +52,48 @@ module _ (absent : List ℕ) where
   order-reads x Equal c vs e = let z : _≡_ {A = ℕ} 0 1 = cc in absurd (omega arith)
   order-reads x Greater c vs e = link-reads (x .header .right .0) c vs e
 
+  pick-found : (b : Bool) (k : ℕ) (z : Placed) → pick b missing (onward (4 * k)) ≡ found z → ⊥
+  pick-found true k z e = let q : _≡_ {A = ℕ} 0 1 = cc in omega arith
+  pick-found false k z e = let q : _≡_ {A = ℕ} 0 1 = cc in omega arith
+
+  link-found : (k : ℕ) (z : Placed) → byLink absent k ≡ found z → ⊥
+  unfolding byLink
+  link-found k z e = pick-found (isIn k absent) k z e
+
+  order-found : (x : Placed) (c : Order) (z : Placed) → byOrder absent x c ≡ found z → (x ≡ z) × (c ≡ Equal)
+  order-found x Less z e = absurd (link-found (x .header .left .0) z e)
+  order-found x Equal z e = (cc, refl)
+  order-found x Greater z e = absurd (link-found (x .header .right .0) z e)
+
+-- an entry's name is the one sought
+abbrev pub Named : List ℕ → List ℕ → Placed → Type 0
+Named w name x = nameOrder name (nameOf w (x .place) (x .header .«name_len»)) ≡ Equal
+
 module _ (absent w : List ℕ) (first : Sector) (t : Region) (name : List ℕ) where
+  read-found : (r : Told (Option Placed)) (z : Placed) → byRead absent w name r ≡ found z → (r ≡ gives (some z)) × Named w name z
+  read-found (gives (some x)) z e =
+      let f = order-found absent x (nameOrder name (nameOf w (x .place) (x .header .«name_len»))) z e in
+      (ap (λ (y : Placed). gives (some y)) (f .0), subst (λ (y : Placed). Named w name y) (f .0) (f .1))
+  read-found (gives none) z e = let q : _≡_ {A = ℕ} 0 1 = cc in absurd (omega arith)
+  read-found (refuses k vs) z e = let q : _≡_ {A = ℕ} 0 1 = cc in absurd (omega arith)
+
+  step-found : (o : ℕ) (z : Placed) → stepAt absent w first t name o ≡ found z → (readAt w first t o ≡ gives (some z)) × Named w name z
+  unfolding stepAt
+  step-found o z e = read-found (readAt w first t o) z e
+
+  given-by-chain : (a b : Bool) (r : Told Finding) (x : Finding) → pick a (refuses 2 []) (pick b (refuses 21 []) r) ≡ gives x → r ≡ gives x
+  given-by-chain true b r x e = let z : _≡_ {A = ℕ} 0 1 = cc in absurd (omega arith)
+  given-by-chain false true r x e = let z : _≡_ {A = ℕ} 0 1 = cc in absurd (omega arith)
+  given-by-chain false false r x e = e
+
+  -- an entry that is given stands at its offset, and its name is the one sought
+  pub found-stands : (x : Finding) → lookupBy absent w first t name ≡ gives x → (readAt w first t (x .offset) ≡ gives (some (x .entry))) × Named w name (x .entry)
+  unfolding lookupBy
+  found-stands x e =
+      let f : ℕ → Leads = stepAt absent w first t name in
+      step-found (x .offset) (x .entry)
+      (chains.chain-found f most 0 0 x (given-by-chain (anyHigh name) (eqb (t .size) 0) (chainFrom f most 0 0) x e))
+
   read-reads : (o : ℕ) (r : Told (Option Placed)) → readAt w first t o ≡ r → chains.Reading (byRead absent w name r)
   read-reads o (gives (some x)) d c vs e = order-reads absent x (nameOrder name (nameOf w (x .place) (x .header .«name_len»))) c vs e
   read-reads o (gives none) d c vs e = let z : _≡_ {A = ℕ} 0 1 = cc in absurd (omega arith)

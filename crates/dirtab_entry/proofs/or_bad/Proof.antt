@@ -1,5 +1,4 @@
 -- `dirtab_entry::or_bad` meets its contract: by cases on the byte. Assumes nothing.
-use borrow.Author.Needs.{needs}
 use Rattle.dirtab_entry.proofs.Bad.{zero-byte, high-byte, good-byte}
 use Rattle.dirtab_entry.proofs.or_bad.Statement.{statement}
 use Rattle.dirtab_entry.proofs.or_bad.Tie as tie

@@ -1,0 +1,25 @@
+-- `avl_arena::is_between` meets its contract: after the one bound and before the other.
+use borrow.Author.Needs.{needs}
+use native.Mathlib.Omega.{arith}
+use mathlib.Core.Path.{_≡_, refl, sym, ap, subst, _∙_}
+use Rattle.avl_arena.specs.Test.{between}
+use Rattle.avl_arena.proofs.Tested.{and-first, and-second}
+use Rattle.avl_arena.proofs.is_between.Statement.{statement}
+use Rattle.avl_arena.proofs.is_between.Tie as tie
+
+is-after-requires : tie.Need-is-after-requires
+is-after-requires c κs = search needs
+
+is-before-requires : tie.Need-is-before-requires
+is-before-requires c κs = search needs
+
+returns : tie.Need-returns
+unfolding between
+returns c = and-second (c .before .before .is-after .ensures) (c .before .if1 .taken) (c .is-before .ensures)
+
+returns-2 : tie.Need-returns-2
+unfolding between
+returns-2 c = and-first _ (c .before .is-after .ensures) (c .if1 .left)
+
+pub is-between-spec : {M : Type 1} → statement M
+is-between-spec = tie.close (tie.spec is-after-requires is-before-requires returns returns-2)

@@ -1,0 +1,64 @@
+-- `avl_arena::is_tree` meets its contract: each way out is a test of `holdsTree`, on the first places of each column.
+use borrow.Author.Needs.{needs}
+use mathlib.Core.Path.{sym}
+use lib.Seq.{length-take-le}
+use Rattle.avl_arena.proofs.Parts.{have, as-long, lent, no-places, no-inside, by-whole}
+use Rattle.avl_arena.proofs.is_tree.Statement.{statement}
+use Rattle.avl_arena.proofs.is_tree.Tie as tie
+
+widen-requires : tie.Need-widen-requires
+widen-requires c κs = search needs
+
+have-places-requires : tie.Need-have-places-requires
+have-places-requires c κs = search needs
+
+slice-aggregate-s : tie.Need-slice-aggregate-s
+slice-aggregate-s c = sym (length-take-le (c .before .before .before .widen .result) (c .before .before .before .before .before .before .before .before .before .before .before .args .start .now) (have (c .before .before .before .before .before .before .before .before .before .before .before .args .root) (c .before .before .before .before .before .before .before .before .before .before .before .args .left .now) (c .before .before .before .before .before .before .before .before .before .before .before .args .right .now) (c .before .before .before .before .before .before .before .before .before .before .before .args .parent .now) (c .before .before .before .before .before .before .before .before .before .before .before .args .height .now) (c .before .before .before .before .before .before .before .before .before .before .before .args .bytes .now) (c .before .before .before .before .before .before .before .before .before .before .before .args .start .now) (c .before .before .before .before .before .before .before .before .before .before .before .args .len .now) (c .before .before .before .before .before .before .before .before .before .before .before .args .count) (c .before .before .before .widen .result) (c .before .before .before .widen .ensures) (c .before .before .have-places .ensures) (c .before .if1 .taken) .start))
+
+slice-aggregate-e : tie.Need-slice-aggregate-e
+slice-aggregate-e c = sym (length-take-le (c .before .before .before .before .widen .result) (c .before .before .before .before .before .before .before .before .before .before .before .before .args .len .now) (have (c .before .before .before .before .before .before .before .before .before .before .before .before .args .root) (c .before .before .before .before .before .before .before .before .before .before .before .before .args .left .now) (c .before .before .before .before .before .before .before .before .before .before .before .before .args .right .now) (c .before .before .before .before .before .before .before .before .before .before .before .before .args .parent .now) (c .before .before .before .before .before .before .before .before .before .before .before .before .args .height .now) (c .before .before .before .before .before .before .before .before .before .before .before .before .args .bytes .now) (c .before .before .before .before .before .before .before .before .before .before .before .before .args .start .now) (c .before .before .before .before .before .before .before .before .before .before .before .before .args .len .now) (c .before .before .before .before .before .before .before .before .before .before .before .before .args .count) (c .before .before .before .before .widen .result) (c .before .before .before .before .widen .ensures) (c .before .before .before .have-places .ensures) (c .before .before .if1 .taken) .len))
+
+are-inside-requires : tie.Need-are-inside-requires
+are-inside-requires c κs = as-long (c .before .before .before .before .before .before .before .before .before .before .before .before .args .root) (c .before .before .before .before .before .before .before .before .before .before .before .before .args .left .now) (c .before .before .before .before .before .before .before .before .before .before .before .before .args .right .now) (c .before .before .before .before .before .before .before .before .before .before .before .before .args .parent .now) (c .before .before .before .before .before .before .before .before .before .before .before .before .args .height .now) (c .before .before .before .before .before .before .before .before .before .before .before .before .args .bytes .now) (c .before .before .before .before .before .before .before .before .before .before .before .before .args .start .now) (c .before .before .before .before .before .before .before .before .before .before .before .before .args .len .now) (c .before .before .before .before .before .before .before .before .before .before .before .before .args .count) (c .before .before .before .before .widen .result) (c .before .before .before .before .widen .ensures) (c .before .before .before .have-places .ensures) (c .before .before .if1 .taken)
+
+slice-aggregate-is-whole : tie.Need-slice-aggregate-is-whole
+slice-aggregate-is-whole c = sym (length-take-le (c .before .before .before .before .before .before .before .widen .result) (c .before .before .before .before .before .before .before .before .before .before .before .before .before .before .before .args .left .now) (have (c .before .before .before .before .before .before .before .before .before .before .before .before .before .before .before .args .root) (c .before .before .before .before .before .before .before .before .before .before .before .before .before .before .before .args .left .now) (c .before .before .before .before .before .before .before .before .before .before .before .before .before .before .before .args .right .now) (c .before .before .before .before .before .before .before .before .before .before .before .before .before .before .before .args .parent .now) (c .before .before .before .before .before .before .before .before .before .before .before .before .before .before .before .args .height .now) (c .before .before .before .before .before .before .before .before .before .before .before .before .before .before .before .args .bytes .now) (c .before .before .before .before .before .before .before .before .before .before .before .before .before .before .before .args .start .now) (c .before .before .before .before .before .before .before .before .before .before .before .before .before .before .before .args .len .now) (c .before .before .before .before .before .before .before .before .before .before .before .before .before .before .before .args .count) (c .before .before .before .before .before .before .before .widen .result) (c .before .before .before .before .before .before .before .widen .ensures) (c .before .before .before .before .before .before .have-places .ensures) (c .before .before .before .before .before .if1 .taken) .l))
+
+slice-aggregate-is-whole-2 : tie.Need-slice-aggregate-is-whole-2
+slice-aggregate-is-whole-2 c = sym (length-take-le (c .before .before .before .before .before .before .before .before .widen .result) (c .before .before .before .before .before .before .before .before .before .before .before .before .before .before .before .before .args .right .now) (have (c .before .before .before .before .before .before .before .before .before .before .before .before .before .before .before .before .args .root) (c .before .before .before .before .before .before .before .before .before .before .before .before .before .before .before .before .args .left .now) (c .before .before .before .before .before .before .before .before .before .before .before .before .before .before .before .before .args .right .now) (c .before .before .before .before .before .before .before .before .before .before .before .before .before .before .before .before .args .parent .now) (c .before .before .before .before .before .before .before .before .before .before .before .before .before .before .before .before .args .height .now) (c .before .before .before .before .before .before .before .before .before .before .before .before .before .before .before .before .args .bytes .now) (c .before .before .before .before .before .before .before .before .before .before .before .before .before .before .before .before .args .start .now) (c .before .before .before .before .before .before .before .before .before .before .before .before .before .before .before .before .args .len .now) (c .before .before .before .before .before .before .before .before .before .before .before .before .before .before .before .before .args .count) (c .before .before .before .before .before .before .before .before .widen .result) (c .before .before .before .before .before .before .before .before .widen .ensures) (c .before .before .before .before .before .before .before .have-places .ensures) (c .before .before .before .before .before .before .if1 .taken) .r))
+
+slice-aggregate-is-whole-3 : tie.Need-slice-aggregate-is-whole-3
+slice-aggregate-is-whole-3 c = sym (length-take-le (c .before .before .before .before .before .before .before .before .before .widen .result) (c .before .before .before .before .before .before .before .before .before .before .before .before .before .before .before .before .before .args .parent .now) (have (c .before .before .before .before .before .before .before .before .before .before .before .before .before .before .before .before .before .args .root) (c .before .before .before .before .before .before .before .before .before .before .before .before .before .before .before .before .before .args .left .now) (c .before .before .before .before .before .before .before .before .before .before .before .before .before .before .before .before .before .args .right .now) (c .before .before .before .before .before .before .before .before .before .before .before .before .before .before .before .before .before .args .parent .now) (c .before .before .before .before .before .before .before .before .before .before .before .before .before .before .before .before .before .args .height .now) (c .before .before .before .before .before .before .before .before .before .before .before .before .before .before .before .before .before .args .bytes .now) (c .before .before .before .before .before .before .before .before .before .before .before .before .before .before .before .before .before .args .start .now) (c .before .before .before .before .before .before .before .before .before .before .before .before .before .before .before .before .before .args .len .now) (c .before .before .before .before .before .before .before .before .before .before .before .before .before .before .before .before .before .args .count) (c .before .before .before .before .before .before .before .before .before .widen .result) (c .before .before .before .before .before .before .before .before .before .widen .ensures) (c .before .before .before .before .before .before .before .before .have-places .ensures) (c .before .before .before .before .before .before .before .if1 .taken) .p))
+
+slice-aggregate-is-whole-4 : tie.Need-slice-aggregate-is-whole-4
+slice-aggregate-is-whole-4 c = sym (length-take-le (c .before .before .before .before .before .before .before .before .before .before .widen .result) (c .before .before .before .before .before .before .before .before .before .before .before .before .before .before .before .before .before .before .args .height .now) (have (c .before .before .before .before .before .before .before .before .before .before .before .before .before .before .before .before .before .before .args .root) (c .before .before .before .before .before .before .before .before .before .before .before .before .before .before .before .before .before .before .args .left .now) (c .before .before .before .before .before .before .before .before .before .before .before .before .before .before .before .before .before .before .args .right .now) (c .before .before .before .before .before .before .before .before .before .before .before .before .before .before .before .before .before .before .args .parent .now) (c .before .before .before .before .before .before .before .before .before .before .before .before .before .before .before .before .before .before .args .height .now) (c .before .before .before .before .before .before .before .before .before .before .before .before .before .before .before .before .before .before .args .bytes .now) (c .before .before .before .before .before .before .before .before .before .before .before .before .before .before .before .before .before .before .args .start .now) (c .before .before .before .before .before .before .before .before .before .before .before .before .before .before .before .before .before .before .args .len .now) (c .before .before .before .before .before .before .before .before .before .before .before .before .before .before .before .before .before .before .args .count) (c .before .before .before .before .before .before .before .before .before .before .widen .result) (c .before .before .before .before .before .before .before .before .before .before .widen .ensures) (c .before .before .before .before .before .before .before .before .before .have-places .ensures) (c .before .before .before .before .before .before .before .before .if1 .taken) .h))
+
+is-whole-requires : tie.Need-is-whole-requires
+is-whole-requires c κs = lent (c .before .before .before .before .before .before .before .before .before .before .before .before .before .before .before .before .before .before .args .root) (c .before .before .before .before .before .before .before .before .before .before .before .before .before .before .before .before .before .before .args .left .now) (c .before .before .before .before .before .before .before .before .before .before .before .before .before .before .before .before .before .before .args .right .now) (c .before .before .before .before .before .before .before .before .before .before .before .before .before .before .before .before .before .before .args .parent .now) (c .before .before .before .before .before .before .before .before .before .before .before .before .before .before .before .before .before .before .args .height .now) (c .before .before .before .before .before .before .before .before .before .before .before .before .before .before .before .before .before .before .args .bytes .now) (c .before .before .before .before .before .before .before .before .before .before .before .before .before .before .before .before .before .before .args .start .now) (c .before .before .before .before .before .before .before .before .before .before .before .before .before .before .before .before .before .before .args .len .now) (c .before .before .before .before .before .before .before .before .before .before .before .before .before .before .before .before .before .before .args .count) (c .before .before .before .before .before .before .before .before .before .before .widen .result) (c .before .before .before .before .before .before .before .before .before .before .widen .ensures) (c .before .before .before .before .before .before .before .before .before .have-places .ensures) (c .before .before .before .before .before .before .before .before .if1 .taken) (c .before .before .before .before .before .are-inside .ensures) (c .before .before .before .before .if2 .taken)
+
+returns : tie.Need-returns
+returns c = by-whole (c .before .before .before .before .before .before .before .before .before .before .before .before .before .before .before .before .before .before .before .args .root) (c .before .before .before .before .before .before .before .before .before .before .before .before .before .before .before .before .before .before .before .args .left .now) (c .before .before .before .before .before .before .before .before .before .before .before .before .before .before .before .before .before .before .before .args .right .now) (c .before .before .before .before .before .before .before .before .before .before .before .before .before .before .before .before .before .before .before .args .parent .now) (c .before .before .before .before .before .before .before .before .before .before .before .before .before .before .before .before .before .before .before .args .height .now) (c .before .before .before .before .before .before .before .before .before .before .before .before .before .before .before .before .before .before .before .args .bytes .now) (c .before .before .before .before .before .before .before .before .before .before .before .before .before .before .before .before .before .before .before .args .start .now) (c .before .before .before .before .before .before .before .before .before .before .before .before .before .before .before .before .before .before .before .args .len .now) (c .before .before .before .before .before .before .before .before .before .before .before .before .before .before .before .before .before .before .before .args .count) (c .before .before .before .before .before .before .before .before .before .before .before .widen .result) (c .before .before .before .before .before .before .before .before .before .before .before .widen .ensures) (c .before .before .before .before .before .before .before .before .before .before .have-places .ensures) (c .before .before .before .before .before .before .before .before .before .if1 .taken) (c .before .before .before .before .before .before .are-inside .ensures) (c .before .before .before .before .before .if2 .taken) (c .is-whole .ensures)
+
+returns-2 : tie.Need-returns-2
+returns-2 c = no-inside (c .before .before .before .before .before .before .before .before .before .before .before .before .before .before .args .root) (c .before .before .before .before .before .before .before .before .before .before .before .before .before .before .args .left .now) (c .before .before .before .before .before .before .before .before .before .before .before .before .before .before .args .right .now) (c .before .before .before .before .before .before .before .before .before .before .before .before .before .before .args .parent .now) (c .before .before .before .before .before .before .before .before .before .before .before .before .before .before .args .height .now) (c .before .before .before .before .before .before .before .before .before .before .before .before .before .before .args .bytes .now) (c .before .before .before .before .before .before .before .before .before .before .before .before .before .before .args .start .now) (c .before .before .before .before .before .before .before .before .before .before .before .before .before .before .args .len .now) (c .before .before .before .before .before .before .before .before .before .before .before .before .before .before .args .count) (c .before .before .before .before .before .before .widen .result) (c .before .before .before .before .before .before .widen .ensures) (c .before .before .before .before .before .have-places .ensures) (c .before .before .before .before .if1 .taken) (c .before .are-inside .ensures) (c .if2 .left)
+
+returns-3 : tie.Need-returns-3
+returns-3 c = no-places (c .before .before .before .before .before .before .before .before .before .before .args .root) (c .before .before .before .before .before .before .before .before .before .before .args .left .now) (c .before .before .before .before .before .before .before .before .before .before .args .right .now) (c .before .before .before .before .before .before .before .before .before .before .args .parent .now) (c .before .before .before .before .before .before .before .before .before .before .args .height .now) (c .before .before .before .before .before .before .before .before .before .before .args .bytes .now) (c .before .before .before .before .before .before .before .before .before .before .args .start .now) (c .before .before .before .before .before .before .before .before .before .before .args .len .now) (c .before .before .before .before .before .before .before .before .before .before .args .count) (c .before .before .widen .result) (c .before .before .widen .ensures) (c .before .have-places .ensures) (c .if1 .left)
+
+pub is-tree-spec : {M : Type 1} → statement M
+is-tree-spec =
+    tie.close
+    (tie.spec
+    widen-requires
+    have-places-requires
+    slice-aggregate-s
+    slice-aggregate-e
+    are-inside-requires
+    slice-aggregate-is-whole
+    slice-aggregate-is-whole-2
+    slice-aggregate-is-whole-3
+    slice-aggregate-is-whole-4
+    is-whole-requires
+    returns
+    returns-2
+    returns-3)

@@ -1,0 +1,2 @@
+-- What the stack of preorder holds.
+pub mod Stack

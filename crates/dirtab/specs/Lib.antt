@@ -1,0 +1,2 @@
+-- What writing a table answers, and the bytes that it leaves.
+pub mod Serialise

@@ -1,0 +1,49 @@
+-- Serialising an arena from a sector on: 12, then 6, 7, 8, 9, all before any write. Assumes nothing.
+use Prim.Native.Nat.{ℕ}
+use mathlib.Core.Bool.{Bool, _&&_}
+use mathlib.Core.List.{List, [], _++_}
+use lib.Dec.{leb}
+use lib.ListN.{length, drop, replicate}
+use Rattle.units.specs.Told.{Told, gives, refuses, pick}
+use Rattle.dirtab_entry.specs.Entry.{rounded}
+use Rattle.table_model.specs.Table.{Placing, placeOf, tableBytes}
+use Rattle.dirtab_arena.specs.Arena.{Arena, entryAt, isArena, treeOf}
+use Rattle.dirtab.specs.declared.Serialised.{Serialised}
+use Rattle.dirtab.specs.declared.Serialised.the-variants as serialised
+
+-- the two columns of scratch, for the order and the places, have a place for each held node; n and m are their lengths
+abbrev pub scratchFits : Arena → ℕ → ℕ → Bool
+scratchFits A n m = leb (A .count) n && leb (A .count) m
+
+-- what placing gives fits an output of so many bytes (else 9)
+abbrev pub ifFits : ℕ → Told Placing → Told Placing
+ifFits bytes (gives p) = pick (leb (rounded (p .size)) bytes) (gives p) (refuses 9 [])
+ifFits bytes (refuses k vs) = refuses k vs
+
+-- THE ANSWER: the reported size and the next free sector. s is the first sector, n and m the lengths of the scratch, `bytes` that of the output
+unfoldable pub serialiseOf : Arena → ℕ → ℕ → ℕ → ℕ → Told Placing
+serialiseOf A s n m bytes =
+    pick (isArena A)
+    (pick (scratchFits A n m) (ifFits bytes (placeOf (entryAt A) 1 s (treeOf A))) (refuses 6 []))
+    (refuses 12 [])
+
+-- THE OUTPUT AFTERWARDS: the table's bytes up to the rounded size, the rest unchanged; all unchanged after a refusal
+abbrev pub ifWritten : Told Placing → List ℕ → List ℕ → List ℕ
+ifWritten (gives p) table out = table ++ drop (rounded (p .size)) out
+ifWritten (refuses k vs) table out = out
+
+unfoldable pub outAfter : Arena → ℕ → ℕ → ℕ → List ℕ → List ℕ
+outAfter A s n m out = ifWritten (serialiseOf A s n m (length out)) (tableBytes (entryAt A) 1 s (treeOf A)) out
+
+-- THE SCRATCH AFTERWARDS: unchanged where either column is too short, else all zero
+unfoldable pub scratchAfter : Arena → ℕ → ℕ → List ℕ → List ℕ
+scratchAfter A n m xs = pick (scratchFits A n m) (replicate (length xs) 0) xs
+
+-- what each answer of the code stands for
+abbrev pub told : Serialised → Told Placing
+told (serialised.Done z f) = gives (record { size = z; free = f .0 })
+told serialised.BadArena = refuses 12 []
+told serialised.Room = refuses 6 []
+told serialised.TooManyDirectoryEntries = refuses 7 []
+told serialised.SectorOverflow = refuses 8 []
+told serialised.BufferTooSmall = refuses 9 []

@@ -1,0 +1,2 @@
+-- What adding answers, and what it leaves in the columns.
+pub mod Add

@@ -1,0 +1,2 @@
+-- What an arena holds, and when it is one.
+pub mod Arena
