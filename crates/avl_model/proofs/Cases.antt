@@ -4,7 +4,8 @@ use mathlib.Core.List.{[], _∷_, map}
 use Rattle.layout_name.specs.Order.{nameOrder, orderBy, listOrder, numberOrder, raised}
 use Rattle.avl_model.specs.declared.Place.the-variants.{Root}
 use Rattle.avl_model.specs.declared.Spot.the-variants.{Same}
-use Rattle.avl_model.specs.Tree.{order, bal}
+use Rattle.avl_model.specs.Tree.{bal}
+use Rattle.avl_model.specs.Order.{order}
 use Rattle.avl_model.specs.Names.{Names, names, nameAt, toName, grown}
 use Rattle.avl_model.specs.Seek.{spotIn}
 

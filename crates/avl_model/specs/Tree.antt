@@ -1,7 +1,6 @@
 -- The functional model: a binary tree of node indices, its heights, and AVL insertion on it.
 use Prim.Native.Nat.{ℕ, suc, _+_, max}
 use mathlib.Core.Bool.{Bool, true, false}
-use mathlib.Core.List.{List, [], _∷_, _++_}
 use lib.Dec.{ltb, eqb}
 
 -- no tree, or a node with a tree on the left and one on the right
@@ -78,8 +77,3 @@ insBy false l l2 i r r2 = bal l i r2
 abbrev pub ins : (ℕ → Bool) → ℕ → Tree → Tree
 ins less new leaf = node leaf new leaf
 ins less new (node l i r) = insBy (less i) l (ins less new l) i r (ins less new r)
-
--- the nodes in preorder: a node, then what is left of it, then what is right
-abbrev pub order : Tree → List ℕ
-order leaf = []
-order (node l i r) = i ∷ order l ++ order r
