@@ -5,3 +5,5 @@ pub mod Units
 pub mod Judging
 pub mod Steps
 pub mod Turn
+pub mod Told
+pub mod Way
