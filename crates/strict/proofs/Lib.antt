@@ -7,3 +7,4 @@ pub mod Steps
 pub mod Turn
 pub mod Told
 pub mod Way
+pub mod Course
