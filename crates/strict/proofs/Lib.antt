@@ -8,3 +8,5 @@ pub mod Turn
 pub mod Told
 pub mod Way
 pub mod Course
+pub mod Accepted
+pub mod Accepts
