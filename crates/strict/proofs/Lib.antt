@@ -5,3 +5,8 @@ pub mod Units
 pub mod Judging
 pub mod Steps
 pub mod Turn
+pub mod Told
+pub mod Way
+pub mod Course
+pub mod Accepted
+pub mod Accepts

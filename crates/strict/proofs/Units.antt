@@ -138,7 +138,7 @@ module _ (f : ℕ → Told (Option Placed)) where
   tested-apart k t h l seen m map r d = tested-by k t h seen m map l r d
 
 -- a list with one more at its end
-is-in-last : (u x : ℕ) (xs : List ℕ) → u ≡ x → isIn u (xs ++ (x ∷ [])) ≡ true
+pub is-in-last : (u x : ℕ) (xs : List ℕ) → u ≡ x → isIn u (xs ++ (x ∷ [])) ≡ true
 unfolding isIn
 is-in-last u x [] e = rw (eq-eqb u x e)
 is-in-last u x (y ∷ ys) e = ap (pick (eqb u y) true) (is-in-last u x ys e) ∙ always (eqb u y)
@@ -147,7 +147,7 @@ is-in-last u x (y ∷ ys) e = ap (pick (eqb u y) true) (is-in-last u x ys e) ∙
     always true = refl
     always false = refl
 
-is-in-other : (u x : ℕ) (xs : List ℕ) → (u ≡ x → ⊥) → isIn u (xs ++ (x ∷ [])) ≡ isIn u xs
+pub is-in-other : (u x : ℕ) (xs : List ℕ) → (u ≡ x → ⊥) → isIn u (xs ++ (x ∷ [])) ≡ isIn u xs
 unfolding isIn
 is-in-other u x [] n = rw (ne-eqb u x n)
 is-in-other u x (y ∷ ys) n = ap (pick (eqb u y) true) (is-in-other u x ys n)
