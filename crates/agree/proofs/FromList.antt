@@ -35,7 +35,7 @@ use Rattle.table_model.specs.Said.{Fits}
 use Rattle.table_model.proofs.Geometry.{items-entries}
 use Rattle.agree.specs.Written.{Before, Written}
 use Rattle.agree.specs.Agreement.{Agreement}
-use Rattle.agree.specs.Given.{Given, Good, numbered, stored, entryOf, grown, treeOf, Admitted, WrittenList, times, EachOnce}
+use Rattle.agree.specs.Given.{Given, largestDirectory, Good, numbered, stored, entryOf, grown, treeOf, Admitted, WrittenList, times, EachOnce}
 use Rattle.agree.proofs.Agrees.{agreement}
 
 -- what the test of an insertion says, of two names that differ
@@ -45,17 +45,17 @@ told a b Equal e d = absurd (d refl)
 told a b Greater e d = (λ q. let z : _≡_ {A = ℕ} 0 1 = cc in absurd (omega arith), λ q. name-opposite a b ∙ ap opposite e)
 
 module _ (entry : ℕ → Entry) where
-  grown-below : (n : ℕ) → All (λ i. i < n) (grown entry n)
+  pub grown-below : (n : ℕ) → All (λ i. i < n) (grown entry n)
   unfolding grown
   grown-below zero = tt
   grown-below (suc n) = all-ins (λ i. i < suc n) _ n (grown entry n) (omega arith) (all-map (λ i. i < n) (λ i. i < suc n) (grown entry n) (λ i h. omega arith) (grown-below n))
 
-  grown-avl : (n : ℕ) → Avl (grown entry n)
+  pub grown-avl : (n : ℕ) → Avl (grown entry n)
   unfolding grown
   grown-avl zero = tt
   grown-avl (suc n) = ins-avl _ n (grown entry n) (grown-avl n)
 
-  grown-ordered : (n : ℕ) → ((i j : ℕ) → i < n → j < i → nameOrder (entry i .name) (entry j .name) ≡ Equal → ⊥) → Ordered (Before entry) (grown entry n)
+  pub grown-ordered : (n : ℕ) → ((i j : ℕ) → i < n → j < i → nameOrder (entry i .name) (entry j .name) ≡ Equal → ⊥) → Ordered (Before entry) (grown entry n)
   unfolding grown
   grown-ordered zero d = tt
   grown-ordered (suc n) d =
@@ -63,7 +63,7 @@ module _ (entry : ℕ → Entry) where
       (all-map (λ i. i < n) _ (grown entry n) (λ i h. told (entry n .name) (entry i .name) (nameOrder (entry n .name) (entry i .name)) refl (d n i (omega arith) h)) (grown-below n))
       (grown-ordered n (λ i j h k. d i j (omega arith) k))
 
-  grown-once : (n i : ℕ) → i < n → cnt i (grown entry n) ≡ 1
+  pub grown-once : (n i : ℕ) → i < n → cnt i (grown entry n) ≡ 1
   unfolding grown
   grown-once zero i h = absurd (omega arith)
   grown-once (suc n) i h = ins-cnt _ n i (grown entry n) ∙ elim (ℕ-discrete n i) [
@@ -71,7 +71,7 @@ module _ (entry : ℕ → Entry) where
     | no d ↦ omega (arith, grown-once n i (omega arith), δ-apart n i d)
   ]
 
-  grown-size : (n : ℕ) → size (grown entry n) ≡ n
+  pub grown-size : (n : ℕ) → size (grown entry n) ≡ n
   grown-size n =
       sym (size-tally n (grown entry n) (grown-below n)) ∙ tally-ones n (omega arith)
     where
@@ -94,8 +94,17 @@ times-order : (j : ℕ) (x : Tree) → times j (order x) ≡ cnt j x
 times-order j leaf = refl
 times-order j (node l i r) = omega (arith, times-append j (order l) (order r), times-order j l, times-order j r)
 
+-- each entry of the first n is once among the items of their tree
+pub grown-each : (entry : ℕ → Entry) (n align s : ℕ) → EachOnce entry n (items entry align 0 s (grown entry n))
+grown-each entry n align s = record {
+  numbers = order (grown entry n);
+  entries = items-entries entry align (grown entry n) 0 s;
+  once = λ i h. times-order i (grown entry n) ∙ grown-once entry n i h;
+  others = λ i h. times-order i (grown entry n) ∙ all-below n (grown entry n) i (grown-below entry n) h;
+}
+
 -- what a good entry is stored as fits
-stored-small : (k : Kind) (n : ℕ) → n ≤ 4294967295 → (isDirectory k ≡ true → n ≤ 4294965248) → storedSize k n ≤ 4294967295
+pub stored-small : (k : Kind) (n : ℕ) → n ≤ 4294967295 → (isDirectory k ≡ true → n ≤ largestDirectory) → storedSize k n ≤ 4294967295
 stored-small File n h f = h
 stored-small Directory n h f = let k = f refl in omega arith
 
@@ -108,7 +117,7 @@ module _ (align s : ℕ) (gs : List Given) (w : List ℕ) (first : Sector) (t : 
         writable = record {
           aligned = a .aligned;
           fits = all-map (λ i. i < length gs) (λ i. Fits (entryOf gs i)) (treeOf gs)
-              (λ i h. let k = a .good i h in record { short = k .short; small = stored-small (numbered gs i .kind) (numbered gs i .size) (k .small) (k .roundable) })
+              (λ i h. let k = a .good i h in record { short = omega (arith, k .short); small = stored-small (numbered gs i .kind) (numbered gs i .size) (k .small) (k .roundable) })
               (grown-below (entryOf gs) (length gs));
           ordered = grown-ordered (entryOf gs) (length gs)
               (λ i j h k e. omega (arith, a .differ i j h (omega arith) (name-equal→ (numbered gs i .name) (numbered gs j .name) e)));
@@ -130,13 +139,8 @@ module _ (align s : ℕ) (gs : List Given) (w : List ℕ) (first : Sector) (t : 
   list-size = grown-size (entryOf gs) (length gs)
 
   -- and it is each entry of the list once
-  pub list-once : EachOnce gs (items (entryOf gs) align 0 s (treeOf gs))
-  list-once = record {
-    numbers = order (treeOf gs);
-    entries = items-entries (entryOf gs) align (treeOf gs) 0 s;
-    once = λ i h. times-order i (treeOf gs) ∙ grown-once (entryOf gs) (length gs) i h;
-    others = λ i h. times-order i (treeOf gs) ∙ all-below (length gs) (treeOf gs) i (grown-below (entryOf gs) (length gs)) h;
-  }
+  pub list-once : EachOnce (entryOf gs) (length gs) (items (entryOf gs) align 0 s (treeOf gs))
+  list-once = grown-each (entryOf gs) (length gs) align s
 
 -- a name that adding takes can be looked up: it has no byte above 127
 pub good-name : (name : List ℕ) → anyBad name ≡ false → anyHigh name ≡ false

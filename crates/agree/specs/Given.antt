@@ -25,13 +25,17 @@ pub record Given : Type 0 where
   pub kind : Kind
   pub size : ℕ
 
+-- the largest size of a directory that can be rounded
+abbrev pub largestDirectory : ℕ
+largestDirectory = 4294965248
+
 -- what adding asks of it by itself (1, 2, 3, 5): a name of 1 to 255 bytes, each from 1 to 127, and a size of four bytes, a directory's so that it can be rounded
 pub record Good (g : Given) : Type 0 where
   pub some : 1 ≤ length (g .name)
   pub short : length (g .name) ≤ 255
   pub ascii : anyBad (g .name) ≡ false
   pub small : g .size ≤ 4294967295
-  pub roundable : isDirectory (g .kind) ≡ true → g .size ≤ 4294965248
+  pub roundable : isDirectory (g .kind) ≡ true → g .size ≤ largestDirectory
 
 -- as it is stored: a directory's size is rounded
 abbrev pub stored : Given → Entry
@@ -74,9 +78,9 @@ abbrev pub times : ℕ → List ℕ → ℕ
 times j [] = 0
 times j (k ∷ ks) = δ k j + times j ks
 
--- the items are the list's entries, each once: in the order of some numbers, of which each below the list's length stands there once, and no other
-pub record EachOnce (gs : List Given) (xs : List Item) : Type 0 where
+-- the items are the entries with numbers below n, each once: in the order of some numbers, of which each below n stands there once, and no other
+pub record EachOnce (entry : ℕ → Entry) (n : ℕ) (xs : List Item) : Type 0 where
   pub numbers : List ℕ
-  pub entries : map (λ (y : Item). y .entry) xs ≡ map (entryOf gs) numbers
-  pub once : (i : ℕ) → i < length gs → times i numbers ≡ 1
-  pub others : (i : ℕ) → length gs ≤ i → times i numbers ≡ 0
+  pub entries : map (λ (y : Item). y .entry) xs ≡ map entry numbers
+  pub once : (i : ℕ) → i < n → times i numbers ≡ 1
+  pub others : (i : ℕ) → n ≤ i → times i numbers ≡ 0
