@@ -225,18 +225,20 @@ module _ (w : List ℕ) (first : Sector) (t : Region) (x : Told (List ℕ)) (roo
               }
 
 -- where the loop begins: the root's number in the first place of the scratch s₀, and a map of zeros
-pub starts : (w : List ℕ) (first : Sector) (t : Region) (list s₀ : List ℕ) → length list < length s₀ → length s₀ * 8 < 2 ^ 63 → (k : ℕ) → k ≡ 65604 →
-    State w first t (checkOn w first t (length list) [] (root ∷ [])) (length list) (length (set s₀ 0 281474976645120)) list (set s₀ 0 281474976645120) (replicate k 0) 1 0
+pub starts : (w : List ℕ) (first : Sector) (t : Region) (list s₀ : List ℕ) → length list < length s₀ → length s₀ * 8 < 2 ^ 63 → (v : ℕ) → visitOf v ≡ root → (k : ℕ) → k ≡ 65604 →
+    State w first t (checkOn w first t (length list) [] (root ∷ [])) (length list) (length (set s₀ 0 v)) list (set s₀ 0 v) (replicate k 0) 1 0
 unfolding stackOf
-starts w first t list s₀ h k j e = record {
-  to-do = rw (sub-zero, getD-set-same s₀ 0 281474976645120 0 (omega arith)) (sym (before-none (checkOn w first t (length list) [] (root ∷ []))));
-  mapped = none-mapped (readAt w first t) j e;
+starts w first t list s₀ h small v is-root k e = record {
+  to-do =
+      rw (sub-zero, getD-set-same s₀ 0 v 0 (omega arith))
+      (sym (before-none (checkOn w first t (length list) [] (root ∷ []))) ∙ ap (λ (r : Visit). before [] (checkOn w first t (length list) [] (r ∷ []))) (sym is-root));
+  mapped = none-mapped (readAt w first t) k e;
   room-left = omega arith;
   low = omega arith;
   list-kept = refl;
   scratch-kept = refl;
   fits = rw length-set h;
-  small = rw length-set k;
+  small = rw length-set small;
 }
 
 -- the scratch is as long as it came

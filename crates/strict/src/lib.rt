@@ -38,7 +38,7 @@ pub enum Checked {
 }
 
 // No fault in an entry, or the answer that its fault is.
-pub enum Verdict {
+enum Verdict {
     Good,
     Bad(Checked),
 }
@@ -193,6 +193,7 @@ fn run(w: &[u8], first: Sector, table: Region, list: &mut [u32], scratch: &mut [
     ensures { λ r. ⌜ Runs (strictFrom (now (w .entry)) (readAt (now (w .entry)) first table) (table .size) (length (now (list .entry))) [] (root ∷ [])) r (now (list .exit)) ⌝ }
 {
     let mut map = [0u8; 65604];
+    // The root: link 0, and 0xffff twice.
     scratch[0] = 281474976645120;
     let mut top: usize = 1;
     let mut n: usize = 0;
