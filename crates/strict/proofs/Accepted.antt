@@ -10,23 +10,21 @@ use native.Mathlib.Decide.{decLt}
 use borrow.Author.Tests.{eqb-true, leb-true, eq-eqb, ne-eqb}
 use lib.Dec.{leb, eqb}
 use lib.ListN.{length, getD}
-use Rattle.units.specs.Told.{Told, gives, refuses, pick}
+use Rattle.units.specs.Told.{Told, gives, pick}
 use Rattle.units.specs.declared.Sector.{Sector}
 use Rattle.units.specs.declared.Region.{Region}
-use Rattle.layout_bytes.specs.Bytes.{both}
 use Rattle.layout_name.specs.declared.Order.{Order}
 use Rattle.layout_name.specs.declared.Order.the-variants.{Less, Equal, Greater}
 use Rattle.layout_name.specs.Order.{nameOrder, opposite}
 use Rattle.layout_name.proofs.Laws.{name-opposite}
 use Rattle.read_entry.specs.Entry.{Placed, readAt}
 use Rattle.read_entry.specs.Links.{isIn, walkAbsent}
-use Rattle.read_walk.specs.Walk.{walkFrom, walkOf}
+use Rattle.read_walk.specs.Walk.{walkOf}
 use Rattle.strict.specs.Strict.{Visit, root, visitLeft, visitRight, push, endOf, endBy, inSector, clear, apart, placed, isLess, lessThan, moreThan, nameAt, ordered, strictOf}
-use Rattle.strict.specs.Accepts.{InPlace, InOrder, Accepts}
+use Rattle.strict.specs.Accepts.{Accepts}
 use Rattle.strict.proofs.Units.{both-first, both-second, true-not-false, clear-says, is-in-last, is-in-other}
-use Rattle.strict.proofs.Steps.{NoFault}
 use Rattle.strict.proofs.Way.{of-way}
-use Rattle.strict.proofs.Course.{nameFrom, entered, Sound, Course, over, skipped, taken, course-of, course-way}
+use Rattle.strict.proofs.Course.{nameFrom, Course, over, skipped, taken, course-of, course-way}
 
 -- members of a list and its places
 pub at-mem : (xs : List ℕ) (i : ℕ) → i < length xs → List·Memᴰ (getD xs i 0) xs

@@ -1,33 +1,30 @@
 -- The check accepts every table of the rule. Assumes nothing.
-use Prim.Native.Nat.{ℕ, zero, suc, _+_, _-_, _*_, _/_, _≤_, _<_}
+use Prim.Native.Nat.{ℕ, suc, _+_, _-_, _*_, _≤_, _<_}
 use mathlib.Core.Path.{_≡_, refl, sym, ap, ap₂, subst, _∙_}
 use mathlib.Core.Bool.{Bool, true, false}
 use mathlib.Core.Logic.{_⊎_, inl, inr, ⊎-elim}
 use mathlib.Core.List.{List, [], _∷_, _++_, append-assoc, List·Memᴰ, List·Memᴰ·head, List·Memᴰ·tail, List·Memᴰ·not-nil, List·Memᴰ·cases-cons, List·Memᴰ·append-cases, List·Memᴰ·eq-of-singleton, Memᴰ·append-left, Memᴰ·append-right}
-use mathlib.Core.Option.{Option, some, none}
+use mathlib.Core.Option.{Option, some}
 use native.Mathlib.Omega.{arith}
 use native.Mathlib.Decide.{decLt}
 use borrow.Author.Tests.{eqb-true, le-leb, eq-eqb, ne-eqb}
-use lib.Dec.{leb, eqb}
+use lib.Dec.{eqb}
 use lib.ListN.{length, getD, length-append, List·getD-append}
 use lib.Seq.{getD-append-seam}
-use Rattle.units.specs.Told.{Told, gives, refuses, pick}
+use Rattle.units.specs.Told.{Told, gives, pick}
 use Rattle.units.specs.declared.Sector.{Sector}
 use Rattle.units.specs.declared.Region.{Region}
 use Rattle.layout_bytes.specs.Bytes.{both}
-use Rattle.layout_name.specs.declared.Order.{Order}
-use Rattle.layout_name.specs.declared.Order.the-variants.{Less, Equal, Greater}
-use Rattle.layout_name.specs.Order.{nameOrder, opposite}
+use Rattle.layout_name.specs.Order.{opposite}
 use Rattle.layout_name.proofs.Laws.{name-opposite}
 use Rattle.read_entry.specs.Entry.{Placed, readAt}
 use Rattle.read_entry.specs.Links.{isIn, walkAbsent}
-use Rattle.read_walk.specs.Walk.{walkFrom, walkOf}
-use Rattle.strict.specs.Strict.{Visit, root, visitLeft, visitRight, push, endOf, endBy, inSector, clear, apart, placed, isLess, lessThan, moreThan, nameAt, ordered, strictOf}
-use Rattle.strict.specs.Accepts.{EntryAt, InPlace, InOrder, Accepts}
+use Rattle.read_walk.specs.Walk.{walkOf}
+use Rattle.strict.specs.Strict.{Visit, root, visitLeft, visitRight, push, endOf, endBy, clear, apart, placed, isLess, ordered, strictOf}
+use Rattle.strict.specs.Accepts.{InPlace, Accepts}
 use Rattle.strict.proofs.Units.{not-true-is-false, true-not-false, is-clear}
-use Rattle.strict.proofs.Steps.{NoFault}
 use Rattle.strict.proofs.Way.{Way, ended, passed, listed, way-of}
-use Rattle.strict.proofs.Course.{nameFrom, entered, Sound, Course, over, skipped, taken, of-course, offsets, same-stack}
+use Rattle.strict.proofs.Course.{nameFrom, entered, Course, over, skipped, taken, of-course, offsets, same-stack}
 
 -- a place of what is in a list
 place-by : (o y : ℕ) (ys : List ℕ) (b : Bool) → eqb o y ≡ b → (isIn o ys ≡ true → (i : ℕ) × (i < length ys) × (getD ys i 0 ≡ o)) → pick b true (isIn o ys) ≡ true →

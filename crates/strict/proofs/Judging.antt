@@ -3,15 +3,14 @@ use Prim.Native.Nat.{ℕ, _+_, _-_, _*_, _/_, _%_, _≤_, _<_}
 use mathlib.Core.Path.{_≡_, refl, sym, ap, ap₂, subst, _∙_}
 use mathlib.Core.Bool.{Bool, true, false}
 use mathlib.Core.List.{List, [], _∷_}
-use mathlib.Core.Option.{Option, some, none}
+use mathlib.Core.Option.{Option}
 use native.Mathlib.Omega.{arith}
-use borrow.Author.Tests.{eq-eqb, ne-eqb, le-leb, lt-leb, eqb-true}
-use lib.Dec.{leb, eqb}
-use lib.ListN.{length, getD}
-use Rattle.units.specs.Told.{Told, gives, refuses, pick}
+use borrow.Author.Tests.{eq-eqb, ne-eqb, le-leb, lt-leb}
+use lib.Dec.{eqb}
+use lib.ListN.{getD}
+use Rattle.units.specs.Told.{Told}
 use Rattle.units.specs.declared.Link.{Link}
 use Rattle.units.specs.declared.Offset.{Offset}
-use Rattle.layout_bytes.specs.Bytes.{both}
 use Rattle.layout_node.specs.declared.Header.{Header}
 use Rattle.layout_node.specs.Header.{entryLength}
 use Rattle.read_entry.specs.Entry.{Placed, nameOf}
@@ -19,9 +18,9 @@ use Rattle.read_entry.specs.Links.{isIn}
 use Rattle.strict_map.specs.Map.{Tested, Marked}
 use Rattle.strict.specs.declared.Checked.the-variants as checked
 use Rattle.strict.specs.declared.Verdict.the-variants as verdict
-use Rattle.strict.specs.Strict.{endOf, inSector, apart, placed, ordered, judged, verdictAt}
+use Rattle.strict.specs.Strict.{endOf, apart, placed, ordered, judged, verdictAt}
 use Rattle.strict.specs.Run.{visitOf, Mapped, Judged}
-use Rattle.strict.proofs.Units.{both-first, both-second, tested-apart}
+use Rattle.strict.proofs.Units.{tested-apart}
 
 -- an entry at link l, from o to o + len
 module _ (l : Link) (from : Offset) (is-from : from .0 ≡ 4 * l .0) (o : ℕ) (is-o : o ≡ from .0) (h : Header) (len : ℕ) (is-len : len ≡ entryLength (h .«name_len»)) where

@@ -1,15 +1,14 @@
 -- Visits as numbers of the scratch, and what pushing leaves. Assumes nothing.
-use Prim.Native.Nat.{ℕ, _+_, _-_, _*_, _/_, _%_, _≤_, _<_}
-use mathlib.Core.Path.{_≡_, refl, sym, ap, _∙_}
-use mathlib.Core.List.{List, [], _∷_, map}
+use Prim.Native.Nat.{ℕ, _+_, _-_, _*_, _/_, _%_, _<_}
+use mathlib.Core.Path.{_≡_, refl, ap, _∙_}
+use mathlib.Core.List.{List, map}
 use mathlib.Core.Option.{Option, some, none}
 use native.Mathlib.Omega.{arith}
 use borrow.Author.Tests.{eq-eqb, ne-eqb}
-use lib.ListN.{length, getD, set, length-set}
+use lib.ListN.{length, set, length-set}
 use Rattle.units.specs.declared.Link.{Link}
 use Rattle.layout_node.specs.declared.Header.{Header}
-use Rattle.read_entry.specs.Links.{isIn, walkAbsent}
-use Rattle.read_walk.specs.Run.{stackOf}
+use Rattle.read_entry.specs.Links.{isIn}
 use Rattle.read_walk.proofs.Stack.{stack-push}
 use Rattle.strict.specs.Strict.{Visit, visitLeft, visitRight, push}
 use Rattle.strict.specs.Run.{boundOf, visitOf, visitsOf, Pushed, Entered}

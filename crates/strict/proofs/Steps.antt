@@ -1,16 +1,16 @@
 -- The check's definition, step by step: what `strictFrom` is at an empty stack, and at a stack with a visit on top. Assumes nothing.
-use Prim.Native.Nat.{ℕ, zero, suc, _<_}
+use Prim.Native.Nat.{ℕ, zero, suc}
 use mathlib.Core.Path.{_≡_, refl, sym, ap, _∙_}
 use mathlib.Core.Bool.{Bool, true, false}
 use mathlib.Core.List.{List, [], _∷_, _++_}
 use mathlib.Core.Option.{Option, some, none}
 use native.Mathlib.Omega.{arith}
 use lib.Dec.{eqb, eqb·suc-zero}
-use Rattle.units.specs.Told.{Told, gives, refuses, pick}
+use Rattle.units.specs.Told.{Told, gives, refuses}
 use Rattle.read_entry.specs.Entry.{Placed, nameOf}
 use Rattle.read_entry.specs.Links.{isIn}
 use Rattle.read_walk.specs.Walk.{before}
-use Rattle.strict.specs.Strict.{Visit, visitLeft, visitRight, push, endOf, placed, ordered, judged, ifGood, byRead, toEntry, verdictAt, strictFrom}
+use Rattle.strict.specs.Strict.{Visit, visitLeft, visitRight, push, endOf, placed, ordered, judged, ifGood, toEntry, verdictAt, strictFrom}
 
 -- no fault: none of the four tests finds one
 pub record NoFault (shared full well right : Bool) : Type 0 where

@@ -1,14 +1,14 @@
 -- One turn of the check's loop, over plain lists and numbers: each way out of it, and each way round. Assumes nothing.
-use Prim.Native.Nat.{ℕ, zero, suc, _+_, _-_, _*_, _/_, _%_, _^_, _≤_, _<_}
+use Prim.Native.Nat.{ℕ, suc, _+_, _-_, _*_, _/_, _%_, _^_, _≤_, _<_}
 use mathlib.Core.Path.{_≡_, refl, sym, ap, subst, _∙_}
-use mathlib.Core.Bool.{Bool, true, false}
+use mathlib.Core.Bool.{Bool, true}
 use mathlib.Core.Logic.{⊎-elim}
 use mathlib.Core.List.{List, [], _∷_, _++_, append-nil, map}
-use mathlib.Core.Option.{Option, some, none}
+use mathlib.Core.Option.{Option, some}
 use native.Mathlib.Omega.{arith}
 use native.Mathlib.Nat.{sub-zero}
 use native.Mathlib.Numerals.{add-one}
-use borrow.Author.Tests.{eq-eqb, ne-eqb, eqb-false, eqb-true}
+use borrow.Author.Tests.{eqb-false, eqb-true}
 use lib.Dec.{leb, eqb}
 use lib.ListN.{length, getD, take, set, replicate, length-set}
 use lib.Seq.{take-suc-set, length-take-le, getD-set-same}
@@ -24,7 +24,7 @@ use Rattle.read_entry.specs.Entry.{Placed, readAt, nameOf}
 use Rattle.read_entry.specs.Links.{isIn}
 use Rattle.read_entry.specs.Entry as entry-said
 use Rattle.read_walk.specs.Walk.{before, counted}
-use Rattle.read_walk.specs.Run.{stackOf, listedOf}
+use Rattle.read_walk.specs.Run.{stackOf}
 use Rattle.read_walk.proofs.Stack.{stack-pop}
 use Rattle.read_walk.proofs.Steps.{before-none, before-before}
 use Rattle.strict_map.specs.Map.{Marked}
@@ -197,10 +197,11 @@ module _ (w : List ℕ) (first : Sector) (t : Region) (x : Told (List ℕ)) (roo
               ∙ before-before (take n list) (o ∷ []) (checkOn w first t (room - (n + 1)) (take n list ++ (o ∷ [])) st)
               ∙ ap (λ (ys : List ℕ). before ys (checkOn w first t (room - (n + 1)) ys st)) (sym (ap (λ (m : ℕ). take m (set list n o)) (add-one n) ∙ take-suc-set list n o g))
 
-          pub entry : (num : ℕ) → num ≡ p .0 → (units₂ : List ℕ) → Marked units (l .0) (endOf h (4 * l .0) / 4) units₂ × (endOf h (4 * l .0) / 4 ≤ 65604) →
+          -- the turn ends with the entry listed, marked, and its children on the stack
+          pub entry-done : (num : ℕ) → num ≡ p .0 → (units₂ : List ℕ) → Marked units (l .0) (endOf h (4 * l .0) / 4) units₂ × (endOf h (4 * l .0) / 4 ≤ 65604) →
               (u : ℕ) → u ≡ top - 1 → (s₂ : List ℕ) (t₂ : ℕ) → Entered (visitOf c) h scratch u s₂ t₂ → (m : ℕ) → m ≡ n + 1 →
               State w first t x room places (set list n num) s₂ units₂ t₂ m
-          entry num is-num units₂ marks u is-u s₂ t₂ entered m d =
+          entry-done num is-num units₂ marks u is-u s₂ t₂ entered m d =
               let k : ℕ = c % 65536 in
               let o : ℕ = 4 * k in
               let g : n < length list = has-place in
@@ -224,18 +225,20 @@ module _ (w : List ℕ) (first : Sector) (t : Region) (x : Told (List ℕ)) (roo
               }
 
 -- where the loop begins: the root's number in the first place of the scratch s₀, and a map of zeros
-pub starts : (w : List ℕ) (first : Sector) (t : Region) (list s₀ : List ℕ) → length list < length s₀ → length s₀ * 8 < 2 ^ 63 → (k : ℕ) → k ≡ 65604 →
-    State w first t (checkOn w first t (length list) [] (root ∷ [])) (length list) (length (set s₀ 0 281474976645120)) list (set s₀ 0 281474976645120) (replicate k 0) 1 0
+pub starts : (w : List ℕ) (first : Sector) (t : Region) (list s₀ : List ℕ) → length list < length s₀ → length s₀ * 8 < 2 ^ 63 → (v : ℕ) → visitOf v ≡ root → (k : ℕ) → k ≡ 65604 →
+    State w first t (checkOn w first t (length list) [] (root ∷ [])) (length list) (length (set s₀ 0 v)) list (set s₀ 0 v) (replicate k 0) 1 0
 unfolding stackOf
-starts w first t list s₀ h k j e = record {
-  to-do = rw (sub-zero, getD-set-same s₀ 0 281474976645120 0 (omega arith)) (sym (before-none (checkOn w first t (length list) [] (root ∷ []))));
-  mapped = none-mapped (readAt w first t) j e;
+starts w first t list s₀ h small v is-root k e = record {
+  to-do =
+      rw (sub-zero, getD-set-same s₀ 0 v 0 (omega arith))
+      (sym (before-none (checkOn w first t (length list) [] (root ∷ []))) ∙ ap (λ (r : Visit). before [] (checkOn w first t (length list) [] (r ∷ []))) (sym is-root));
+  mapped = none-mapped (readAt w first t) k e;
   room-left = omega arith;
   low = omega arith;
   list-kept = refl;
   scratch-kept = refl;
   fits = rw length-set h;
-  small = rw length-set k;
+  small = rw length-set small;
 }
 
 -- the scratch is as long as it came

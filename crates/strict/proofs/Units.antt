@@ -1,23 +1,22 @@
 -- The map of units and the entries listed: a run of units is free of marks exactly where the entry on it is apart from those listed, and marking an entry keeps
 -- the map true. Assumes nothing.
-use Prim.Native.Nat.{ℕ, zero, suc, _+_, _-_, _*_, _/_, _%_, _≤_, _<_}
+use Prim.Native.Nat.{ℕ, _+_, _-_, _*_, _/_, _%_, _≤_, _<_}
 use mathlib.Core.Path.{_≡_, refl, sym, ap, ap₂, _∙_}
 use mathlib.Core.Bool.{Bool, true, false}
 use mathlib.Core.Logic.{_⊎_, inl, inr, ⊎-elim}
 use mathlib.Core.List.{List, [], _∷_, _++_, List·Memᴰ, List·Memᴰ·head, List·Memᴰ·tail, List·Memᴰ·not-nil, List·Memᴰ·append-cases, List·Memᴰ·eq-of-singleton}
-use mathlib.Core.Option.{Option, some, none}
+use mathlib.Core.Option.{Option}
 use native.Mathlib.Omega.{arith}
-use borrow.Author.Tests.{eq-eqb, ne-eqb, eqb-true, eqb-false, le-leb, lt-leb, leb-true, leb-false}
+use borrow.Author.Tests.{eq-eqb, ne-eqb, eqb-true, le-leb, lt-leb, leb-true}
 use lib.Dec.{leb, eqb}
-use lib.ListN.{length, getD, replicate, length-replicate, getD-replicate}
-use Rattle.units.specs.Told.{Told, gives, refuses, pick}
+use lib.ListN.{getD, replicate, length-replicate, getD-replicate}
+use Rattle.units.specs.Told.{Told, pick}
 use Rattle.layout_bytes.specs.Bytes.{both}
-use Rattle.layout_node.specs.declared.Header.{Header}
 use Rattle.read_entry.specs.Entry.{Placed}
 use Rattle.read_entry.specs.Links.{isIn}
 use Rattle.strict_map.specs.Map.{Tested, Taken, Marked}
 use Rattle.strict_map.proofs.Turn.{below-or-not}
-use Rattle.strict.specs.Strict.{endOf, endBy, clear, apart}
+use Rattle.strict.specs.Strict.{endBy, clear, apart}
 use Rattle.strict.specs.Run.{Whole, Mapped}
 
 -- a test that is not true is false

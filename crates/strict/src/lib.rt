@@ -8,14 +8,13 @@ use units::Offset;
 use units::Region;
 use units::Sector;
 ghost use mathlib.Core.Path.{_≡_};
-ghost use mathlib.Core.List.{List, [], _∷_, _++_};
+ghost use mathlib.Core.List.{List, [], _∷_};
 ghost use mathlib.Core.Option.{Option};
 ghost use Prim.Native.Nat.{ℕ, _+_, _-_, _*_, _/_, _%_, _≤_, _<_};
 ghost use lib.Dec.{eqb};
-ghost use lib.ListN.{length, getD, take, replicate};
+ghost use lib.ListN.{length, replicate};
 ghost use Rattle.units.specs.Told.{Told};
 ghost use Rattle.layout_name.specs.Order.{nameOrder};
-ghost use Rattle.layout_node.specs.Header.{entryLength};
 ghost use Rattle.read_entry.specs.Entry.{Placed, readAt};
 ghost use Rattle.strict_map.specs.Map.{Marked};
 ghost use Rattle.strict.specs.Strict.{endOf, nameBy, placed, isLess, lessThan, moreThan, nameAt, ordered, verdictAt, root, strictFrom, told, strictAnswer, listAfter, scratchAfter};
@@ -39,7 +38,7 @@ pub enum Checked {
 }
 
 // No fault in an entry, or the answer that its fault is.
-pub enum Verdict {
+enum Verdict {
     Good,
     Bad(Checked),
 }
@@ -194,6 +193,7 @@ fn run(w: &[u8], first: Sector, table: Region, list: &mut [u32], scratch: &mut [
     ensures { λ r. ⌜ Runs (strictFrom (now (w .entry)) (readAt (now (w .entry)) first table) (table .size) (length (now (list .entry))) [] (root ∷ [])) r (now (list .exit)) ⌝ }
 {
     let mut map = [0u8; 65604];
+    // The root: link 0, and 0xffff twice.
     scratch[0] = 281474976645120;
     let mut top: usize = 1;
     let mut n: usize = 0;

@@ -1,14 +1,14 @@
 -- A turn of each loop over a map of units, over plain lists and numbers. Assumes nothing.
 use Prim.Native.Nat.{ℕ, _+_, _-_, _%_, _≤_, _<_}
-use mathlib.Core.Path.{_≡_, refl, sym, ap, _∙_}
-use mathlib.Core.Bool.{Bool, true, false}
+use mathlib.Core.Path.{_≡_, refl, _∙_}
+use mathlib.Core.Bool.{true, false}
 use mathlib.Core.Logic.{_⊎_, inl, inr, ⊎-elim}
 use mathlib.Core.List.{List}
 use native.Mathlib.Omega.{arith}
 use native.Mathlib.Decide.{decLt}
 use lib.ListN.{length, getD, set, length-set}
 use lib.Seq.{getD-set-same, getD-set-other}
-use Rattle.strict_map.specs.Map.{Taken, Tested, Marked}
+use Rattle.strict_map.specs.Map.{Tested, Marked}
 
 below-by : (a b : ℕ) → Dec (a < b) → (a < b) ⊎ (b ≤ a)
 below-by a b (yes h) = inl h

@@ -1,15 +1,14 @@
 -- `strict::check_table` meets its contract, by what its calls ensure. Assumes nothing.
 use Prim.Native.Nat.{ℕ, _-_, _≤_, _<_}
-use mathlib.Core.Path.{_≡_, refl, sym, ap, ap₂, _∙_}
+use mathlib.Core.Path.{_≡_, ap, ap₂, _∙_}
 use mathlib.Core.List.{List, [], _∷_, _++_}
 use native.Mathlib.Nat.{sub-zero}
-use native.Mathlib.Omega.{arith}
 use borrow.Author.Tests.{le-leb, lt-leb, eq-eqb, ne-eqb}
 use lib.ListN.{length, take, replicate}
 use Rattle.units.specs.declared.Sector.{Sector}
 use Rattle.units.specs.Told.{Told, gives, refuses}
 use Rattle.units.specs.declared.Region.{Region}
-use Rattle.read_walk.specs.Walk.{counted, listed}
+use Rattle.read_walk.specs.Walk.{listed}
 use Rattle.strict.specs.declared.Checked.{Checked}
 use Rattle.strict.specs.declared.Checked.the-variants as checked
 use Rattle.strict.specs.Strict.{root, strictOf, told, strictAnswer, listAfter, scratchAfter}

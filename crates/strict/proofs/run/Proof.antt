@@ -1,14 +1,13 @@
 -- `strict::run` meets its contract. The loop's invariant is `State` of proofs/Turn.antt, which has a lemma for each way out of a turn and each
 -- way round. The measure: each entry takes a place of the list and adds at most one to the stack; anything else takes one from the stack.
 -- Assumes nothing.
-use Prim.Native.Nat.{ℕ, _+_, _-_, _*_, _≤_, _<_}
-use mathlib.Core.Path.{_≡_, refl, sym, ap, _∙_}
-use mathlib.Core.List.{List, [], _∷_}
-use native.Mathlib.Omega.{arith}
+use Prim.Native.Nat.{_+_, _-_, _*_}
+use mathlib.Core.Path.{refl}
+use mathlib.Core.List.{[], _∷_}
 use borrow.Author.Needs.{needs}
-use lib.ListN.{length, length-set}
+use lib.ListN.{length}
 use Rattle.strict.specs.Strict.{root}
-use Rattle.strict.proofs.Turn.{checkOn, State, starts, same-scratch, done, faulty, outside, truncated, nothing, has-place, can-push, falls, entry}
+use Rattle.strict.proofs.Turn.{checkOn, State, starts, same-scratch, done, faulty, outside, truncated, nothing, has-place, can-push, falls, entry-done}
 use Rattle.strict.proofs.run.Statement.{statement}
 use Rattle.strict.proofs.run.Tie as tie
 use Rattle.strict.proofs.run.Reads as reads
@@ -82,13 +81,39 @@ mark-entry-requires : tie.Need-mark-entry-requires Inv-loop μ-loop
 mark-entry-requires c κs = c .before .before .before .before .before .before .before .before .before .before .before .before .before .before .loop .inv .mapped .size
 
 push-links-requires : tie.Need-push-links-requires Inv-loop μ-loop
-push-links-requires c κs = can-push _ _ _ _ _ _ _ _ _ _ _ (c .before .before .before .before .before .before .before .before .before .before .before .before .before .before .before .before .loop .inv) (search needs) _ (c .before .before .before .before .before .before .before .before .before .before .before .before .before .new .ensures) _ (c .before .before .before .before .before .before .before .before .before .before .before .before .offset .ensures) _ (c .before .before .before .before .before .before .before .before .before .before .before .read-at .ensures) _ _ (c .before .before .before .before .before .before .before .before .before .h .given .1) _ (c .before .before .before .before .before .before .judge .ensures) (c .before .before .before .before .enum-told .given .1) _ refl
+push-links-requires c κs =
+    let number = c .before .before .before in
+    let judge = number .before .before .before in
+    let entry = judge .before .before .before in
+    let read = entry .before .before in
+    let link = read .before .before in
+    let turn = link .before .before .before in
+    can-push _ _ _ _ _ _ _ _ _ _ _ (turn .loop .inv) (search needs) _ (link .new .ensures) _ (read .before .offset .ensures) _ (read .read-at .ensures) _ _
+    (entry .h .given .1) _ (judge .judge .ensures) (number .before .enum-told .given .1) _ refl
 
 loop-less : tie.Need-loop-less Inv-loop μ-loop
-loop-less c = falls _ _ _ _ _ _ _ _ _ _ _ (c .before .before .before .before .before .before .before .before .before .before .before .before .before .before .before .before .before .before .before .loop .inv) (search needs) _ (c .before .before .before .before .before .before .before .before .before .before .before .before .before .before .before .before .new .ensures) _ (c .before .before .before .before .before .before .before .before .before .before .before .before .before .before .before .offset .ensures) _ (c .before .before .before .before .before .before .before .before .before .before .before .before .before .before .read-at .ensures) _ _ (c .before .before .before .before .before .before .before .before .before .before .before .before .h .given .1) _ (c .before .before .before .before .before .before .before .before .before .judge .ensures) (c .before .before .before .before .before .before .before .enum-told .given .1) _ refl _ _ (c .before .before .push-links .ensures) _ refl
+loop-less c =
+    let number = c .before .before .before .before .before .before in
+    let judge = number .before .before .before in
+    let entry = judge .before .before .before in
+    let read = entry .before .before in
+    let link = read .before .before in
+    let turn = link .before .before .before in
+    falls _ _ _ _ _ _ _ _ _ _ _ (turn .loop .inv) (search needs) _ (link .new .ensures) _ (read .before .offset .ensures) _ (read .read-at .ensures) _ _
+    (entry .h .given .1) _ (judge .judge .ensures) (number .before .enum-told .given .1) _ refl _ _
+    (c .before .before .push-links .ensures) _ refl
 
 loop-again : tie.Need-loop-again Inv-loop μ-loop
-loop-again c = entry _ _ _ _ _ _ _ _ _ _ _ (c .before .before .before .before .before .before .before .before .before .before .before .before .before .before .before .before .before .before .before .loop .inv) (search needs) _ (c .before .before .before .before .before .before .before .before .before .before .before .before .before .before .before .before .new .ensures) _ (c .before .before .before .before .before .before .before .before .before .before .before .before .before .before .before .offset .ensures) _ (c .before .before .before .before .before .before .before .before .before .before .before .before .before .before .read-at .ensures) _ _ (c .before .before .before .before .before .before .before .before .before .before .before .before .h .given .1) _ (c .before .before .before .before .before .before .before .before .before .judge .ensures) (c .before .before .before .before .before .before .before .enum-told .given .1) _ (c .before .before .before .before .before .before .number .ensures) _ (c .before .before .before .before .mark-entry .ensures) _ refl _ _ (c .before .before .push-links .ensures) _ refl
+loop-again c =
+    let number = c .before .before .before .before .before .before in
+    let judge = number .before .before .before in
+    let entry = judge .before .before .before in
+    let read = entry .before .before in
+    let link = read .before .before in
+    let turn = link .before .before .before in
+    entry-done _ _ _ _ _ _ _ _ _ _ _ (turn .loop .inv) (search needs) _ (link .new .ensures) _ (read .before .offset .ensures) _ (read .read-at .ensures) _ _
+    (entry .h .given .1) _ (judge .judge .ensures) (number .before .enum-told .given .1) _ (number .number .ensures) _
+    (c .before .before .before .before .mark-entry .ensures) _ refl _ _ (c .before .before .push-links .ensures) _ refl
 
 enum-known-a : tie.Need-enum-known-a Inv-loop μ-loop
 enum-known-a c = search needs

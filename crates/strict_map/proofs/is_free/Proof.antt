@@ -1,7 +1,6 @@
 -- `strict_map::is_free` meets its contract. The loop's invariant is `Passing` of proofs/Turn.antt: the last unit is free, and every fourth before i.
 -- Assumes nothing.
 use Prim.Native.Nat.{_+_, _-_}
-use native.Mathlib.Omega.{arith}
 use borrow.Author.Needs.{needs}
 use Rattle.strict_map.proofs.Turn.{Passing, marked-unit, begun, passed, all-passed}
 use Rattle.strict_map.proofs.is_free.Statement.{statement}

@@ -1,5 +1,5 @@
 -- `strict_map::mark` meets its contract. The loop's invariant is `Marking` of proofs/Turn.antt, of the map whose first unit is marked. Assumes nothing.
-use Prim.Native.Nat.{_+_, _-_}
+use Prim.Native.Nat.{_-_}
 use borrow.Author.Needs.{needs}
 use Rattle.strict_map.proofs.Turn.{Marking, first-marked, one-more, all-marked}
 use Rattle.strict_map.proofs.mark.Statement.{statement}
