@@ -2,3 +2,4 @@
 pub mod Checks
 pub mod OfList
 pub mod OfArena
+pub mod Instances
