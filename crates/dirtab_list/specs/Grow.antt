@@ -24,20 +24,20 @@ abbrev pub ifFree : ℕ → Spot → Told Tree → Told Tree
 ifFree i (Same j) x = refuses 4 (i ∷ [])
 ifFree i (Free q) x = x
 
--- `bytes` are lent for names, `entry i` is entry i of the list
-module _ (bytes : List ℕ) (entry : ℕ → given.Entry) where
-  -- the order of the names of two entries
-  abbrev pub between : ℕ → ℕ → Order
-  between i j = nameOrder (nameIn bytes (entry i)) (nameIn bytes (entry j))
-
-  -- k more entries from number i on, put into the tree t: adding's checks 1, 2, 3, 5, 4, 6 for each
+-- `check i` is what is asked of entry i by itself, `between i j` the order of the names of two entries
+module _ (check : ℕ → Told (Unit {0})) (between : ℕ → ℕ → Order) where
+  -- k more entries from number i on, put into the tree t: the checks of each by itself, then 4, then 6
   unfoldable pub growFrom : ℕ → ℕ → Tree → Told Tree
   growFrom zero i t = gives t
   growFrom (suc k) i t =
-      ifTaken i (checkOf bytes (entry i))
+      ifTaken i (check i)
       (ifFree i (spotIn (between i) t Root)
       (pick (ltb i 16384) (growFrom k (i + 1) (ins (λ j. isLess (between i j)) i t)) (refuses 6 (i ∷ []))))
 
-  -- the tree of the first n entries
-  abbrev pub grow : ℕ → Told Tree
-  grow n = growFrom n 0 leaf
+-- the order of the names of two entries of a list; `bytes` are lent for names
+abbrev pub orderIn : List ℕ → (ℕ → given.Entry) → ℕ → ℕ → Order
+orderIn bytes entry i j = nameOrder (nameIn bytes (entry i)) (nameIn bytes (entry j))
+
+-- the tree of the first n entries of a list, with adding's checks 1, 2, 3, 5, 4, 6 for each
+abbrev pub grow : List ℕ → (ℕ → given.Entry) → ℕ → Told Tree
+grow bytes entry n = growFrom (λ i. checkOf bytes (entry i)) (orderIn bytes entry) n 0 leaf
