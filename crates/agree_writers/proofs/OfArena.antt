@@ -31,12 +31,14 @@ use Rattle.table_model.proofs.Geometry.{items-entries}
 use Rattle.table_model.proofs.Placing.{size-given}
 use Rattle.dirtab_arena.specs.Arena.{Arena, listsOf, namesOf, givenAt, entryAt, isGiven, isTaken, isArena, treeOf}
 use Rattle.dirtab.specs.Serialise.{scratchFits, ifFits, serialiseOf, ifWritten, outAfter}
+use Rattle.strict.specs.Strict.{strictOf}
 use Rattle.agree.specs.Written.{Before, Written}
-use Rattle.agree.specs.Agreement.{Agreement}
+use Rattle.agree.specs.Agreement.{offsets, Agreement}
 use Rattle.agree.specs.Given.{EachOnce}
 use Rattle.agree.proofs.Agrees as agrees
 use Rattle.agree.proofs.Plain.{lookup-0}
 use Rattle.agree.proofs.FromList.{times-order}
+use Rattle.agree_strict.proofs.Passes.{written-passes}
 use Rattle.agree_writers.specs.Wrote.{WroteArena}
 use Rattle.agree_writers.proofs.Checks.{name-short, size-small, first-stand, fits-gives}
 
@@ -129,3 +131,7 @@ module _ (A : Arena) (s n m : ℕ) (out : List ℕ) (p : Placing) (w : List ℕ)
   pub arena-agrees : Agreement lookupAbsent w first t (g .stand .place) (items (entryAt A) 1 0 s (treeOf A))
   unfolding arena-wrote first-stand
   arena-agrees = agrees.agreement lookupAbsent lookup-0 (entryAt A) 1 s (treeOf A) w first t arena-wrote
+
+  -- and it passes the strict check, which lists the same
+  pub arena-strict : (room : ℕ) → A .count ≤ room → strictOf w first t room ≡ gives (offsets (items (entryAt A) 1 0 s (treeOf A)))
+  arena-strict room h = written-passes (entryAt A) 1 s (treeOf A) w first t arena-wrote room (omega (arith, tree-held A (told .0) .size-is))

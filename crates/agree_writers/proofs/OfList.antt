@@ -36,13 +36,15 @@ use Rattle.table_model.specs.Said.{Fits}
 use Rattle.table_model.proofs.Placing.{size-given}
 use Rattle.dirtab_list.specs.Grow.{ifTaken, ifFree, between, growFrom, grow}
 use Rattle.dirtab_list.specs.Whole.{Listing, givenIn, entryIn, hasPlaces, ifFits, ifGrown, wholeOf, tableFor, ifWritten, outAfter}
+use Rattle.strict.specs.Strict.{strictOf}
 use Rattle.agree.specs.Written.{Before, Stand, Written}
 use Rattle.agree.specs.Agreement as agreement
-use Rattle.agree.specs.Agreement.{Agreement}
+use Rattle.agree.specs.Agreement.{offsets, Agreement}
 use Rattle.agree.specs.Given.{grown, EachOnce}
 use Rattle.agree.proofs.Agrees as agrees
 use Rattle.agree.proofs.Plain.{lookup-0}
-use Rattle.agree.proofs.FromList.{grown-below, grown-avl, grown-each}
+use Rattle.agree.proofs.FromList.{grown-below, grown-avl, grown-size, grown-each}
+use Rattle.agree_strict.proofs.Passes.{written-passes}
 use Rattle.agree_writers.specs.Wrote.{WroteList, Taken}
 use Rattle.agree_writers.proofs.Checks.{name-short, size-small, first-stand, fits-gives}
 
@@ -192,6 +194,10 @@ module _ (L : Listing) (shortest s : ℕ) (out : List ℕ) (p : Placing) (w : Li
   -- each of them once
   pub list-each : EachOnce (entryIn L) (L .count) (items (entryIn L) 1 0 s (grown (entryIn L) (L .count)))
   list-each = grown-each (entryIn L) (L .count) 1 s
+
+  -- and it passes the strict check, which lists the same
+  pub list-strict : (room : ℕ) → L .count ≤ room → strictOf w first t room ≡ gives (offsets (items (entryIn L) 1 0 s (grown (entryIn L) (L .count))))
+  list-strict room h = written-passes (entryIn L) 1 s (grown (entryIn L) (L .count)) w first t list-wrote room (omega (arith, grown-size (entryIn L) (L .count)))
 
 -- WHICH LISTS ARE REFUSED WHAT: one that adding takes is placed, so that only 7, 8 and 9 are left
 module _ (L : Listing) (shortest : ℕ) (h : Taken L shortest) where
