@@ -90,7 +90,7 @@ times-append : (j : ℕ) (xs ys : List ℕ) → times j (xs ++ ys) ≡ times j x
 times-append j [] ys = omega arith
 times-append j (x ∷ xs) ys = omega (arith, times-append j xs ys)
 
-times-order : (j : ℕ) (x : Tree) → times j (order x) ≡ cnt j x
+pub times-order : (j : ℕ) (x : Tree) → times j (order x) ≡ cnt j x
 times-order j leaf = refl
 times-order j (node l i r) = omega (arith, times-append j (order l) (order r), times-order j l, times-order j r)
 

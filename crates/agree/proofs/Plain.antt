@@ -57,7 +57,7 @@ lookup-255 : isIn 255 lookupAbsent ≡ true
 unfolding isIn
 lookup-255 = refl
 
-lookup-0 : isIn 0 lookupAbsent ≡ true
+pub lookup-0 : isIn 0 lookupAbsent ≡ true
 unfolding isIn
 lookup-0 = refl
 

@@ -26,11 +26,11 @@ offsets = map (λ (y : Item). y .offset)
 abbrev pub placedAt : ℕ → Item → Placed
 placedAt place y = record { header = headerFor y; place = place + y .offset }
 
--- a name has these bytes, raised
+-- two names are the same, raised
 abbrev pub Same : List ℕ → List ℕ → Type 0
 Same a b = map raised a ≡ map raised b
 
--- no lookup in a written table reads more headers
+-- as many headers as a lookup in a written table reads at most
 abbrev pub mostHeaders : ℕ
 mostHeaders = 19
 
@@ -70,5 +70,5 @@ module _ (absent : List ℕ) (w : List ℕ) (first : Sector) (t : Region) (place
     pub read : AllIn (ReadBack w first t place) xs
     -- each is found under its name unless a link on the way is taken for absent
     pub reached : AllIn Reached xs
-    -- nothing else is found, and no lookup reads more headers than that
+    -- nothing else is found, and no lookup reads more than so many headers
     pub sound : (name : List ℕ) → anyHigh name ≡ false → Sound xs mostHeaders name (lookupBy absent w first t name)

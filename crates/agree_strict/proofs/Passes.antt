@@ -23,6 +23,8 @@ use Rattle.read_walk.specs.Walk.{before}
 use Rattle.read_walk.proofs.Steps.{before-none, before-before}
 use Rattle.strict.specs.Strict as strict
 use Rattle.strict.specs.Strict.{endBy, nameBy, inSector, clear, apart, placed, isLess, Visit, ordered, verdictAt, push, toEntry, strictFrom, strictOf}
+use Rattle.strict.specs.Accepts.{Accepts}
+use Rattle.strict.proofs.Accepted.{accepted}
 use Rattle.avl_model.specs.Tree.{Tree, leaf, node}
 use Rattle.avl_model.specs.Laws.{All, Ordered, size}
 use Rattle.avl_model.proofs.Avl as avl
@@ -246,6 +248,11 @@ written-passes entry align s leaf w first t g room h =
     rw (ne-eqb (t .size) 0 (λ q. omega (arith, g .sized))) (strict-none w (readAt w first t) (t .size) room (empty-read entry align s w first t (g .stand) (g .sized)))
 written-passes entry align s (node l i r) w first t g room h =
     strict-node (setting entry align s (node l i r) w first t g) l i r s (ready entry align s (node l i r) w first t g) (g .writable .ordered) room h
+
+-- it is a table of the rule: the walk ends, no entry is reached twice, entries are inside, whole and disjoint, and names are in order
+pub written-accepts : (entry : ℕ → Entry) (align s : ℕ) (x : Tree) (w : List ℕ) (first : Sector) (t : Region) → Written entry align s x w first t
+    → Accepts w first t (offsets (items entry align 0 s x))
+written-accepts entry align s x w first t g = accepted w first t (size x) (offsets (items entry align 0 s x)) (written-passes entry align s x w first t g (size x) (omega arith)) .0
 
 -- and so the table of every list that is admitted
 pub list-passes : (align s : ℕ) (gs : List Given) (w : List ℕ) (first : Sector) (t : Region) → WrittenList align s gs w first t
