@@ -1,0 +1,2 @@
+-- What the proofs of the code are made of, and the bridge from columns to a table.
+pub mod Steps

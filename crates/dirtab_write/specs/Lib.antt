@@ -1,0 +1,2 @@
+-- Entries in columns, and what writing them leaves.
+pub mod Columns
