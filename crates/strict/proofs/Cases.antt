@@ -30,10 +30,11 @@ pub record Cases : Type 0 where
   pub too-many-before-place : checkOf 4 8 98 97 99 40 2 ≡ refuses 26 []
   -- 31: c to the left of b
   pub wrong-side : checkOf 4 8 98 99 97 48 3 ≡ refuses 31 (16 ∷ [])
-  -- 32: the last entry is not all in the table, also where its name is out of order; an entry starts inside another
+  -- 32: the last entry is not all in the table, also where its name is out of order; an entry starts inside the one listed last, or before that
   pub past-the-end : checkOf 4 8 98 97 99 40 3 ≡ refuses 32 (32 ∷ [])
   pub past-the-end-before-order : checkOf 4 8 98 97 97 40 3 ≡ refuses 32 (32 ∷ [])
   pub inside-another : checkOf 4 5 98 97 99 48 3 ≡ refuses 32 (20 ∷ [])
+  pub inside-an-earlier : checkOf 8 1 98 120 97 48 3 ≡ refuses 32 (4 ∷ [])
   -- 23, 24: a link past the table; an entry that is not all in the window
   pub outside : checkOf 4 12 98 97 99 48 3 ≡ refuses 23 (48 ∷ [])
   pub cut-short : checkOf 4 9 98 97 99 48 3 ≡ refuses 24 (36 ∷ [])
@@ -50,6 +51,7 @@ cases = record {
   past-the-end = refl;
   past-the-end-before-order = refl;
   inside-another = refl;
+  inside-an-earlier = refl;
   outside = refl;
   cut-short = refl;
 }
