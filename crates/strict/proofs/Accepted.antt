@@ -73,7 +73,7 @@ module _ (w : List ℕ) (f : ℕ → Told (Option Placed)) (size : ℕ) where
       (λ (n : List·Memᴰ v stack). on-stack c v n y e) (List·Memᴰ·cases-cons m)
   on-stack (taken seen u stack xs x there sound c) v m y e = ⊎-elim
       (λ (d : v ≡ u). subst (λ (a : Visit). ordered w f a (nameFrom w y) ≡ true) (sym d)
-          (ap (λ (b : Placed). ordered w f u (nameFrom w b)) (sym (same-entry (u .offset) (v .offset) x y (ap (λ (a : Visit). a .offset) (sym d)) there e)) ∙ sound .in-order))
+      (ap (λ (b : Placed). ordered w f u (nameFrom w b)) (sym (same-entry (u .offset) (v .offset) x y (ap (λ (a : Visit). a .offset) (sym d)) there e)) ∙ sound .in-order))
       (λ (n : List·Memᴰ v stack). on-stack c v (push-stays _ v _ _ (push-stays _ v _ stack n)) y e) (List·Memᴰ·cases-cons m)
 
   -- the children of an entry, as its visits ask
@@ -97,7 +97,8 @@ module _ (w : List ℕ) (f : ℕ → Told (Option Placed)) (size : ℕ) where
   children (taken seen u stack xs z there sound c) o x m e = ⊎-elim
       (λ (d : o ≡ u .offset). subst Children (same-entry (u .offset) o z x (sym d) there e) (
         (λ y a g. left-less (u .offset) z y there u (on-stack c (visitLeft (z .header .left .0) u (u .offset)) (push-there _ _ _ a) y g)),
-        (λ y a g. right-greater (u .offset) z y there u (on-stack c (visitRight (z .header .right .0) u (u .offset)) (push-stays _ _ _ _ (push-there _ _ _ a)) y g))))
+        (λ y a g. right-greater (u .offset) z y there u (on-stack c (visitRight (z .header .right .0) u (u .offset)) (push-stays _ _ _ _ (push-there _ _ _ a)) y g)),
+      ))
       (λ (n : List·Memᴰ o xs). children c o x n e) (List·Memᴰ·cases-cons m)
 
   -- none is among those seen before
@@ -135,9 +136,10 @@ module _ (w : List ℕ) (f : ℕ → Told (Option Placed)) (size : ℕ) where
   place-of : (o : ℕ) (x : Placed) (seen : List ℕ) → placed f size o (endOf (x .header) o) seen ≡ true → Place o x
   unfolding placed
   place-of o x seen h =
-      let s : inSector size o (endOf (x .header) o) ≡ true = both-first (inSector size o (endOf (x .header) o)) (apart f o (endOf (x .header) o) seen) h in
-      (leb-true _ _ (both-first (leb (endOf (x .header) o) size) (eqb (o / 2048) ((endOf (x .header) o - 1) / 2048)) s),
-      eqb-true _ _ (both-second (leb (endOf (x .header) o) size) (eqb (o / 2048) ((endOf (x .header) o - 1) / 2048)) s))
+      let s : inSector size o (endOf (x .header) o) ≡ true = both-first (inSector size o (endOf (x .header) o)) (apart f o (endOf (x .header) o) seen) h in (
+        leb-true _ _ (both-first (leb (endOf (x .header) o) size) (eqb (o / 2048) ((endOf (x .header) o - 1) / 2048)) s),
+        eqb-true _ _ (both-second (leb (endOf (x .header) o) size) (eqb (o / 2048) ((endOf (x .header) o - 1) / 2048)) s),
+      )
 
   in-place : {seen : List ℕ} {stack : List Visit} {xs : List ℕ} → Course w f size seen stack xs → (o : ℕ) (x : Placed) → List·Memᴰ o xs → f o ≡ gives (some x) → Place o x
   in-place (over seen) o x m e = absurd (List·Memᴰ·not-nil m)
@@ -174,7 +176,7 @@ module _ (w : List ℕ) (f : ℕ → Told (Option Placed)) (size : ℕ) where
   from-seen (skipped seen u stack xs none-there c) o p x y m n e g = from-seen c o p x y m n e g
   from-seen (taken seen u stack xs z there sound c) o p x y m n e g = ⊎-elim
       (λ (d : o ≡ u .offset). subst (λ (a : ℕ). Apart a x p y) (sym d)
-          (subst (λ (b : Placed). Apart (u .offset) b p y) (same-entry (u .offset) o z x (sym d) there e) (apart-of (u .offset) p z y seen (sound .in-place) n g)))
+      (subst (λ (b : Placed). Apart (u .offset) b p y) (same-entry (u .offset) o z x (sym d) there e) (apart-of (u .offset) p z y seen (sound .in-place) n g)))
       (λ (k : List·Memᴰ o xs). from-seen c o p x y k (Memᴰ·append-left (u .offset ∷ []) n) e g) (List·Memᴰ·cases-cons m)
 
   disjoint : {seen : List ℕ} {stack : List Visit} {xs : List ℕ} → Course w f size seen stack xs → (o p : ℕ) (x y : Placed) → List·Memᴰ o xs → List·Memᴰ p xs →
@@ -183,11 +185,11 @@ module _ (w : List ℕ) (f : ℕ → Told (Option Placed)) (size : ℕ) where
   disjoint (skipped seen u stack xs none-there c) o p x y m n e g differ = disjoint c o p x y m n e g differ
   disjoint (taken seen u stack xs z there sound c) o p x y m n e g differ = ⊎-elim
       (λ (a : o ≡ u .offset). ⊎-elim
-          (λ (b : p ≡ u .offset). absurd (differ (a ∙ sym b)))
-          (λ (b : List·Memᴰ p xs). turned p o y x (from-seen c p o y x b (Memᴰ·append-right seen (List·Memᴰ·head a)) g e)) (List·Memᴰ·cases-cons n))
+      (λ (b : p ≡ u .offset). absurd (differ (a ∙ sym b)))
+      (λ (b : List·Memᴰ p xs). turned p o y x (from-seen c p o y x b (Memᴰ·append-right seen (List·Memᴰ·head a)) g e)) (List·Memᴰ·cases-cons n))
       (λ (a : List·Memᴰ o xs). ⊎-elim
-          (λ (b : p ≡ u .offset). from-seen c o p x y a (Memᴰ·append-right seen (List·Memᴰ·head b)) e g)
-          (λ (b : List·Memᴰ p xs). disjoint c o p x y a b e g differ) (List·Memᴰ·cases-cons n)) (List·Memᴰ·cases-cons m)
+      (λ (b : p ≡ u .offset). from-seen c o p x y a (Memᴰ·append-right seen (List·Memᴰ·head b)) e g)
+      (λ (b : List·Memᴰ p xs). disjoint c o p x y a b e g differ) (List·Memᴰ·cases-cons n)) (List·Memᴰ·cases-cons m)
 
 module _ (w : List ℕ) (first : Sector) (t : Region) where
   of-course : (xs : List ℕ) → (t .size ≡ 0 → ⊥) → Course w (readAt w first t) (t .size) [] (root ∷ []) xs → Accepts w first t xs

@@ -102,10 +102,10 @@ module _ (w : List ℕ) (first : Sector) (t : Region) (all : List ℕ) (rule : A
         let p : InPlace w first t o x = rule .in-place o x here-in there in
         ap₂ both (ap₂ both (le-leb _ _ (p .inside)) (eq-eqb _ _ (p .uncrossed)))
         (apart-all seen (λ q m.
-          let e : (y : Placed) × (f q ≡ gives (some y)) = entries q m in
-          is-clear f o (endOf (x .header) o) q (⊎-elim (λ (a : endOf (x .header) o ≤ q). inl a)
-          (λ (a : endOf (e .0 .header) q ≤ o). inr (let d : endBy (f q) q ≡ endOf (e .0 .header) q = ap (λ (r : Told (Option Placed)). endBy r q) (e .1) in omega arith))
-          (rule .disjoint o q x (e .0) here-in (seen-in q m) there (e .1) (λ d. true-not-false (mem-in q seen m) (ap (λ (a : ℕ). isIn a seen) (sym d) ∙ is-new))))))
+        let e : (y : Placed) × (f q ≡ gives (some y)) = entries q m in
+        is-clear f o (endOf (x .header) o) q (⊎-elim (λ (a : endOf (x .header) o ≤ q). inl a)
+        (λ (a : endOf (e .0 .header) q ≤ o). inr (let d : endBy (f q) q ≡ endOf (e .0 .header) q = ap (λ (r : Told (Option Placed)). endBy r q) (e .1) in omega arith))
+        (rule .disjoint o q x (e .0) here-in (seen-in q m) there (e .1) (λ d. true-not-false (mem-in q seen m) (ap (λ (a : ℕ). isIn a seen) (sym d) ∙ is-new))))))
 
     -- the children's visits
     left-ordered : (v : Visit) → isIn (x .header .left .0) walkAbsent ≡ false → (y : Placed) → f (4 * x .header .left .0) ≡ gives (some y) →
@@ -121,14 +121,14 @@ module _ (w : List ℕ) (first : Sector) (t : Region) (all : List ℕ) (rule : A
   still-ordered : (seen xs : List ℕ) (v : Visit) (x : Placed) → f (v .offset) ≡ gives (some x) → all ≡ seen ++ (v .offset ∷ xs) → (stack : List Visit) → Ordered stack → Ordered (entered v x stack)
   still-ordered seen xs v x there whole stack good u m y e = ⊎-elim
       (λ (a : (isIn (x .header .left .0) walkAbsent ≡ false) × (u ≡ visitLeft (x .header .left .0) v (v .offset))).
-          subst (λ (q : Visit). ordered w f q (nameFrom w y) ≡ true) (sym (a .1))
-          (left-ordered seen xs (v .offset) x there whole v (a .0) y (ap (λ (q : Visit). f (q .offset)) (sym (a .1)) ∙ e)))
+      subst (λ (q : Visit). ordered w f q (nameFrom w y) ≡ true) (sym (a .1))
+      (left-ordered seen xs (v .offset) x there whole v (a .0) y (ap (λ (q : Visit). f (q .offset)) (sym (a .1)) ∙ e)))
       (λ (b : List·Memᴰ u (push (x .header .right .0) (visitRight (x .header .right .0) v (v .offset)) stack)). ⊎-elim
-          (λ (a : (isIn (x .header .right .0) walkAbsent ≡ false) × (u ≡ visitRight (x .header .right .0) v (v .offset))).
-              subst (λ (q : Visit). ordered w f q (nameFrom w y) ≡ true) (sym (a .1))
-              (right-ordered seen xs (v .offset) x there whole v (a .0) y (ap (λ (q : Visit). f (q .offset)) (sym (a .1)) ∙ e)))
-          (λ (d : List·Memᴰ u stack). good u d y e)
-          (on-pushed (x .header .right .0) u (visitRight (x .header .right .0) v (v .offset)) stack b))
+      (λ (a : (isIn (x .header .right .0) walkAbsent ≡ false) × (u ≡ visitRight (x .header .right .0) v (v .offset))).
+      subst (λ (q : Visit). ordered w f q (nameFrom w y) ≡ true) (sym (a .1))
+      (right-ordered seen xs (v .offset) x there whole v (a .0) y (ap (λ (q : Visit). f (q .offset)) (sym (a .1)) ∙ e)))
+      (λ (d : List·Memᴰ u stack). good u d y e)
+      (on-pushed (x .header .right .0) u (visitRight (x .header .right .0) v (v .offset)) stack b))
       (on-pushed (x .header .left .0) u (visitLeft (x .header .left .0) v (v .offset)) (push (x .header .right .0) (visitRight (x .header .right .0) v (v .offset)) stack) m)
 
   still-entries : (seen : List ℕ) (o : ℕ) (x : Placed) → f o ≡ gives (some x) → Entries seen → Entries (seen ++ (o ∷ []))

@@ -88,7 +88,7 @@ module _ (w : List ℕ) (f : ℕ → Told (Option Placed)) (size : ℕ) where
         let sn : List ℕ = seen ++ (v .offset ∷ []) in
         let st : List Visit = entered v x stack in
         let u : (verdictAt w f size seen false v x ≡ gives tt) × (before (v .offset ∷ []) (strictFrom w f size room sn st) ≡ gives xs) =
-            if-good (verdictAt w f size seen false v x) (before (v .offset ∷ []) (strictFrom w f size room sn st)) xs (sym (check-room w f size seen v stack x e room) ∙ g) in
+        if-good (verdictAt w f size seen false v x) (before (v .offset ∷ []) (strictFrom w f size room sn st)) xs (sym (check-room w f size seen v stack x e room) ∙ g) in
         let b : (ys : List ℕ) × (strictFrom w f size room sn st ≡ gives ys) × (v .offset ∷ ys ≡ xs) = before-gives (v .offset) (strictFrom w f size room sn st) xs (u .1) in
         let d : Checks room sn st (b .0) = less sn st (b .0) (b .1) in
         subst (Checks (suc room) seen (v ∷ stack)) (b .2)

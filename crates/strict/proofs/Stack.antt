@@ -62,9 +62,9 @@ pub children : (s : List ℕ) (top c k : ℕ) (h : Header) → (top + 1 < length
 children s top c k h room is-k low-left low-right s₁ t₁ p s₂ t₂ q =
     let low : k < 65535 = omega arith in
     let a : visitOf (h .left .0 + 65536 * (k + 4294901760)) ≡ visitLeft (h .left .0) (visitOf c) (4 * k) =
-        unpacked (h .left .0) k 65535 low-left (omega arith) (omega arith) (k + 4294901760) (omega arith) ∙ ap (λ (b : Option ℕ). record { offset = 4 * h .left .0; under = b; over = none }) (bound-of-link k low) in
+    unpacked (h .left .0) k 65535 low-left (omega arith) (omega arith) (k + 4294901760) (omega arith) ∙ ap (λ (b : Option ℕ). record { offset = 4 * h .left .0; under = b; over = none }) (bound-of-link k low) in
     let b : visitOf (h .right .0 + 65536 * (65535 + 65536 * k)) ≡ visitRight (h .right .0) (visitOf c) (4 * k) =
-        unpacked (h .right .0) 65535 k low-right (omega arith) (omega arith) (65535 + 65536 * k) refl ∙ ap (λ (b : Option ℕ). record { offset = 4 * h .right .0; under = none; over = b }) (bound-of-link k low) in
+    unpacked (h .right .0) 65535 k low-right (omega arith) (omega arith) (65535 + 65536 * k) refl ∙ ap (λ (b : Option ℕ). record { offset = 4 * h .right .0; under = none; over = b }) (bound-of-link k low) in
     record {
       stack = rw (← is-k) (q .stack ∙ ap (λ (v : Visit). push (h .left .0) v (visitsOf s₁ t₁)) a
           ∙ ap (push (h .left .0) (visitLeft (h .left .0) (visitOf c) (4 * k))) (p .stack ∙ ap (λ (v : Visit). push (h .right .0) v (visitsOf s top)) b));

@@ -151,7 +151,7 @@ module _ (w : List ℕ) (first : Sector) (t : Region) (x : Told (List ℕ)) (roo
         pub faulty : (a : Checked) → v ≡ verdict.Bad a → Runs x a list
         faulty a e =
             let j : Judged (verdict.Bad a) (verdictAt w (readAt w first t) (t .size) (take n list) (eqb (room - n) 0) (visitOf c) e₀) =
-                subst (λ (u : Verdict). Judged u (verdictAt w (readAt w first t) (t .size) (take n list) (eqb (room - n) 0) (visitOf c) e₀)) e verdict-here in
+            subst (λ (u : Verdict). Judged u (verdictAt w (readAt w first t) (t .size) (take n list) (eqb (room - n) 0) (visitOf c) e₀)) e verdict-here in
             refused x a list (j .0) (j .1)
             (popped ∙ ap (before (take n list)) (check-bad w (readAt w first t) (t .size) (take n list) (visitOf c) (visitsOf scratch (top - 1)) e₀ entry-at (room - n) (j .0) (j .1) (j .2))) (j .3)
 
@@ -193,7 +193,7 @@ module _ (w : List ℕ) (first : Sector) (t : Region) (x : Told (List ℕ)) (roo
               popped
               ∙ ap (λ (m : ℕ). before (take n list) (checkOn w first t m (take n list) (visitOf c ∷ visitsOf scratch (top - 1)))) z
               ∙ ap (before (take n list)) (check-entry w (readAt w first t) (t .size) (take n list) (visitOf c) (visitsOf scratch (top - 1)) e₀ entry-at (room - (n + 1))
-                  (ap (λ (b : Bool). verdictAt w (readAt w first t) (t .size) (take n list) b (visitOf c) e₀) (sym (fine .room)) ∙ good-here))
+              (ap (λ (b : Bool). verdictAt w (readAt w first t) (t .size) (take n list) b (visitOf c) e₀) (sym (fine .room)) ∙ good-here))
               ∙ before-before (take n list) (o ∷ []) (checkOn w first t (room - (n + 1)) (take n list ++ (o ∷ [])) st)
               ∙ ap (λ (ys : List ℕ). before ys (checkOn w first t (room - (n + 1)) ys st)) (sym (ap (λ (m : ℕ). take m (set list n o)) (add-one n) ∙ take-suc-set list n o g))
 
@@ -206,10 +206,10 @@ module _ (w : List ℕ) (first : Sector) (t : Region) (x : Told (List ℕ)) (roo
               let g : n < length list = has-place in
               let same : num ≡ o = is-num ∙ p-is ∙ ap (λ (j : ℕ). 4 * j) l-is in
               let list-now : take m (set list n num) ≡ take n list ++ (o ∷ []) =
-                  rw (d, same, add-one n) (take-suc-set list n o g) in
+              rw (d, same, add-one n) (take-suc-set list n o g) in
               let ends : endBy (readAt w first t o) o ≡ 4 * (endOf h o / 4) = ap (λ (y : Told (Option Placed)). endBy y o) entry-at ∙ omega arith in
               let alone-now : apart (readAt w first t) o (4 * (endOf h o / 4)) (take n list) ≡ true =
-                  ap (λ (y : ℕ). apart (readAt w first t) o y (take n list)) (omega arith) ∙ alone in
+              ap (λ (y : ℕ). apart (readAt w first t) o y (take n list)) (omega arith) ∙ alone in
               record {
                 to-do = rw (d, same) (after-one ∙ ap (λ (st : List Visit). before (take (n + 1) (set list n o)) (checkOn w first t (room - (n + 1)) (take (n + 1) (set list n o)) st))
                     (sym (entered .stack ∙ ap (λ (j : ℕ). push (h .left .0) (visitLeft (h .left .0) (visitOf c) o) (push (h .right .0) (visitRight (h .right .0) (visitOf c) o) (visitsOf scratch j))) is-u)));

@@ -91,9 +91,9 @@ module _ (f : ℕ → Told (Option Placed)) where
         ((u : ℕ) → Looked k t u → (4 * u + 4 ≤ x) ⊎ (endBy (f x) x ≤ 4 * u)) → ⊥
     stands-on x a b p q long before after says = ⊎-elim
         (λ (l : k < a). ⊎-elim
-            (λ (m : t < b). ⊎-elim (λ (g : 4 * (t - 1) + 4 ≤ x). omega arith) (λ (g : endBy (f x) x ≤ 4 * (t - 1)). omega arith) (says (t - 1) (inr refl)))
-            (λ (m : b ≤ t). inner l m (k + (a - k + 3) / 4 * 4) (omega arith) (omega arith) (omega arith))
-            (below-or-not t b))
+        (λ (m : t < b). ⊎-elim (λ (g : 4 * (t - 1) + 4 ≤ x). omega arith) (λ (g : endBy (f x) x ≤ 4 * (t - 1)). omega arith) (says (t - 1) (inr refl)))
+        (λ (m : b ≤ t). inner l m (k + (a - k + 3) / 4 * 4) (omega arith) (omega arith) (omega arith))
+        (below-or-not t b))
         (λ (l : a ≤ k). ⊎-elim (λ (g : 4 * k + 4 ≤ x). omega arith) (λ (g : endBy (f x) x ≤ 4 * k). omega arith) (says k (inl (omega arith, some-units, omega arith))))
         (below-or-not k a)
       where
@@ -112,9 +112,9 @@ module _ (f : ℕ → Told (Option Placed)) where
         one : Whole f x → ((u : ℕ) → Looked k t u → (4 * u + 4 ≤ x) ⊎ (endBy (f x) x ≤ 4 * u)) → clear f (4 * k) (4 * t) x ≡ true
         one w at = ⊎-elim
             (λ (l : x < 4 * t). ⊎-elim
-                (λ (m : 4 * k < endBy (f x) x). absurd (stands-on x (w .from) (w .to) (w .starts) (w .ends) (w .long) (omega (arith, w .starts)) (omega (arith, w .ends)) at))
-                (λ (m : endBy (f x) x ≤ 4 * k). is-clear (4 * k) (4 * t) x (inr m))
-                (below-or-not (4 * k) (endBy (f x) x)))
+            (λ (m : 4 * k < endBy (f x) x). absurd (stands-on x (w .from) (w .to) (w .starts) (w .ends) (w .long) (omega (arith, w .starts)) (omega (arith, w .ends)) at))
+            (λ (m : endBy (f x) x ≤ 4 * k). is-clear (4 * k) (4 * t) x (inr m))
+            (below-or-not (4 * k) (endBy (f x) x)))
             (λ (l : 4 * t ≤ x). is-clear (4 * k) (4 * t) x (inl l))
             (below-or-not x (4 * t))
 

@@ -63,7 +63,7 @@ module _ (f : ℕ → Told (Option Placed)) where
     given-room-by room less (gives (some x)) e down g =
         let st : List ℕ = push walkAbsent (x .header .left .0) (push walkAbsent (x .header .right .0) stack) in
         let b : (ys : List ℕ) × (walkFrom walkAbsent f room st ≡ gives ys) × (o ∷ ys ≡ xs) =
-            before-gives o (walkFrom walkAbsent f room st) xs (sym (walk-entry walkAbsent f o stack room x e) ∙ g) in
+        before-gives o (walkFrom walkAbsent f room st) xs (sym (walk-entry walkAbsent f o stack room x e) ∙ g) in
         let d : Walks room st (b .0) = less st (b .0) (b .1) in
         subst (Walks (suc room) (o ∷ stack)) (b .2) (listed o stack (b .0) x e (d .0), (let l : length (b .0) ≤ room = d .1 in omega arith))
     given-room-by room less (gives none) e down g =
