@@ -34,7 +34,7 @@ use Rattle.table_model.specs.Place.{items}
 use Rattle.table_model.specs.Table.{Placing, sizeOf, tableBytes, placeOf}
 use Rattle.table_model.specs.Said.{Fits}
 use Rattle.table_model.proofs.Placing.{size-given}
-use Rattle.dirtab_list.specs.Grow.{ifTaken, ifFree, between, growFrom, grow}
+use Rattle.dirtab_list.specs.Grow.{ifTaken, ifFree, growFrom, orderIn, grow}
 use Rattle.dirtab_list.specs.Whole.{Listing, givenIn, entryIn, hasPlaces, ifFits, ifGrown, wholeOf, tableFor, ifWritten, outAfter}
 use Rattle.strict.specs.Strict.{strictOf}
 use Rattle.agree.specs.Written.{Before, Stand, Written}
@@ -67,7 +67,7 @@ module _ (L : Listing) where
   T n = grown E n
 
   -- the tree with one more entry is ordered, where the search ended at a free place
-  ordered-more : (i : ℕ) (r : Place) → Ordered (Before E) (T i) → spotIn (between (L .bytes) (givenIn L) i) (T i) Root ≡ Free r → Ordered (Before E) (T (suc i))
+  ordered-more : (i : ℕ) (r : Place) → Ordered (Before E) (T i) → spotIn (orderIn (L .bytes) (givenIn L) i) (T i) Root ≡ Free r → Ordered (Before E) (T (suc i))
   unfolding grown toName
   ordered-more i r o e = ins-names N (nameAt N i) i refl (T i) Root r o e
 
@@ -78,21 +78,21 @@ module _ (L : Listing) where
     checked : (j : ℕ) → i ≤ j → j < n → checkOf (L .bytes) (givenIn L j) ≡ gives tt
 
   abbrev growing : ℕ → ℕ → Tree → Told Tree
-  growing k i t = growFrom (L .bytes) (givenIn L) k i t
+  growing k i t = growFrom (λ j. checkOf (L .bytes) (givenIn L j)) (orderIn (L .bytes) (givenIn L)) k i t
 
   abbrev check : ℕ → Told (Unit {0})
   check i = checkOf (L .bytes) (givenIn L i)
 
   -- one more entry in the tree
   abbrev put : ℕ → Tree
-  put i = ins (λ j. isLess (between (L .bytes) (givenIn L) i j)) i (T i)
+  put i = ins (λ j. isLess (orderIn (L .bytes) (givenIn L) i j)) i (T i)
 
   put-is : (k i : ℕ) → growing k (i + 1) (put i) ≡ growing k (suc i) (T (suc i))
   unfolding grown
   put-is k i = ap (λ (m : ℕ). growing k m (put i)) (add-one i)
 
   grow-step : (k i : ℕ)
-      → growing (suc k) i (T i) ≡ ifTaken i (check i) (ifFree i (spotIn (between (L .bytes) (givenIn L) i) (T i) Root) (pick (ltb i 16384) (growing k (i + 1) (put i)) (refuses 6 (i ∷ []))))
+      → growing (suc k) i (T i) ≡ ifTaken i (check i) (ifFree i (spotIn (orderIn (L .bytes) (givenIn L) i) (T i) Root) (pick (ltb i 16384) (growing k (i + 1) (put i)) (refuses 6 (i ∷ []))))
   unfolding growFrom
   grow-step k i = refl
 
@@ -121,7 +121,7 @@ module _ (L : Listing) where
         checked = λ j p z. absurd (omega arith);
       }
   grew (suc k) i n u h o e =
-      let s = took i (check i) (spotIn (between (L .bytes) (givenIn L) i) (T i) Root) (ltb i 16384) (growing k (i + 1) (put i)) u (sym (grow-step k i) ∙ e) in
+      let s = took i (check i) (spotIn (orderIn (L .bytes) (givenIn L) i) (T i) Root) (ltb i 16384) (growing k (i + 1) (put i)) u (sym (grow-step k i) ∙ e) in
       one-more i n u (s .0) (grew k (suc i) n u (omega arith) (ordered-more i (s .1 .0) o (s .1 .1)) (sym (put-is k i) ∙ s .2))
 
   from-leaf : (n : ℕ) → grow (L .bytes) (givenIn L) n ≡ growing n 0 (T 0)
@@ -201,10 +201,10 @@ module _ (L : Listing) (shortest s : ℕ) (out : List ℕ) (p : Placing) (w : Li
 
 -- WHICH LISTS ARE REFUSED WHAT: one that adding takes is placed, so that only 7, 8 and 9 are left
 module _ (L : Listing) (shortest : ℕ) (h : Taken L shortest) where
-  free-at : (i : ℕ) → i < L .count → (q : Spot) → spotIn (between (L .bytes) (givenIn L) i) (T L i) Root ≡ q → (x : Told Tree) → ifFree i q x ≡ x
+  free-at : (i : ℕ) → i < L .count → (q : Spot) → spotIn (orderIn (L .bytes) (givenIn L) i) (T L i) Root ≡ q → (x : Told Tree) → ifFree i q x ≡ x
   free-at i k (Free r) e x = refl
   free-at i k (Same j) e x =
-      let f = same-found (between (L .bytes) (givenIn L) i) (T L i) Root j e in
+      let f = same-found (orderIn (L .bytes) (givenIn L) i) (T L i) Root j e in
       let below : j < i = all-at (λ m. m < i) (T L i) j (grown-below (E L) i) (f .1) in
       absurd (omega (arith, h .differ i j k (omega arith) (name-equal→ (nameIn (L .bytes) (givenIn L i)) (nameIn (L .bytes) (givenIn L j)) (f .0))))
 
@@ -214,7 +214,7 @@ module _ (L : Listing) (shortest : ℕ) (h : Taken L shortest) where
       let few : i < 16384 = omega (arith, h .few) in
       let at : i < L .count = omega arith in
       grow-step L k i
-      ∙ rw (h .checked i at) (free-at i at (spotIn (between (L .bytes) (givenIn L) i) (T L i) Root) refl _
+      ∙ rw (h .checked i at) (free-at i at (spotIn (orderIn (L .bytes) (givenIn L) i) (T L i) Root) refl _
       ∙ rw (lt-ltb i 16384 few) (put-is L k i ∙ grows k (suc i) (omega arith)))
 
   -- the answer is what placing the tree of all entries answers, and 9 where the output is too short for it
