@@ -3,3 +3,6 @@ pub mod Room
 pub mod Checks
 pub mod Growing
 pub mod Ways
+pub mod Told
+pub mod Given
+pub mod Again
