@@ -6,7 +6,7 @@ ghost use lib.ListN.{length, set, take};
 ghost use Rattle.dirtab_entry.specs.Entry.{isDirectory, storedSize, nameIn};
 ghost use Rattle.avl_model.specs.declared.Place.the-variants.{Root};
 ghost use Rattle.avl_model.specs.Lists.{lists};
-ghost use Rattle.avl_model.specs.Names.{names as named, toName, isLess};
+ghost use Rattle.avl_model.specs.Names.{names, toName, isLess};
 ghost use Rattle.avl_model.specs.Seek.{spotIn, Sought};
 ghost use Rattle.avl_model.specs.Tree.{ins};
 ghost use Rattle.avl_model.specs.Insert.{Placed};
@@ -112,18 +112,26 @@ fn find_place(
     right: &[u16],
     start: &[u32],
     len: &[u32],
-    names: &[u8],
+    bytes: &[u8],
     entry: Entry,
 ) -> Spot
-    requires { ⌜ (tree .count ≤ length (now left)) × (tree .count ≤ length (now right)) × (entry .start + entry .len ≤ length (now names)) × (entry .len ≤ 255) ⌝ }
-    requires { ⌜ Sought (take (tree .count) (now left)) (take (tree .count) (now right)) (tree .root) (named (now names) (now start) (now len)) ⌝ }
-    ensures { λ s. ⌜ ((w : Sought (take (tree .count) (now (left .entry))) (take (tree .count) (now (right .entry))) (tree .root) (named (now (names .entry)) (now (start .entry)) (now (len .entry)))) →
-        s ≡ spotIn (toName (named (now (names .entry)) (now (start .entry)) (now (len .entry))) (nameIn (now (names .entry)) entry)) (w .linked .t) Root) ⌝ }
+    requires { ⌜ (tree .count ≤ length (now left)) × (tree .count ≤ length (now right)) × (entry .start + entry .len ≤ length (now bytes)) × (entry .len ≤ 255) ⌝ }
+    requires { ⌜ Sought (take (tree .count) (now left)) (take (tree .count) (now right)) (tree .root) (names (now bytes) (now start) (now len)) ⌝ }
+    ensures { λ s. ⌜ ((w : Sought (take (tree .count) (now (left .entry))) (take (tree .count) (now (right .entry))) (tree .root) (names (now (bytes .entry)) (now (start .entry)) (now (len .entry)))) →
+        s ≡ spotIn (toName (names (now (bytes .entry)) (now (start .entry)) (now (len .entry))) (nameIn (now (bytes .entry)) entry)) (w .linked .t) Root) ⌝ }
 {
     let n = widen(tree.count);
     let from = widen_place(entry.start);
     let to = from + widen_place(entry.len);
-    find_spot(&left[..n], &right[..n], names, start, len, tree.root, &names[from..to])
+    find_spot(
+        &left[..n],
+        &right[..n],
+        bytes,
+        start,
+        len,
+        tree.root,
+        &bytes[from..to],
+    )
 }
 
 // Of an entry that adding takes by itself: 4 where its name is there, then 6.
@@ -172,11 +180,32 @@ fn judge(
 ) -> Verdict
     ensures { λ v. ⌜ Judged v (arena (tree .root) (tree .count) (columns (now (left .entry)) (now (right .entry)) (now (parent .entry)) (now (height .entry)) (now (start .entry)) (now (len .entry)) (now (size .entry)) (now (kind .entry))) (now (names .entry))) entry ⌝ }
 {
-    if is_arena(tree, left, right, parent, height, start, len, size, kind, names) {
+    if is_arena(
+        tree,
+        left,
+        right,
+        parent,
+        height,
+        start,
+        len,
+        size,
+        kind,
+        names,
+    ) {
         match check_entry(names, entry) {
             EntryChecked::Good => {
                 return judge_name(
-                    tree, left, right, parent, height, start, len, size, kind, names, entry,
+                    tree,
+                    left,
+                    right,
+                    parent,
+                    height,
+                    start,
+                    len,
+                    size,
+                    kind,
+                    names,
+                    entry,
                 );
             }
             EntryChecked::EmptyName => return Verdict::Refuse(Added::EmptyName),
@@ -265,7 +294,19 @@ pub fn add(
     ensures { λ _. ⌜ columns (now (left .exit)) (now (right .exit)) (now (parent .exit)) (now (height .exit)) (now (start .exit)) (now (len .exit)) (now (size .exit)) (now (kind .exit))
         ≡ columnsAfter (arena (tree .root) (tree .count) (columns (now (left .entry)) (now (right .entry)) (now (parent .entry)) (now (height .entry)) (now (start .entry)) (now (len .entry)) (now (size .entry)) (now (kind .entry))) (now (names .entry))) entry ⌝ }
 {
-    let verdict = judge(tree, left, right, parent, height, start, len, size, kind, names, entry);
+    let verdict = judge(
+        tree,
+        left,
+        right,
+        parent,
+        height,
+        start,
+        len,
+        size,
+        kind,
+        names,
+        entry,
+    );
     match verdict {
         Verdict::Refuse(answer) => answer,
         Verdict::Take(place) => {
