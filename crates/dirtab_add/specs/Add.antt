@@ -1,7 +1,7 @@
 -- Adding an entry to an arena: 12, then 1, 2, 3, 5, 4, 6; on a refusal all is unchanged. Assumes nothing.
 use Prim.Native.Nat.{ℕ, _+_}
 use mathlib.Core.Bool.{Bool, _&&_}
-use mathlib.Core.List.{List, []}
+use mathlib.Core.List.{[]}
 use lib.Dec.{ltb}
 use lib.ListN.{length, set}
 use Rattle.units.specs.Told.{Told, gives, refuses, pick}

@@ -3,7 +3,7 @@ use Prim.Native.Nat.{ℕ}
 use mathlib.Core.Path.{_≡_}
 use mathlib.Core.Bool.{true}
 use mathlib.Core.List.{[]}
-use Rattle.units.specs.Told.{Told, gives, refuses}
+use Rattle.units.specs.Told.{gives, refuses}
 use Rattle.dirtab_entry.specs.declared.Entry as given
 use Rattle.dirtab_entry.specs.Entry.{checkOf}
 use Rattle.avl_model.specs.declared.Place.{Place}
