@@ -206,7 +206,18 @@ pub fn serialise(
     ensures order { λ _. ⌜ now (order .exit) ≡ scratchAfter (arena (tree .root) (tree .count) (columns (now (left .entry)) (now (right .entry)) (now (parent .entry)) (now (height .entry)) (now (start .entry)) (now (len .entry)) (now (size .entry)) (now (kind .entry))) (now (names .entry))) (length (now (order .entry))) (length (now (place .entry))) (now (order .entry)) ⌝ }
     ensures place { λ _. ⌜ now (place .exit) ≡ scratchAfter (arena (tree .root) (tree .count) (columns (now (left .entry)) (now (right .entry)) (now (parent .entry)) (now (height .entry)) (now (start .entry)) (now (len .entry)) (now (size .entry)) (now (kind .entry))) (now (names .entry))) (length (now (order .entry))) (length (now (place .entry))) (now (place .entry)) ⌝ }
 {
-    let held = is_arena(tree, left, right, parent, height, start, len, size, kind, names);
+    let held = is_arena(
+        tree,
+        left,
+        right,
+        parent,
+        height,
+        start,
+        len,
+        size,
+        kind,
+        names,
+    );
     if has_room(tree.count, order.len(), place.len()) {
         if held {
             let r = write_held(
