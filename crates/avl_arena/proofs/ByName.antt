@@ -1,11 +1,11 @@
 -- The order of nodes by name: it is strict, and that of the first n names is that of all names.
-use Prim.Native.Nat.{ℕ, _+_, _≤_, _<_}
+use Prim.Native.Nat.{ℕ, _≤_, _<_}
 use native.Mathlib.Omega.{arith}
 use native.Mathlib.Decide.{decLt}
 use mathlib.Core.Path.{_≡_, refl, sym, ap, ap₂, _∙_}
-use mathlib.Core.Bool.{Bool, true, false, _&&_, _||_}
-use mathlib.Core.Logic.{_⊎_, inl, inr}
-use lib.ListN.{length, getD, take, drop}
+use mathlib.Core.Bool.{true, _&&_, _||_}
+use mathlib.Core.Logic.{_⊎_}
+use lib.ListN.{take, drop}
 use lib.Seq.{getD-take}
 use lib.Dec.{leb}
 use borrow.Author.Tests.{le-leb}

@@ -2,7 +2,7 @@
 use Prim.Native.Nat.{ℕ}
 use mathlib.Core.Path.{_≡_, refl}
 use mathlib.Core.Bool.{Bool, true, false}
-use mathlib.Core.List.{List, [], _∷_}
+use mathlib.Core.List.{[], _∷_}
 use Rattle.layout_name.specs.Order.{numberOrder, listOrder, orderBy, raised, nameOrder}
 use Rattle.avl_model.specs.Lists.{lists}
 use Rattle.avl_model.specs.Names.{Names, names, toName}

@@ -1,13 +1,12 @@
 -- The arena test takes every held tree of at most 65,535 nodes: with `Sound`, it says exactly that. And there is one such tree at most.
-use Prim.Native.Nat.{ℕ, suc, _+_, _≤_, _<_, max}
+use Prim.Native.Nat.{ℕ, suc, _+_, _≤_, max}
 use native.Mathlib.Omega.{arith}
-use mathlib.Core.Path.{_≡_, refl, sym, ap, subst, _∙_}
-use mathlib.Core.Bool.{Bool, true, false, _&&_, _||_, or-true}
+use mathlib.Core.Path.{_≡_, refl, sym, ap, _∙_}
+use mathlib.Core.Bool.{Bool, true, _||_, or-true}
 use mathlib.Core.Logic.{_⊎_, inl, inr}
-use mathlib.Core.List.{List}
 use lib.ListN.{length, getD, take}
 use lib.Seq.{getD-take, length-take-le}
-use lib.Dec.{leb, eqb}
+use lib.Dec.{leb}
 use borrow.Author.Tests.{le-leb, eq-eqb}
 use Rattle.layout_name.specs.declared.Order.{Order}
 use Rattle.avl_model.specs.Lists.{Lists}
@@ -19,8 +18,8 @@ use Rattle.avl_model.specs.Laws.{Avl, All, Ordered, size}
 use Rattle.avl_model.specs.Seek.{Links, treeAt}
 use Rattle.avl_model.proofs.Avl.{all-map}
 use Rattle.avl_model.proofs.Seeking.{treeAt-is}
-use Rattle.avl_model.proofs.Counted.{rep-below, low-22}
-use Rattle.avl_arena.specs.Test.{partOf, partNames, places, every, inside, between, cellOk, okTree, treeOf, decoded, isWhole, wholeTree, holdsTree}
+use Rattle.avl_model.proofs.Counted.{low-22}
+use Rattle.avl_arena.specs.Test.{places, between, cellOk, okTree, decoded, isWhole, holdsTree}
 use Rattle.avl_arena.specs.HeldTree.{Before, Places, HeldTree}
 use Rattle.avl_arena.proofs.Tested.{and-both, every-of}
 use Rattle.avl_arena.proofs.ByName.{Lo, Hi}

@@ -1,21 +1,19 @@
 -- The tree that the links of the first n places hold, and its test on the whole columns.
 use Prim.Native.Nat.{ℕ, zero, suc, _+_, _≤_, _<_, max}
 use native.Mathlib.Omega.{arith}
-use mathlib.Core.Path.{_≡_, refl, sym, ap, ap₂, subst, _∙_}
+use mathlib.Core.Path.{_≡_, refl, ap₂, subst}
 use mathlib.Core.Bool.{Bool, true, false, _&&_}
 use mathlib.Core.List.{List}
 use lib.ListN.{length, getD, take}
 use lib.Seq.{getD-take, length-take-le}
 use lib.Dec.{ltb, leb, eqb}
 use borrow.Author.Tests.{ltb-true}
-use Rattle.avl_model.specs.Lists.{Lists, lists}
+use Rattle.avl_model.specs.Lists.{Lists}
 use Rattle.avl_model.specs.Names.{Names}
 use Rattle.avl_model.specs.Tree.{Tree, leaf, node, none, top, ht}
-use Rattle.avl_model.specs.Rep.{Rep}
-use Rattle.avl_model.specs.Held.{arrOf}
-use Rattle.avl_model.specs.Laws.{All, size}
-use Rattle.avl_model.specs.Seek.{Links, treeAt}
-use Rattle.avl_arena.specs.Test.{partOf, partNames, inside, every, between, cellOk, okTree, treeOf, decoded, isWhole, wholeTree}
+use Rattle.avl_model.specs.Laws.{All}
+use Rattle.avl_model.specs.Seek.{treeAt}
+use Rattle.avl_arena.specs.Test.{partOf, partNames, inside, every, cellOk, okTree, treeOf, decoded, isWhole, wholeTree}
 use Rattle.avl_arena.proofs.ByName.{part-between}
 
 -- its nodes are indices
@@ -59,4 +57,4 @@ module _ (S : Lists) (N : Names) (n : ℕ) where
 
   pub part-whole : n ≤ length (S .L) → wholeTree (partOf n S) (partNames n N) n ≡ isWhole S N n (decoded S n)
   unfolding wholeTree decoded
-  part-whole h = ap (λ (b : Bool). b && (eqb (top (treeOf (partOf n S))) (S .root) && eqb (size (treeOf (partOf n S))) n)) (part-ok none none none (treeOf (partOf n S)) (decoded-below h))
+  part-whole h = rw (part-ok none none none (treeOf (partOf n S)) (decoded-below h))

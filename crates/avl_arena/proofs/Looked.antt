@@ -13,7 +13,7 @@ use Rattle.avl_model.specs.Tree.{Tree, leaf, node, none, top, ht}
 use Rattle.avl_model.specs.Laws.{size}
 use Rattle.avl_model.specs.Seek.{treeAt}
 use Rattle.avl_arena.specs.declared.Seen.{Seen}
-use Rattle.avl_arena.specs.Test.{between, cellOk, okTree, treeOf, isWhole, wholeTree}
+use Rattle.avl_arena.specs.Test.{between, cellOk, okTree, wholeTree}
 use Rattle.avl_arena.specs.Seeing.{Judged}
 
 -- ---- the tree that the links hold, case by case

@@ -1,8 +1,7 @@
 -- The ways out of `is_tree`, which lends the first n places of each column.
 use Prim.Native.Nat.{ℕ, _≤_, _<_}
-use native.Mathlib.Omega.{arith}
-use mathlib.Core.Path.{_≡_, refl, sym, ap, subst, _∙_}
-use mathlib.Core.Bool.{Bool, true, false, _&&_}
+use mathlib.Core.Path.{_≡_, refl, sym, ap, _∙_}
+use mathlib.Core.Bool.{Bool, true, false}
 use mathlib.Core.List.{List}
 use lib.ListN.{length, take}
 use lib.Seq.{length-take-le}
@@ -10,9 +9,8 @@ use lib.Dec.{leb}
 use borrow.Author.Tests.{leb-true}
 use Rattle.avl_model.specs.Lists.{Lists, lists}
 use Rattle.avl_model.specs.Names.{Names, names}
-use Rattle.avl_model.specs.Held.{Long}
 use Rattle.avl_arena.specs.Test.{places, every, inside, wholeTree, holdsTree}
-use Rattle.avl_arena.specs.Seeing.{Named, Lent}
+use Rattle.avl_arena.specs.Seeing.{Lent}
 use Rattle.avl_arena.specs.HeldTree.{Places}
 use Rattle.avl_arena.proofs.Tested.{and-l, and-r, and-first, and-second, each-inside}
 

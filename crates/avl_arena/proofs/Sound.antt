@@ -1,21 +1,21 @@
 -- The arena test is right: what passes it is a held tree, namely the one that the links hold.
 use Prim.Native.Nat.{ℕ, suc, _+_, _≤_, _<_, max}
 use native.Mathlib.Omega.{arith}
-use mathlib.Core.Path.{_≡_, refl, sym, ap, subst, _∙_}
-use mathlib.Core.Bool.{Bool, true, false, _&&_, _||_}
+use mathlib.Core.Path.{_≡_, refl, sym, _∙_}
+use mathlib.Core.Bool.{Bool, true, false, _||_}
 use mathlib.Core.Logic.{_⊎_, inl, inr}
-use lib.ListN.{length, getD}
+use lib.ListN.{getD}
 use lib.Dec.{leb, eqb}
 use borrow.Author.Tests.{leb-true, eqb-true}
 use Rattle.avl_model.specs.Lists.{Lists}
 use Rattle.avl_model.specs.Names.{Names, byName, isLess}
-use Rattle.avl_model.specs.Tree.{Tree, leaf, node, none, top, ht, cnt}
+use Rattle.avl_model.specs.Tree.{Tree, leaf, node, none, top, ht}
 use Rattle.avl_model.specs.Rep.{Cell, Rep}
 use Rattle.avl_model.specs.Held.{arrOf}
 use Rattle.avl_model.specs.Laws.{Avl, All, Ordered, size}
 use Rattle.avl_model.proofs.Avl.{all-map}
 use Rattle.avl_model.proofs.Counted.{ordered-once, each-once}
-use Rattle.avl_arena.specs.Test.{partOf, partNames, places, every, inside, between, cellOk, okTree, decoded, isWhole, wholeTree, holdsTree}
+use Rattle.avl_arena.specs.Test.{partNames, places, every, inside, between, cellOk, okTree, decoded, isWhole, holdsTree}
 use Rattle.avl_arena.specs.HeldTree.{Before, Places, HeldTree}
 use Rattle.avl_arena.proofs.Tested.{and-l, and-r, each-inside}
 use Rattle.avl_arena.proofs.Parts.{places-of}

@@ -1,17 +1,17 @@
 -- What the other operations ask, from an arena that passed the test.
-use Prim.Native.Nat.{ℕ, suc, _+_, _≤_, _<_, max}
+use Prim.Native.Nat.{ℕ, _+_, _≤_, _<_}
 use native.Mathlib.Omega.{arith}
 use native.Mathlib.Decide.{decLt}
-use mathlib.Core.Path.{_≡_, refl, sym, ap, subst, _∙_}
+use mathlib.Core.Path.{_≡_, refl, sym, _∙_}
 use mathlib.Core.Bool.{true}
-use lib.ListN.{length, getD, take}
+use lib.ListN.{length, take}
 use lib.Seq.{getD-take, length-take-le}
-use Rattle.avl_model.specs.Lists.{Lists, lists}
+use Rattle.avl_model.specs.Lists.{Lists}
 use Rattle.avl_model.specs.Names.{Names}
-use Rattle.avl_model.specs.Tree.{Tree, leaf, node, none, top, ht, cnt}
+use Rattle.avl_model.specs.Tree.{Tree, leaf, node, none, cnt}
 use Rattle.avl_model.specs.Rep.{Rep}
-use Rattle.avl_model.specs.Held.{Long, arrOf, Held, Arena}
-use Rattle.avl_model.specs.Laws.{All, size}
+use Rattle.avl_model.specs.Held.{arrOf, Arena}
+use Rattle.avl_model.specs.Laws.{All}
 use Rattle.avl_model.specs.Order.{Listed}
 use Rattle.avl_model.proofs.Counted.{all-below, rep-below}
 use Rattle.avl_arena.specs.Test.{partOf, decoded, holdsTree}

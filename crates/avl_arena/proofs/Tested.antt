@@ -6,13 +6,13 @@ use mathlib.Core.Path.{_≡_, refl, sym, ap, ap₂, subst, _∙_}
 use mathlib.Core.Bool.{Bool, true, false, _&&_, _||_, and-false}
 use mathlib.Core.List.{List}
 use lib.ListN.{length, getD, take, drop}
-use lib.Dec.{leb, eqb}
+use lib.Dec.{leb}
 use borrow.Author.Tests.{le-leb, lt-leb, eq-eqb, ne-eqb, leb-true}
 use Rattle.layout_name.specs.declared.Order.{Order}
 use Rattle.layout_name.specs.Order.{nameOrder}
 use Rattle.avl_model.specs.Lists.{Lists}
 use Rattle.avl_model.specs.Names.{Names, names, nameAt, toName, byName, isLess}
-use Rattle.avl_arena.specs.Test.{places, every, inside, between, cellOk}
+use Rattle.avl_arena.specs.Test.{places, every, inside, cellOk}
 
 -- both of two tests, and what each is where both hold
 pub and-l : (a b : Bool) → (a && b) ≡ true → a ≡ true

@@ -2,7 +2,7 @@
 -- the lent bytes. It is a test on the tree that the links hold, to a depth that no balanced tree of at most 65,535 nodes passes; for every content of
 -- the columns. proofs/Sound.antt and proofs/Complete.antt say that it is `HeldTree`. Assumes nothing.
 use Prim.Native.Nat.{ℕ, zero, suc, _+_, max}
-use mathlib.Core.Bool.{Bool, true, false, _&&_, _||_}
+use mathlib.Core.Bool.{Bool, true, _&&_, _||_}
 use mathlib.Core.List.{List}
 use lib.ListN.{length, getD, take}
 use lib.Dec.{leb, eqb}

@@ -1,8 +1,8 @@
 // The arena check: whether columns that someone lends hold one ordered, balanced tree with true parents and heights.
 ghost use mathlib.Core.Path.{_≡_};
 ghost use mathlib.Core.Bool.{_||_};
-ghost use Prim.Native.Nat.{ℕ, _+_, _<_, _≤_, max};
-ghost use lib.ListN.{length, getD};
+ghost use Prim.Native.Nat.{_+_, _<_, _≤_, max};
+ghost use lib.ListN.{length};
 ghost use lib.Dec.{leb};
 ghost use Rattle.avl_model.specs.Lists.{lists};
 ghost use Rattle.avl_model.specs.Names.{names, nameAt, byName, isLess};

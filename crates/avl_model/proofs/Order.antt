@@ -1,5 +1,4 @@
 -- How long the preorder of a tree is.
-use Prim.Native.Nat.{ℕ, suc, _+_}
 use native.Mathlib.Omega.{arith}
 use mathlib.Core.Path.{_≡_, refl}
 use lib.ListN.{length, length-append}

@@ -1,12 +1,11 @@
 -- The stack of preorder, as the trees whose roots stand on it, and what a turn of the loop makes of them.
-use Prim.Native.Nat.{ℕ, suc, _+_, _-_, _≤_, _<_, max}
+use Prim.Native.Nat.{ℕ, suc, _+_, _-_, _≤_, _<_}
 use native.Mathlib.Omega.{arith}
 use native.Mathlib.Decide.{ℕ-discrete}
 use mathlib.Core.Path.{_≡_, refl, sym, ap, subst, _∙_}
 use mathlib.Core.List.{List, [], _∷_, _++_, append-assoc, append-nil}
 use lib.ListN.{length, getD, set, drop, length-append, length-drop, length-set}
 use lib.Seq.{getD-set-same, getD-set-other, drop-cons, set-at}
-use lib.Dec.{eqb}
 use borrow.Author.Tests.{eq-eqb, ne-eqb}
 use Rattle.avl_model.specs.Tree.{Tree, leaf, node, none, top, ht}
 use Rattle.avl_model.specs.Laws.{size}

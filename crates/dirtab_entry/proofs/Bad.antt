@@ -1,43 +1,30 @@
 -- One more byte of a name looked at, and the end: what the loop over a name's bytes is made of. Assumes nothing.
 use Prim.Native.Nat.{ℕ, suc, _+_, _≤_, _<_}
-use mathlib.Core.Path.{_≡_, refl, sym, ap, _∙_}
-use mathlib.Core.Bool.{Bool, true, false}
+use mathlib.Core.Path.{_≡_, refl, sym, _∙_}
+use mathlib.Core.Bool.{Bool, true, false, _||_}
 use mathlib.Core.List.{List}
 use native.Mathlib.Numerals.{add-one}
 use lib.ListN.{length, getD, drop, drop-of-length-le}
 use lib.Seq.{drop-cons}
-use borrow.Author.Tests.{eq-eqb, ne-eqb, lt-ltb, le-ltb}
+use lib.Dec.{ltb, eqb}
 use Rattle.units.specs.Told.{pick}
-use Rattle.dirtab_entry.specs.Entry.{isBad, anyBad}
-
-either-true : (b : Bool) → pick b true true ≡ true
-either-true true = refl
-either-true false = refl
+use Rattle.dirtab_entry.specs.Entry.{anyBad}
 
 either-false : (b : Bool) → pick b true false ≡ b
 either-false true = refl
 either-false false = refl
 
-either-either : (a b d : Bool) → pick a true (pick b true d) ≡ pick (pick a true b) true d
-either-either true b d = refl
-either-either false b d = refl
-
--- one byte after others
-pub zero-byte : (bad : Bool) (x : ℕ) → x ≡ 0 → true ≡ pick bad true (isBad x)
-zero-byte bad x e = rw (eq-eqb x 0 e) (sym (either-true bad))
-
-pub high-byte : (bad : Bool) (x : ℕ) → (x ≡ 0 → ⊥) → 127 < x → true ≡ pick bad true (isBad x)
-high-byte bad x n h = rw (ne-eqb x 0 n, lt-ltb _ _ h) (sym (either-true bad))
-
-pub good-byte : (bad : Bool) (x : ℕ) → (x ≡ 0 → ⊥) → x ≤ 127 → bad ≡ pick bad true (isBad x)
-good-byte bad x n h = rw (ne-eqb x 0 n, le-ltb _ _ h) (sym (either-false bad))
+either-either : (a b d e : Bool) → pick a true (pick (pick b true d) true e) ≡ pick ((a || b) || d) true e
+either-either true b d e = refl
+either-either false true d e = refl
+either-either false false d e = refl
 
 -- some byte is bad: of the first i, or of those from i on
 module _ (s : List ℕ) (i : ℕ) (bad : Bool) (so-far : anyBad s ≡ pick bad true (anyBad (drop i s))) where
-  pub byte-more : (j : ℕ) (b : Bool) → j ≡ i + 1 → i < length s → b ≡ pick bad true (isBad (getD s i 0)) → anyBad s ≡ pick b true (anyBad (drop j s))
+  pub byte-more : (j x : ℕ) → j ≡ i + 1 → i < length s → x ≡ getD s i 0 → anyBad s ≡ pick ((bad || eqb x 0) || ltb 127 x) true (anyBad (drop j s))
   unfolding anyBad
-  byte-more j b e h k =
-      so-far ∙ rw (drop-cons s i 0 h, e, add-one, k) (either-either bad (isBad (getD s i 0)) (anyBad (drop (suc i) s)))
+  byte-more j x e h k =
+      so-far ∙ rw (drop-cons s i 0 h, e, add-one, k) (either-either bad (eqb (getD s i 0) 0) (ltb 127 (getD s i 0)) (anyBad (drop (suc i) s)))
 
   pub bytes-end : length s ≤ i → bad ≡ anyBad s
   unfolding anyBad

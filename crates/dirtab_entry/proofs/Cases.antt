@@ -6,8 +6,8 @@ use mathlib.Core.List.{List, []}
 use native.Mathlib.Omega.{arith}
 use lib.ListN.{length, take, drop}
 use lib.Seq.{take-length}
-use borrow.Author.Tests.{ne-eqb, lt-ltb, le-ltb}
-use Rattle.units.specs.Told.{Told, gives, refuses}
+use borrow.Author.Tests.{ne-eqb, le-ltb}
+use Rattle.units.specs.Told.{gives, refuses}
 use Rattle.dirtab_entry.specs.declared.Kind.{Kind}
 use Rattle.dirtab_entry.specs.declared.Kind.the-variants.{File, Directory}
 use Rattle.dirtab_entry.specs.Entry.{anyBad, storedSize, checkOf}

@@ -2,8 +2,7 @@
 ghost use mathlib.Core.Path.{_≡_};
 ghost use mathlib.Core.Bool.{true};
 ghost use Prim.Native.Nat.{_≤_};
-ghost use Rattle.units.specs.Told.{pick};
-ghost use Rattle.dirtab_entry.specs.Entry.{told, checkOf, isBad, anyBad, isDirectory, storedSize, kindFor};
+ghost use Rattle.dirtab_entry.specs.Entry.{told, checkOf, anyBad, isDirectory, storedSize, kindFor};
 
 pub enum Kind {
     File,
@@ -38,19 +37,6 @@ pub fn kind_of(n: u8) -> Kind
     if n == 1 { Kind::Directory } else { Kind::File }
 }
 
-// A byte more, after some that were bad or not: bad, or the byte is 0 or above 127.
-fn or_bad(bad: bool, x: u8) -> bool
-    ensures { λ r. ⌜ r ≡ pick bad true (isBad x) ⌝ }
-{
-    if x == 0 {
-        return true;
-    }
-    if 127 < x {
-        return true;
-    }
-    bad
-}
-
 // Some byte is 0 or above 127. All are looked at, which is faster than an early end.
 fn any_bad(s: &[u8]) -> bool
     ensures { λ r. ⌜ r ≡ anyBad (now (s .entry)) ⌝ }
@@ -58,7 +44,8 @@ fn any_bad(s: &[u8]) -> bool
     let mut bad = false;
     let mut i = 0;
     while i < s.len() {
-        bad = or_bad(bad, s[i]);
+        let x = s[i];
+        bad = bad | (x == 0) | (127 < x);
         i += 1;
     }
     bad

@@ -1,9 +1,8 @@
 -- One turn of each loop, and its end. Assumes nothing.
 use Prim.Native.Nat.{ℕ, suc, _+_, _≤_, _<_}
-use mathlib.Core.Path.{_≡_, refl, sym, ap, ap₂, _∙_}
+use mathlib.Core.Path.{_≡_, sym, ap, ap₂, _∙_}
 use mathlib.Core.Bool.{true, false}
-use mathlib.Core.List.{List, _∷_, _++_, append-assoc}
-use native.Mathlib.Omega.{arith}
+use mathlib.Core.List.{List, _++_, append-assoc}
 use native.Mathlib.Numerals.{add-one}
 use borrow.Author.Tests.{eq-eqb, ne-eqb}
 use lib.ListN.{length, getD, take, drop, set, replicate, length-replicate, replicate-append-replicate, drop-of-length-le}

@@ -1,6 +1,6 @@
 -- Document 01's cases that speak of the order of names. Assumes nothing.
 use mathlib.Core.Path.{_≡_, refl}
-use mathlib.Core.List.{List, [], _∷_}
+use mathlib.Core.List.{[], _∷_}
 use Rattle.layout_name.specs.declared.Order.the-variants.{Less, Equal}
 use Rattle.layout_name.specs.Order.{numberOrder, listOrder, orderBy, raised, nameOrder}
 

@@ -1,11 +1,11 @@
 -- The fourteen bytes of a header are read back as its fields, and the fields that fourteen bytes say are written as those bytes. Assumes nothing.
-use Prim.Native.Nat.{ℕ, zero, suc, _+_, _*_, _/_, _%_, _≤_, _<_}
+use Prim.Native.Nat.{ℕ, zero, suc, _+_, _*_, _<_}
 use mathlib.Core.Path.{_≡_, refl, sym, ap, ap₂, _∙_}
 use mathlib.Core.List.{List, [], _∷_, _++_}
 use native.Mathlib.Omega.{arith}
 use lib.ListN.{length, getD, drop, drop-of-length-le}
 use lib.Seq.{drop-cons}
-use Rattle.layout_bytes.specs.Bytes.{u16At, u32At, le16, le32}
+use Rattle.layout_bytes.specs.Bytes.{le16, le32}
 use Rattle.layout_bytes.proofs.Numbers.{u16-le16, u32-le32, le16-u16, le32-u32}
 use Rattle.layout_node.specs.declared.Header.{Header}
 use Rattle.layout_node.specs.Header.{headerOf, headerBytes}

@@ -1,14 +1,14 @@
 -- Laws of the sector counter, for every alignment from 1 on. Assumes nothing.
 use Prim.Native.Nat.{ℕ, _+_, _-_, _*_, _/_, _%_, _≤_, _<_}
-use mathlib.Core.Path.{_≡_, refl, sym, ap, _∙_}
+use mathlib.Core.Path.{_≡_, refl, sym, ap}
 use mathlib.Core.Bool.{Bool, true, false}
 use mathlib.Core.List.{[]}
 use native.Mathlib.Omega.{arith}
 use native.Mathlib.Nat.{div-add-mod', mod-lt}
 use lib.Dec.{ltb, eqb}
-use borrow.Author.Tests.{lt-ltb, ltb-true, ltb-false, eqb-false}
-use Rattle.units.specs.Told.{Told, gives, refuses, pick}
-use Rattle.layout_sector.specs.Counter.{Run, sectorsFor, alignedUp, takeOf}
+use borrow.Author.Tests.{lt-ltb, ltb-true, eqb-false}
+use Rattle.units.specs.Told.{gives, refuses, pick}
+use Rattle.layout_sector.specs.Counter.{Run, sectorsFor, alignedUp, lastFree, takeOf}
 
 -- a length of 0 takes one sector
 pub zero-takes-one : sectorsFor 0 ≡ 1
@@ -44,11 +44,11 @@ given false p r e = cc
 
 pub given-start : (align next n : ℕ) (r : Run) → takeOf align next n ≡ gives r → r .start ≡ alignedUp align next
 unfolding takeOf
-given-start align next n r e = sym (ap (λ (q : Run). q .start) (given (ltb 4294967295 (alignedUp align next + sectorsFor n)) _ r e))
+given-start align next n r e = sym (ap (λ (q : Run). q .start) (given (ltb lastFree (alignedUp align next + sectorsFor n)) _ r e))
 
 pub given-free : (align next n : ℕ) (r : Run) → takeOf align next n ≡ gives r → r .free ≡ alignedUp align next + sectorsFor n
 unfolding takeOf
-given-free align next n r e = sym (ap (λ (q : Run). q .free) (given (ltb 4294967295 (alignedUp align next + sectorsFor n)) _ r e))
+given-free align next n r e = sym (ap (λ (q : Run). q .free) (given (ltb lastFree (alignedUp align next + sectorsFor n)) _ r e))
 
 -- two takings one after the other never overlap: the second starts at the first's free sector or past it
 pub never-overlap : (align next n m : ℕ) (r q : Run) → 1 ≤ align → takeOf align next n ≡ gives r → takeOf align (r .free) m ≡ gives q → r .free ≤ q .start
@@ -72,4 +72,4 @@ overflow-is-8 align next n h = simp (lt-ltb _ _ h)
 
 pub overflow-where-8 : (align next n : ℕ) → takeOf align next n ≡ refuses 8 [] → 4294967295 < alignedUp align next + sectorsFor n
 unfolding takeOf
-overflow-where-8 align next n e = ltb-true _ _ (refused (ltb 4294967295 (alignedUp align next + sectorsFor n)) _ e)
+overflow-where-8 align next n e = ltb-true _ _ (refused (ltb lastFree (alignedUp align next + sectorsFor n)) _ e)

@@ -1,11 +1,11 @@
 -- What taking answers, from the tests that led there. Assumes nothing.
-use Prim.Native.Nat.{ℕ, _+_, _-_, _*_, _/_, _%_, _≤_, _<_}
-use mathlib.Core.Path.{_≡_, refl, sym, ap, _∙_}
+use Prim.Native.Nat.{ℕ, _+_, _-_, _/_, _%_, _≤_, _<_}
+use mathlib.Core.Path.{_≡_, sym}
 use mathlib.Core.List.{[]}
 use native.Mathlib.Omega.{arith}
 use borrow.Author.Tests.{eq-eqb, ne-eqb, lt-ltb, le-ltb}
-use Rattle.units.specs.Told.{Told, gives, refuses}
-use Rattle.layout_sector.specs.Counter.{Run, sectorsFor, alignedUp, takeOf}
+use Rattle.units.specs.Told.{gives, refuses}
+use Rattle.layout_sector.specs.Counter.{sectorsFor, alignedUp, takeOf}
 use Rattle.layout_sector.proofs.Laws.{takes-some, aligned-one}
 
 -- the sectors of a length: none of it, whole sectors, a part of one more

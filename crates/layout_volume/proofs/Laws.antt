@@ -1,12 +1,12 @@
 -- A descriptor has 2,048 bytes, is read back from them, and is never read from fewer. Assumes nothing.
-use Prim.Native.Nat.{ℕ, _+_, _≤_, _<_}
-use mathlib.Core.Path.{_≡_, refl, sym, ap, _∙_}
+use Prim.Native.Nat.{ℕ, _+_, _<_}
+use mathlib.Core.Path.{_≡_, refl}
 use mathlib.Core.Bool.{Bool, true, false}
-use mathlib.Core.List.{List, [], _∷_, _++_}
+use mathlib.Core.List.{List, [], _++_}
 use native.Mathlib.Omega.{arith}
 use lib.ListN.{length, take, drop, length-take, length-drop}
-use Rattle.units.specs.Told.{Told, gives, refuses, pick}
-use Rattle.layout_bytes.specs.Bytes.{both, u32At}
+use Rattle.units.specs.Told.{gives, refuses, pick}
+use Rattle.layout_bytes.specs.Bytes.{both}
 use Rattle.layout_bytes.proofs.Numbers.{u32-le32}
 use Rattle.layout_volume.specs.declared.Descriptor.{Descriptor}
 use Rattle.layout_volume.specs.Descriptor.{mark, descriptorBytes, sameList, readOf}

@@ -1,11 +1,11 @@
 -- Five calls that write a descriptor leave its bytes. Assumes nothing.
 use Prim.Native.Nat.{ℕ, _+_, _≤_, _<_}
 use mathlib.Core.Path.{_≡_, refl, sym, ap, _∙_}
-use mathlib.Core.List.{List, [], _∷_, _++_, append-assoc}
+use mathlib.Core.List.{List, [], _++_, append-assoc}
 use native.Mathlib.Omega.{arith}
 use lib.ListN.{length, drop, replicate, length-append}
 use borrow.Author.Tests.{lt-ltb, le-ltb}
-use Rattle.units.specs.Told.{Told, gives, refuses}
+use Rattle.units.specs.Told.{gives, refuses}
 use Rattle.layout_bytes.specs.Bytes.{le32, putAt}
 use Rattle.layout_bytes.proofs.Put.{put-then, put-seam}
 use Rattle.layout_volume.specs.declared.Descriptor.{Descriptor}

@@ -1,6 +1,6 @@
 -- Where an offset of a region stands on the image: it must be below the region's size (else refusal 23, with the offset). Assumes nothing.
 use Prim.Native.Nat.{ℕ, _+_, _*_}
-use mathlib.Core.List.{List, [], _∷_}
+use mathlib.Core.List.{[], _∷_}
 use lib.Dec.{leb}
 use Rattle.units.specs.declared.Offset.{Offset}
 use Rattle.units.specs.declared.Region.{Region}

@@ -7,7 +7,7 @@ use Rattle.avl_arena.specs.Test.{every, inside}
 use Rattle.avl_arena.proofs.Tested.{not-inside, one-more, all-inside}
 use borrow.Author.Needs.{needs}
 use native.Mathlib.Omega.{arith}
-use mathlib.Core.Path.{_≡_, refl, sym, ap, subst, _∙_}
+use mathlib.Core.Path.{_≡_}
 use Rattle.avl_arena.proofs.are_inside.Statement.{statement}
 use Rattle.avl_arena.proofs.are_inside.Tie as tie
 

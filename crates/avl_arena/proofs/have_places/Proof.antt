@@ -1,7 +1,4 @@
 -- `avl_arena::have_places` meets its contract: each way out is a test of `places`.
-use borrow.Author.Needs.{needs}
-use native.Mathlib.Omega.{arith}
-use mathlib.Core.Path.{_≡_, refl, sym, ap, subst, _∙_}
 use borrow.Author.Tests.{le-leb, lt-leb}
 use Rattle.avl_arena.specs.Test.{places}
 use Rattle.avl_arena.proofs.Tested.{places-last}

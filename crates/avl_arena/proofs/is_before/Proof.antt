@@ -1,7 +1,6 @@
 -- `avl_arena::is_before` meets its contract: no bound, or the order of the two names.
 use borrow.Author.Needs.{needs}
-use native.Mathlib.Omega.{arith}
-use mathlib.Core.Path.{_≡_, refl, sym, ap, subst, _∙_}
+use mathlib.Core.Path.{_∙_}
 use Prim.Native.Nat.{ℕ}
 use lib.ListN.{length}
 use Rattle.avl_model.specs.Names.{names, byName, isLess}
@@ -19,7 +18,7 @@ is-less-requires : tie.Need-is-less-requires
 is-less-requires c κs = search needs
 
 returns-2 : tie.Need-returns-2
-returns-2 c = c .is-less .ensures ∙ by-bound (length (c .before .before .before .before .before .before .args .start .now)) (c .before .before .widen .result) (c .before .before .before .before .before .before .args .hi) (λ (v : ℕ). isLess (byName (names (c .before .before .before .before .before .before .args .bytes .now) (c .before .before .before .before .before .before .args .start .now) (c .before .before .before .before .before .before .args .len .now)) (c .before .before .before .before .before .before .args .i) v)) (c .before .before .widen .ensures) (c .before .if1 .left)
+returns-2 c = let a = c .before .before .before .before .before .before .args in c .is-less .ensures ∙ by-bound (length (a .start .now)) (c .before .before .widen .result) (a .hi) (λ (v : ℕ). isLess (byName (names (a .bytes .now) (a .start .now) (a .len .now)) (a .i) v)) (c .before .before .widen .ensures) (c .before .if1 .left)
 
 pub is-before-spec : {M : Type 1} → statement M
 is-before-spec = tie.close (tie.spec widen-requires returns is-less-requires returns-2)

@@ -1,7 +1,5 @@
 -- `avl_arena::is_between` meets its contract: after the one bound and before the other.
 use borrow.Author.Needs.{needs}
-use native.Mathlib.Omega.{arith}
-use mathlib.Core.Path.{_≡_, refl, sym, ap, subst, _∙_}
 use Rattle.avl_arena.specs.Test.{between}
 use Rattle.avl_arena.proofs.Tested.{and-first, and-second}
 use Rattle.avl_arena.proofs.is_between.Statement.{statement}

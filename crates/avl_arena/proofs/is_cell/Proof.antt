@@ -1,7 +1,5 @@
 -- `avl_arena::is_cell` meets its contract: each way out is a test of `cellOk`.
 use borrow.Author.Needs.{needs}
-use native.Mathlib.Omega.{arith}
-use mathlib.Core.Path.{_≡_, refl, sym, ap, subst, _∙_}
 use Rattle.avl_arena.proofs.Tested.{cell-left, cell-right, cell-up, cell-high, cell-leans, cell-last}
 use Rattle.avl_model.specs.Lists.{lists}
 use Rattle.avl_arena.proofs.is_cell.Statement.{statement}

@@ -1,8 +1,6 @@
 -- `avl_arena::is_less` meets its contract: by the order that `compare` gives of the two names.
-use borrow.Author.Needs.{needs}
-use native.Mathlib.Omega.{arith}
-use mathlib.Core.Path.{_≡_, refl, sym, ap, subst, _∙_}
 use Rattle.avl_model.specs.Names.{names}
+use borrow.Author.Needs.{needs}
 use Rattle.avl_arena.proofs.Tested.{by-names}
 use Rattle.avl_arena.proofs.is_less.Statement.{statement}
 use Rattle.avl_arena.proofs.is_less.Tie as tie
@@ -26,13 +24,13 @@ enum-told-3 : tie.Need-enum-told-3
 enum-told-3 c = search needs
 
 returns : tie.Need-returns
-returns c = by-names (names (c .before .before .before .before .before .before .before .before .args .bytes .now) (c .before .before .before .before .before .before .before .before .args .start .now) (c .before .before .before .before .before .before .before .before .args .len .now)) (c .before .before .before .before .before .before .before .before .args .i) (c .before .before .before .before .before .before .before .before .args .j) (c .before .before .before .before .read-name .ensures) (c .before .before .before .read-name2 .ensures) (c .before .before .compare .ensures) (c .enum-told .given .1)
+returns c = let a = c .before .before .before .before .before .before .before .before .args in by-names (names (a .bytes .now) (a .start .now) (a .len .now)) (a .i) (a .j) (c .before .before .before .before .read-name .ensures) (c .before .before .before .read-name2 .ensures) (c .before .before .compare .ensures) (c .enum-told .given .1)
 
 returns-2 : tie.Need-returns-2
-returns-2 c = by-names (names (c .before .before .before .before .before .before .before .before .args .bytes .now) (c .before .before .before .before .before .before .before .before .args .start .now) (c .before .before .before .before .before .before .before .before .args .len .now)) (c .before .before .before .before .before .before .before .before .args .i) (c .before .before .before .before .before .before .before .before .args .j) (c .before .before .before .before .read-name .ensures) (c .before .before .before .read-name2 .ensures) (c .before .before .compare .ensures) (c .enum-told2 .given .1)
+returns-2 c = let a = c .before .before .before .before .before .before .before .before .args in by-names (names (a .bytes .now) (a .start .now) (a .len .now)) (a .i) (a .j) (c .before .before .before .before .read-name .ensures) (c .before .before .before .read-name2 .ensures) (c .before .before .compare .ensures) (c .enum-told2 .given .1)
 
 returns-3 : tie.Need-returns-3
-returns-3 c = by-names (names (c .before .before .before .before .before .before .before .before .args .bytes .now) (c .before .before .before .before .before .before .before .before .args .start .now) (c .before .before .before .before .before .before .before .before .args .len .now)) (c .before .before .before .before .before .before .before .before .args .i) (c .before .before .before .before .before .before .before .before .args .j) (c .before .before .before .before .read-name .ensures) (c .before .before .before .read-name2 .ensures) (c .before .before .compare .ensures) (c .enum-told3 .given .1)
+returns-3 c = let a = c .before .before .before .before .before .before .before .before .args in by-names (names (a .bytes .now) (a .start .now) (a .len .now)) (a .i) (a .j) (c .before .before .before .before .read-name .ensures) (c .before .before .before .read-name2 .ensures) (c .before .before .compare .ensures) (c .enum-told3 .given .1)
 
 pub is-less-spec : {M : Type 1} → statement M
 is-less-spec =

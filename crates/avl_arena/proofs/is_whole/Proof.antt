@@ -10,13 +10,13 @@ look-requires : tie.Need-look-requires
 look-requires c κs = search needs
 
 returns : tie.Need-returns
-returns c = whole-is (c .before .before .before .before .before .before .before .before .before .before .before .before .args .root) (c .before .before .before .before .before .before .before .before .before .before .before .before .args .left .now) (c .before .before .before .before .before .before .before .before .before .before .before .before .args .right .now) (c .before .before .before .before .before .before .before .before .before .before .before .before .args .parent .now) (c .before .before .before .before .before .before .before .before .before .before .before .before .args .height .now) (names (c .before .before .before .before .before .before .before .before .before .before .before .before .args .bytes .now) (c .before .before .before .before .before .before .before .before .before .before .before .before .args .start .now) (c .before .before .before .before .before .before .before .before .before .before .before .before .args .len .now)) (length (c .before .before .before .before .before .before .before .before .before .before .before .before .args .left .now)) (c .before .before .before .before .look .result) (c .before .before .before .before .look .ensures) (c .before .before .before .if1 .taken) (c .before .if2 .taken)
+returns c = let a = c .before .before .before .before .before .before .before .before .before .before .before .before .args in whole-is (a .root) (a .left .now) (a .right .now) (a .parent .now) (a .height .now) (names (a .bytes .now) (a .start .now) (a .len .now)) (length (a .left .now)) (c .before .before .before .before .look .result) (c .before .before .before .before .look .ensures) (c .before .before .before .if1 .taken) (c .before .if2 .taken)
 
 returns-2 : tie.Need-returns-2
-returns-2 c = whole-root (c .before .before .before .before .before .before .before .before .before .before .before .args .root) (c .before .before .before .before .before .before .before .before .before .before .before .args .left .now) (c .before .before .before .before .before .before .before .before .before .before .before .args .right .now) (c .before .before .before .before .before .before .before .before .before .before .before .args .parent .now) (c .before .before .before .before .before .before .before .before .before .before .before .args .height .now) (names (c .before .before .before .before .before .before .before .before .before .before .before .args .bytes .now) (c .before .before .before .before .before .before .before .before .before .before .before .args .start .now) (c .before .before .before .before .before .before .before .before .before .before .before .args .len .now)) (length (c .before .before .before .before .before .before .before .before .before .before .before .args .left .now)) (c .before .before .before .look .result) (c .before .before .before .look .ensures) (c .before .before .if1 .taken) (c .if2 .left)
+returns-2 c = let a = c .before .before .before .before .before .before .before .before .before .before .before .args in whole-root (a .root) (a .left .now) (a .right .now) (a .parent .now) (a .height .now) (names (a .bytes .now) (a .start .now) (a .len .now)) (length (a .left .now)) (c .before .before .before .look .result) (c .before .before .before .look .ensures) (c .before .before .if1 .taken) (c .if2 .left)
 
 returns-3 : tie.Need-returns-3
-returns-3 c = whole-not (c .before .before .before .before .before .before .before .before .before .args .root) (c .before .before .before .before .before .before .before .before .before .args .left .now) (c .before .before .before .before .before .before .before .before .before .args .right .now) (c .before .before .before .before .before .before .before .before .before .args .parent .now) (c .before .before .before .before .before .before .before .before .before .args .height .now) (names (c .before .before .before .before .before .before .before .before .before .args .bytes .now) (c .before .before .before .before .before .before .before .before .before .args .start .now) (c .before .before .before .before .before .before .before .before .before .args .len .now)) (length (c .before .before .before .before .before .before .before .before .before .args .left .now)) (c .before .look .result) (c .before .look .ensures) (c .if1 .left)
+returns-3 c = let a = c .before .before .before .before .before .before .before .before .before .args in whole-not (a .root) (a .left .now) (a .right .now) (a .parent .now) (a .height .now) (names (a .bytes .now) (a .start .now) (a .len .now)) (length (a .left .now)) (c .before .look .result) (c .before .look .ensures) (c .if1 .left)
 
 pub is-whole-spec : {M : Type 1} → statement M
 is-whole-spec = tie.close (tie.spec look-requires returns returns-2 returns-3)

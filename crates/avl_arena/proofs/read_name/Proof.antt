@@ -1,7 +1,6 @@
 -- `avl_arena::read_name` meets its contract: the part of the bytes from the name's start to its end.
 use borrow.Author.Needs.{needs}
 use native.Mathlib.Omega.{arith}
-use mathlib.Core.Path.{_≡_, refl, sym, ap, subst, _∙_}
 use Rattle.avl_arena.proofs.Tested.{part-is-name}
 use Rattle.avl_arena.proofs.read_name.Statement.{statement}
 use Rattle.avl_arena.proofs.read_name.Tie as tie

@@ -23,7 +23,7 @@ count-node-requires : tie.Need-count-node-requires Inv-loop μ-loop
 count-node-requires c κs = search needs
 
 loop-holds : tie.Need-loop-holds Inv-loop μ-loop
-loop-holds c = (refl, refl, λ w. subst (λ (v : ℕ). Going (c .before .before .before .before .args .left .now) (c .before .before .before .before .args .right .now) (w .t) (c .before .before .before .before .args .list .now) (set (replicate 23 0) 0 (c .before .before .before .before .args .root)) v 0 (c .before .before .before .before .args .list .now)) (sym (c .count-node .ensures .0)) (start (c .before .before .before .before .args .left .now) (c .before .before .before .before .args .right .now) (c .before .before .before .before .args .list .now) (replicate 23 0) (c .before .before .before .before .args .root) refl w))
+loop-holds c = let a = c .before .before .before .before .args in (refl, refl, λ w. subst (λ (v : ℕ). Going (a .left .now) (a .right .now) (w .t) (a .list .now) (set (replicate 23 0) 0 (a .root)) v 0 (a .list .now)) (sym (c .count-node .ensures .0)) (start (a .left .now) (a .right .now) (a .list .now) (replicate 23 0) (a .root) refl w))
 
 sub-held : tie.Need-sub-held Inv-loop μ-loop
 sub-held c = search needs

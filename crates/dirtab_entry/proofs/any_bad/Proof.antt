@@ -12,7 +12,6 @@ use Rattle.dirtab_entry.proofs.any_bad.Statement.{statement}
 use Rattle.dirtab_entry.proofs.any_bad.Tie as tie
 use Rattle.dirtab_entry.proofs.any_bad.Reads as reads
 use Rattle.dirtab_entry.proofs.any_bad.Lts as lts
-use Rattle.dirtab_entry.proofs.or_bad.Reads as or-bad-reads
 
 abbrev Inv-loop : tie.InvT-loop
 Inv-loop s bad₀ i₀ bad i = (i ≤ length s) × (anyBad s ≡ pick bad true (anyBad (drop i s)))
@@ -23,11 +22,8 @@ abbrev μ-loop : tie.MeasureT-loop
 loop-holds : tie.Need-loop-holds Inv-loop μ-loop
 loop-holds c = (omega arith, refl)
 
-shared-slice-read-or-bad : tie.Need-shared-slice-read-or-bad Inv-loop μ-loop
-shared-slice-read-or-bad c = search needs
-
-or-bad-requires : tie.Need-or-bad-requires Inv-loop μ-loop
-or-bad-requires c κs = search needs
+shared-slice-read-x : tie.Need-shared-slice-read-x Inv-loop μ-loop
+shared-slice-read-x c = search needs
 
 add-i : tie.Need-add-i Inv-loop μ-loop
 add-i c = search needs
@@ -44,13 +40,4 @@ returns c = search bytes-end
 pub any-bad-spec : {M : Type 1} → statement M
 any-bad-spec =
     tie.close
-    (tie.spec
-    Inv-loop
-    μ-loop
-    loop-holds
-    shared-slice-read-or-bad
-    or-bad-requires
-    add-i
-    loop-less
-    loop-again
-    returns)
+    (tie.spec Inv-loop μ-loop loop-holds shared-slice-read-x add-i loop-less loop-again returns)

@@ -1,5 +1,4 @@
 -- `dirtab_entry::kind_of` meets its contract: by its test. Assumes nothing.
-use borrow.Author.Needs.{needs}
 use Rattle.dirtab_entry.proofs.Stored.{one-is, other-is}
 use Rattle.dirtab_entry.proofs.kind_of.Statement.{statement}
 use Rattle.dirtab_entry.proofs.kind_of.Tie as tie

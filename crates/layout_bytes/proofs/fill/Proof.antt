@@ -1,10 +1,10 @@
 -- `layout_bytes::fill` meets its contract. The invariant: the first i places hold b, the others what they held. Assumes nothing.
 use Prim.Native.Nat.{ℕ, _+_, _-_, _≤_}
-use mathlib.Core.Path.{_≡_, refl, ap, _∙_}
+use mathlib.Core.Path.{_≡_, ap, _∙_}
 use mathlib.Core.List.{List, _++_}
 use native.Mathlib.Omega.{arith}
 use borrow.Author.Needs.{needs}
-use lib.ListN.{length, getD, drop, set, replicate, length-set}
+use lib.ListN.{length, drop, set, replicate, length-set}
 use Rattle.layout_bytes.proofs.Turns.{fill-turn}
 use Rattle.layout_bytes.proofs.fill.Statement.{statement}
 use Rattle.layout_bytes.proofs.fill.Tie as tie

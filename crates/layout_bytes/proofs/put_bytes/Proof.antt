@@ -1,10 +1,10 @@
 -- `layout_bytes::put_bytes` meets its contract. The invariant: the first i bytes of s stand in their places. Assumes nothing.
 use Prim.Native.Nat.{ℕ, _+_, _-_, _≤_}
 use mathlib.Core.Path.{_≡_, refl, ap, _∙_}
-use mathlib.Core.List.{List, _++_}
+use mathlib.Core.List.{List}
 use native.Mathlib.Omega.{arith}
 use borrow.Author.Needs.{needs}
-use lib.ListN.{length, getD, drop, set, replicate, length-set}
+use lib.ListN.{length, getD, set, length-set}
 use lib.Seq.{paste, paste-zero}
 use Rattle.layout_bytes.proofs.Turns.{copy-turn, copy-done}
 use Rattle.layout_bytes.proofs.put_bytes.Statement.{statement}

@@ -1,7 +1,4 @@
 -- `layout_name::byte_order` meets its contract: by cases on the two raised bytes. Assumes nothing.
-use Prim.Native.Nat.{ℕ, _≤_, _<_}
-use mathlib.Core.Path.{_≡_, refl, sym, ap, ap₂, _∙_}
-use native.Mathlib.Omega.{arith}
 use borrow.Author.Needs.{needs}
 use Rattle.layout_name.proofs.Bytes.{equal-bytes, smaller, larger, alike}
 use Rattle.layout_name.proofs.byte_order.Statement.{statement}

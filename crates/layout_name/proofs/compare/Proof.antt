@@ -1,13 +1,10 @@
 -- `layout_name::compare` meets its contract. The invariant: the bytes passed are alike, so that what is left decides. The measure is what is left. Assumes nothing.
-use Prim.Native.Nat.{ℕ, _+_, _≤_, _<_, _-_}
-use mathlib.Core.Path.{_≡_, refl, sym, ap, ap₂, _∙_}
-use mathlib.Core.List.{List}
+use Prim.Native.Nat.{_≤_, _-_}
+use mathlib.Core.Path.{_≡_, refl}
 use native.Mathlib.Omega.{arith}
 use borrow.Author.Needs.{needs}
-use lib.ListN.{length, drop, getD}
-use Rattle.layout_name.specs.declared.Order.{Order}
-use Rattle.layout_name.specs.declared.Order.the-variants.{Less, Equal, Greater}
-use Rattle.layout_name.specs.Order.{nameOrder, byteOrder, andThen}
+use lib.ListN.{length, drop}
+use Rattle.layout_name.specs.Order.{nameOrder}
 use Rattle.layout_name.proofs.Turn.{b-ended, a-ended, both-ended, smaller, larger, same}
 use Rattle.layout_name.proofs.compare.Statement.{statement}
 use Rattle.layout_name.proofs.compare.Tie as tie

@@ -1,7 +1,6 @@
 -- `layout_name::raise_name` meets its contract. The invariant: the copy holds the first i bytes raised, and zeros past them. Assumes nothing.
 use Prim.Native.Nat.{_≤_, _-_}
 use mathlib.Core.Path.{_≡_}
-use native.Mathlib.Omega.{arith}
 use borrow.Author.Needs.{needs}
 use lib.ListN.{length, take}
 use Rattle.layout_name.specs.Order.{raisedCopy}

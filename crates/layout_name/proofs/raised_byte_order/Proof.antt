@@ -1,6 +1,4 @@
 -- `layout_name::raised_byte_order` meets its contract: by cases on the two raised bytes, as `byte_order`. Assumes nothing.
-use Prim.Native.Nat.{ℕ, _≤_, _<_}
-use mathlib.Core.Path.{_≡_}
 use borrow.Author.Needs.{needs}
 use Rattle.layout_name.proofs.Bytes.{equal-bytes, smaller, larger, alike}
 use Rattle.layout_name.proofs.raised_byte_order.Statement.{statement}

@@ -1,6 +1,5 @@
 -- `layout_volume::read_descriptor` meets its contract: by the two tests for the mark. Assumes nothing.
-use native.Mathlib.Omega.{arith}
-use Rattle.layout_volume.proofs.Reading.{reaches, no-first, no-second, volume}
+use Rattle.layout_volume.proofs.Reading.{sector-inside, size-inside, no-first, no-second, volume}
 use borrow.Author.Needs.{needs}
 use Rattle.layout_volume.proofs.read_descriptor.Statement.{statement}
 use Rattle.layout_volume.proofs.read_descriptor.Tie as tie
@@ -17,15 +16,13 @@ has-mark-requires-2 : tie.Need-has-mark-requires-2
 has-mark-requires-2 c κs = search needs
 
 u32-at-requires : tie.Need-u32-at-requires
-u32-at-requires c κs = omega (arith, reaches (c .before .before .before .before .before .args .s .now) 2028 _ (c .before .has-mark2 .ensures) (c .if2 .taken))
+u32-at-requires c κs = search sector-inside
 
 new-requires : tie.Need-new-requires
 new-requires c κs = search needs
 
 u32-at-requires-2 : tie.Need-u32-at-requires-2
-u32-at-requires-2 c κs =
-    let k = c .before .before in
-    omega (arith, reaches (k .before .before .before .before .before .args .s .now) 2028 _ (k .before .has-mark2 .ensures) (k .if2 .taken))
+u32-at-requires-2 c κs = search size-inside
 
 returns : tie.Need-returns
 returns c = search volume

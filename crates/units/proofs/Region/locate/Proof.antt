@@ -1,12 +1,11 @@
 -- `units::Region::locate` meets its contract: by cases on its test. Assumes nothing.
-use Prim.Native.Nat.{ℕ, _+_, _*_, _≤_, _<_}
-use mathlib.Core.Path.{_≡_, sym, ap, _∙_}
-use mathlib.Core.List.{[], _∷_}
+use Prim.Native.Nat.{ℕ, _+_, _*_, _<_}
+use mathlib.Core.Path.{_≡_, sym}
 use borrow.Author.Needs.{needs}
 use borrow.Author.Tests.{le-leb, lt-leb}
 use Rattle.units.specs.declared.Region.{Region}
 use Rattle.units.specs.declared.Offset.{Offset}
-use Rattle.units.specs.Told.{gives, refuses}
+use Rattle.units.specs.Told.{gives}
 use Rattle.units.specs.Region.{locateOf}
 use Rattle.units.proofs.Region.locate.Statement.{statement}
 use Rattle.units.proofs.Region.locate.Tie as tie

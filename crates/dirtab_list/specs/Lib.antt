@@ -1,0 +1,3 @@
+-- What writing a whole list answers.
+pub mod Grow
+pub mod Whole

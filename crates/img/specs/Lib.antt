@@ -1,0 +1,3 @@
+-- What planning an image answers.
+pub mod Shares
+pub mod Plan
