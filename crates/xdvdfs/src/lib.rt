@@ -3,6 +3,11 @@
 //
 // A contract `told r ≡ D` says that the answer r stands for what the definition D gives: `gives X`, or `refuses NUMBER VALUES`. The definitions are in the
 // specs/ of the crate that is named in each `ghost use`.
+pub use dirtab::Serialised;
+pub use dirtab_add::Added;
+pub use dirtab_arena::Held;
+pub use dirtab_entry::Entry;
+pub use dirtab_entry::Kind;
 pub use layout_node::Header;
 pub use layout_sector::SectorCounter;
 pub use layout_sector::Taken;
@@ -20,6 +25,9 @@ pub use units::Region;
 pub use units::Sector;
 ghost use mathlib.Core.Path.{_≡_};
 ghost use lib.ListN.{length};
+ghost use Rattle.dirtab.specs.Serialise as serialising;
+ghost use Rattle.dirtab_add.specs.Add as adding;
+ghost use Rattle.dirtab_arena.specs.Arena.{arena, columns};
 ghost use Rattle.layout_volume.specs.Descriptor as volume;
 ghost use Rattle.read_entry.specs.Entry as entry;
 ghost use Rattle.read_lookup.specs.Lookup as lookup;
@@ -96,4 +104,79 @@ pub fn write_descriptor(out: &mut [u8], d: Descriptor) -> DescriptorWritten
     ensures { λ _. ⌜ now (out .exit) ≡ volume.bytesAfter (now (out .entry)) d ⌝ }
 {
     layout_volume::write_descriptor(out, d)
+}
+
+// Adds an entry to the table that an arena holds: columns by node, of which the first `tree.count` places are held, and bytes lent for names. The columns are the tree's
+// (left, right, parent, height) and the entries' (place and length of the name, size, kind: 1 is a directory). 12, then 1, 2, 3, 5, 4, 6; all unchanged on a refusal.
+pub fn add(
+    tree: Held,
+    left: &mut [u16],
+    right: &mut [u16],
+    parent: &mut [u16],
+    height: &mut [u8],
+    start: &mut [u32],
+    len: &mut [u32],
+    size: &mut [u32],
+    kind: &mut [u8],
+    names: &[u8],
+    entry: Entry,
+) -> Added
+    ensures { λ r. ⌜ adding.told r ≡ adding.addOf (arena (tree .root) (tree .count) (columns (now (left .entry)) (now (right .entry)) (now (parent .entry)) (now (height .entry)) (now (start .entry)) (now (len .entry)) (now (size .entry)) (now (kind .entry))) (now (names .entry))) entry ⌝ }
+    ensures { λ _. ⌜ columns (now (left .exit)) (now (right .exit)) (now (parent .exit)) (now (height .exit)) (now (start .exit)) (now (len .exit)) (now (size .exit)) (now (kind .exit))
+        ≡ adding.columnsAfter (arena (tree .root) (tree .count) (columns (now (left .entry)) (now (right .entry)) (now (parent .entry)) (now (height .entry)) (now (start .entry)) (now (len .entry)) (now (size .entry)) (now (kind .entry))) (now (names .entry))) entry ⌝ }
+{
+    dirtab_add::add(
+        tree,
+        left,
+        right,
+        parent,
+        height,
+        start,
+        len,
+        size,
+        kind,
+        names,
+        entry,
+    )
+}
+
+// Writes the table that an arena holds, with sectors from `first` on: the reported size and the next free sector. `order` and `place` are scratch, zero afterwards.
+// 12, then 6, 7, 8, 9, all before any write; the output past the rounded size is unchanged.
+pub fn serialise(
+    tree: Held,
+    left: &[u16],
+    right: &[u16],
+    parent: &[u16],
+    height: &[u8],
+    start: &[u32],
+    len: &[u32],
+    size: &[u32],
+    kind: &[u8],
+    names: &[u8],
+    first: Sector,
+    order: &mut [u16],
+    place: &mut [u16],
+    out: &mut [u8],
+) -> Serialised
+    ensures { λ r. ⌜ serialising.told r ≡ serialising.serialiseOf (arena (tree .root) (tree .count) (columns (now (left .entry)) (now (right .entry)) (now (parent .entry)) (now (height .entry)) (now (start .entry)) (now (len .entry)) (now (size .entry)) (now (kind .entry))) (now (names .entry))) (first .0) (length (now (order .entry))) (length (now (place .entry))) (length (now (out .entry))) ⌝ }
+    ensures { λ _. ⌜ now (out .exit) ≡ serialising.outAfter (arena (tree .root) (tree .count) (columns (now (left .entry)) (now (right .entry)) (now (parent .entry)) (now (height .entry)) (now (start .entry)) (now (len .entry)) (now (size .entry)) (now (kind .entry))) (now (names .entry))) (first .0) (length (now (order .entry))) (length (now (place .entry))) (now (out .entry)) ⌝ }
+    ensures { λ _. ⌜ now (order .exit) ≡ serialising.scratchAfter (arena (tree .root) (tree .count) (columns (now (left .entry)) (now (right .entry)) (now (parent .entry)) (now (height .entry)) (now (start .entry)) (now (len .entry)) (now (size .entry)) (now (kind .entry))) (now (names .entry))) (length (now (order .entry))) (length (now (place .entry))) (now (order .entry)) ⌝ }
+    ensures { λ _. ⌜ now (place .exit) ≡ serialising.scratchAfter (arena (tree .root) (tree .count) (columns (now (left .entry)) (now (right .entry)) (now (parent .entry)) (now (height .entry)) (now (start .entry)) (now (len .entry)) (now (size .entry)) (now (kind .entry))) (now (names .entry))) (length (now (order .entry))) (length (now (place .entry))) (now (place .entry)) ⌝ }
+{
+    dirtab::serialise(
+        tree,
+        left,
+        right,
+        parent,
+        height,
+        start,
+        len,
+        size,
+        kind,
+        names,
+        first,
+        order,
+        place,
+        out,
+    )
 }
