@@ -2,7 +2,7 @@
 use Prim.Native.Nat.{ℕ}
 use mathlib.Core.Path.{_≡_, refl}
 use mathlib.Core.Bool.{Bool, true, false}
-use mathlib.Core.List.{List, [], _∷_}
+use mathlib.Core.List.{[], _∷_}
 use Rattle.dirtab_entry.specs.Entry.{anyBad, checkOf}
 use Rattle.avl_model.specs.Seek.{treeAt}
 use Rattle.avl_arena.specs.Test.{places, inside, between, cellOk, wholeTree, holdsTree}

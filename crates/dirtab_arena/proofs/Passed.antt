@@ -1,17 +1,16 @@
 -- What an arena that passed the check is: a held tree, and entries that adding takes.
-use Prim.Native.Nat.{ℕ, _+_, _≤_, _<_}
+use Prim.Native.Nat.{ℕ, _≤_, _<_}
 use native.Mathlib.Omega.{arith}
 use mathlib.Core.Path.{_≡_, refl, sym, _∙_}
-use mathlib.Core.Bool.{Bool, true, false, _&&_}
-use mathlib.Core.List.{List, []}
+use mathlib.Core.Bool.{true, _&&_}
 use lib.ListN.{length, take}
 use lib.Seq.{length-take-le}
-use lib.Dec.{leb, ltb, eqb}
-use borrow.Author.Tests.{leb-true, ltb-false, eqb-false}
-use Rattle.units.specs.Told.{Told, gives, refuses, pick}
+use lib.Dec.{leb}
+use borrow.Author.Tests.{leb-true}
+use Rattle.units.specs.Told.{Told, gives, refuses}
 use Rattle.layout_name.specs.declared.Order.{Order}
 use Rattle.dirtab_entry.specs.declared.Entry as given
-use Rattle.dirtab_entry.specs.Entry.{isDirectory, anyBad, nameIn, checkOf}
+use Rattle.dirtab_entry.specs.Entry.{checkOf}
 use Rattle.avl_model.specs.declared.Place.the-variants.{Root}
 use Rattle.avl_model.specs.declared.Spot.{Spot}
 use Rattle.avl_model.specs.Names.{Inside}
