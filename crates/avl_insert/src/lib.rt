@@ -5,13 +5,13 @@ ghost use Prim.Native.Nat.{ℕ, _≤_, _<_};
 ghost use lib.ListN.{length, getD};
 ghost use Rattle.layout_name.specs.Order.{raisedCopy};
 ghost use Rattle.avl_model.specs.declared.Place.the-variants.{Root};
-ghost use Rattle.avl_model.specs.Tree.{bal};
+ghost use Rattle.avl_model.specs.Tree.{bal, ins};
 ghost use Rattle.avl_model.specs.Rep.{climb};
 ghost use Rattle.avl_model.specs.Lists.{lists, aboveOf, attached};
 ghost use Rattle.avl_model.specs.Held.{Ready, Whole};
-ghost use Rattle.avl_model.specs.Names.{names, nameAt, toName, Inside};
+ghost use Rattle.avl_model.specs.Names.{names, nameAt, toName, isLess, Inside};
 ghost use Rattle.avl_model.specs.Seek.{spotIn, Sought};
-ghost use Rattle.avl_model.specs.Insert.{Filled, Out};
+ghost use Rattle.avl_model.specs.Insert.{Filled, Out, Placed};
 use avl_model::Inserted;
 use avl_model::Place;
 use avl_model::Spot;
@@ -78,6 +78,25 @@ fn descend(
     Spot::Free(place)
 }
 
+// Where a name stands in the tree, or would hang.
+pub fn find_spot(
+    left: &[u16],
+    right: &[u16],
+    bytes: &[u8],
+    start: &[u32],
+    len: &[u32],
+    root: u16,
+    name: &[u8],
+) -> Spot
+    requires { ⌜ Sought (now left) (now right) root (names (now bytes) (now start) (now len)) ⌝ }
+    requires { ⌜ length (now name) ≤ 255 ⌝ }
+    ensures { λ s. ⌜ ((w : Sought (now (left .entry)) (now (right .entry)) root (names (now (bytes .entry)) (now (start .entry)) (now (len .entry)))) →
+        s ≡ spotIn (toName (names (now (bytes .entry)) (now (start .entry)) (now (len .entry))) (now (name .entry))) (w .linked .t) Root) ⌝ }
+{
+    let copy = raise_name(name);
+    descend(left, right, bytes, start, len, root, &copy, name)
+}
+
 // The parent at a place.
 fn above(place: Place) -> u16
     ensures { λ p. ⌜ p ≡ aboveOf place ⌝ }
@@ -136,6 +155,24 @@ fn rebalance(
     }
 }
 
+// Puts the node `new` in at the place that its name's spot is, and climbs from it.
+pub fn put_in(
+    root: &mut u16,
+    left: &mut [u16],
+    right: &mut [u16],
+    parent: &mut [u16],
+    height: &mut [u8],
+    place: Place,
+    new: u16,
+)
+    requires { ⌜ Placed (lists (now root) (now left) (now right) (now parent) (now height)) place new ⌝ }
+    ensures { λ _. ⌜ ((w : Placed (lists (now (root .entry)) (now (left .entry)) (now (right .entry)) (now (parent .entry)) (now (height .entry))) place new) →
+        Whole (lists (now (root .exit)) (now (left .exit)) (now (right .exit)) (now (parent .exit)) (now (height .exit))) (length (now (left .entry))) (ins (λ i. isLess (w .by i)) new (w .arena .t))) ⌝ }
+{
+    attach(root, left, right, parent, height, place, new);
+    rebalance(root, left, right, parent, height, new);
+}
+
 // Puts the node `new`, which has this name, into the tree; or says which node has the name already, and leaves all as it is.
 pub fn insert(
     root: &mut u16,
@@ -156,13 +193,11 @@ pub fn insert(
         (lists (now (root .exit)) (now (left .exit)) (now (right .exit)) (now (parent .exit)) (now (height .exit)))
         (toName (names (now (bytes .entry)) (now (start .entry)) (now (len .entry))) (now (name .entry))) new (w .arena .t) r) ⌝ }
 {
-    let copy = raise_name(name);
-    let spot = descend(left, right, bytes, start, len, *root, &copy, name);
+    let spot = find_spot(left, right, bytes, start, len, *root, name);
     match spot {
         Spot::Same(i) => Inserted::Duplicate(i),
         Spot::Free(place) => {
-            attach(root, left, right, parent, height, place, new);
-            rebalance(root, left, right, parent, height, new);
+            put_in(root, left, right, parent, height, place, new);
             Inserted::Done
         }
     }

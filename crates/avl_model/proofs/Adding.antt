@@ -289,10 +289,8 @@ module _ (S : Lists) (N : Names) (new : ℕ) (w : Filled S N new) where
     pub out-same : {i : ℕ} → s ≡ Same i → Out S S by new (w .arena .t) (Duplicate i)
     out-same {i} e = subst (λ (z : Spot). OutBy z S S (λ j. isLess (by j)) new (w .arena .t) (Duplicate i)) (sym e ∙ spot-is) (refl, refl)
 
-    pub ready-after : {q : Place} → s ≡ Free q → {T : Lists} → T ≡ attached S q new → Ready T new
-    ready-after {q} e {T} et = subst (λ (T : Lists). Ready T new) (sym et) (new-ready S new (w .arena) by q (sym spot-is ∙ e))
+    pub free-is : {q : Place} → s ≡ Free q → spotIn by (w .arena .t) Root ≡ Free q
+    free-is e = sym spot-is ∙ e
 
-    pub out-free : {q : Place} → s ≡ Free q → {T U : Lists} → T ≡ attached S q new
-        → ((v : Ready T new) → Whole U (length (T .L)) (climb (v .k) (bal (v .l) new (v .r)))) → Out S U by new (w .arena .t) Done
-    out-free {q} e {T} {U} et g =
-        subst (λ (z : Spot). OutBy z S U (λ i. isLess (by i)) new (w .arena .t) Done) (sym e ∙ spot-is) (refl, inserted S new (w .arena) by q (sym spot-is ∙ e) et g)
+    pub out-free : {q : Place} → s ≡ Free q → {U : Lists} → Whole U (length (S .L)) (ins (λ i. isLess (by i)) new (w .arena .t)) → Out S U by new (w .arena .t) Done
+    out-free {q} e {U} h = subst (λ (z : Spot). OutBy z S U (λ i. isLess (by i)) new (w .arena .t) Done) (sym e ∙ spot-is) (refl, h)

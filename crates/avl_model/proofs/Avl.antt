@@ -176,7 +176,7 @@ module _ (P : ℕ → Type 0) where
         (λ q. (a .0, (p, al, a .1), a .2), λ u c v f q. let d : All P (node u c v) = subst (All P) f (a .1) in (d .0, (p, al, d .1), (a .0, d .2, a .2))),
   )
 
-  all-ins : (less : ℕ → Bool) (new : ℕ) (t : Tree) → P new → All P t → All P (ins less new t)
+  pub all-ins : (less : ℕ → Bool) (new : ℕ) (t : Tree) → P new → All P t → All P (ins less new t)
   all-ins less new leaf p a = (p, tt, tt)
   all-ins less new (node l i r) p a = elim (less i) as (λ b. All P (insBy b l (ins less new l) i r (ins less new r))) [
     | true ↦ all-bal (ins less new l) i r (a .0) (all-ins less new l p (a .1)) (a .2)

@@ -75,6 +75,14 @@ tally-full (suc m) f o e j h = elim (ℕ-discrete j m) [
 pub each-once : (n : ℕ) (t : Tree) → All (λ j. j < n) t → ((j : ℕ) → cnt j t ≤ 1) → size t ≡ n → (j : ℕ) → j < n → cnt j t ≡ 1
 each-once n t a o e j h = omega (arith, o j, tally-full n (λ i. cnt i t) o (size-tally n t a ∙ e) j h)
 
+tally-ones : (n : ℕ) (f : ℕ → ℕ) → ((j : ℕ) → j < n → f j ≡ 1) → tally n f ≡ n
+tally-ones zero f h = refl
+tally-ones (suc n) f h = omega (arith, h n (omega arith), tally-ones n f (λ j k. h j (omega arith)))
+
+-- a tree of all numbers below n, each once, has n nodes
+pub each-size : (n : ℕ) (t : Tree) → All (λ j. j < n) t → ((j : ℕ) → j < n → cnt j t ≡ 1) → size t ≡ n
+each-size n t a h = sym (size-tally n t a) ∙ tally-ones n (λ j. cnt j t) h
+
 -- the fewest nodes at height 23 are 75,024
 pub least-23 : least 23 ≡ 75024
 unfolding least

@@ -23,3 +23,5 @@ pub mod Search
 pub mod Cases
 pub mod Order
 pub mod Counted
+pub mod Writing
+pub mod Alike

@@ -18,6 +18,7 @@ use Rattle.avl_model.specs.Names.{Names, nameAt, toName, byName, isLess,
 use Rattle.avl_model.specs.Seek.{spotIn, spotBy}
 use Rattle.avl_model.proofs.Frame.{δ-same}
 use Rattle.avl_model.proofs.Avl.{all-map, ins-ordered, two}
+use Rattle.avl_model.proofs.Counted.{all-at}
 
 differ : {o : Order} → o ≡ Less → o ≡ Equal → ⊥
 differ e f = let z : _≡_ {A = ℕ} 0 1 = cc in omega arith
@@ -95,3 +96,11 @@ module _ (N : Names) (a : List ℕ) where
         (all-map (λ j. toName N a j ≡ Equal → ⊥) (λ j. (isLess (toName N a j) ≡ true → Before N new j) × (isLess (toName N a j) ≡ false → Before N j new)) t
         (λ j n. tells j (toName N a j) refl n) (free-apart t p q s e))
         s
+
+-- a name that a node of an ordered tree has is found
+pub equal-found : (N : Names) (a : List ℕ) (t : Tree) (p : Place) (j : ℕ) → Ordered (Before N) t → 1 ≤ cnt j t → toName N a j ≡ Equal → (k : ℕ) × (spotIn (toName N a) t p ≡ Same k)
+equal-found N a t p j s m e = go (spotIn (toName N a) t p) refl
+  where
+    go : (x : Spot) → spotIn (toName N a) t p ≡ x → (k : ℕ) × (spotIn (toName N a) t p ≡ Same k)
+    go (Same k) q = (k, q)
+    go (Free u) q = absurd (all-at (λ i. toName N a i ≡ Equal → ⊥) t j (free-apart N a t p u s q) m e)

@@ -24,11 +24,11 @@ use Rattle.avl_model.proofs.Frame.{δ-same, δ-apart, apart}
 use Rattle.avl_model.proofs.Bal.{ins-cnt}
 
 module _ (f : ℕ → Tree → ℕ → Tree → ℕ) where
-  write-length : (p : ℕ) (t : Tree) (xs : List ℕ) → length (write f p t xs) ≡ length xs
+  pub write-length : (p : ℕ) (t : Tree) (xs : List ℕ) → length (write f p t xs) ≡ length xs
   write-length p leaf xs = refl
   write-length p (node l i r) xs = length-set (write f i r (write f i l xs)) i (f p l i r) ∙ write-length i r (write f i l xs) ∙ write-length i l xs
 
-  write-out : (p : ℕ) (t : Tree) (xs : List ℕ) (j : ℕ) → cnt j t ≡ 0 → getD (write f p t xs) j 0 ≡ getD xs j 0
+  pub write-out : (p : ℕ) (t : Tree) (xs : List ℕ) (j : ℕ) → cnt j t ≡ 0 → getD (write f p t xs) j 0 ≡ getD xs j 0
   write-out p leaf xs j z = refl
   write-out p (node l i r) xs j z =
       getD-set-other (write f i r (write f i l xs)) i j (f p l i r) 0 (λ e. let d : δ i j ≡ 1 = subst (λ (v : ℕ). δ v j ≡ 1) e (δ-same j) in omega arith)

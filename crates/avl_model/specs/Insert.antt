@@ -8,6 +8,7 @@ use Rattle.avl_model.specs.declared.Inserted.{Inserted}
 use Rattle.avl_model.specs.declared.Inserted.the-variants.{Done, Duplicate}
 use Rattle.avl_model.specs.declared.Spot.{Spot}
 use Rattle.avl_model.specs.declared.Spot.the-variants.{Same, Free}
+use Rattle.avl_model.specs.declared.Place.{Place}
 use Rattle.avl_model.specs.declared.Place.the-variants.{Root}
 use Rattle.avl_model.specs.Lists.{Lists}
 use Rattle.avl_model.specs.Laws.{All}
@@ -20,6 +21,12 @@ use Rattle.avl_model.specs.Seek.{spotIn}
 pub record Filled (S : Lists) (N : Names) (new : ℕ) : Type 0 where
   pub arena : Arena S new
   pub named : All (Inside N) (arena .t)
+
+-- an arena, and q is the place where a name that no node has would hang; `by i` is the order of that name to that of node i
+pub record Placed (S : Lists) (q : Place) (new : ℕ) : Type 0 where
+  pub arena : Arena S new
+  pub by : ℕ → Order
+  pub free : spotIn by (arena .t) Root ≡ Free q
 
 -- a name that is there leaves all as it was, and the answer says which node has it; any other is put in
 abbrev pub OutBy : Spot → Lists → Lists → (ℕ → Bool) → ℕ → Tree → Inserted → Type 0

@@ -1,0 +1,50 @@
+-- `put_in` meets its contract: `attach` fills the hole at the place (`new-ready`), and `rebalance` makes the climb from it, which is `ins` (`inserted`).
+use mathlib.Core.Path.{sym, subst}
+use Rattle.avl_model.specs.Lists.{Lists, lists}
+use Rattle.avl_model.specs.Held.{Ready}
+use Rattle.avl_model.proofs.Adding.{new-ready, inserted}
+use borrow.Author.Needs.{needs}
+use Rattle.avl_insert.proofs.put_in.Statement.{statement}
+use Rattle.avl_insert.proofs.put_in.Tie as tie
+use Rattle.avl_insert.proofs.put_in.Reads as reads
+use Rattle.avl_insert.proofs.put_in.Lts as lts
+use Rattle.avl_insert.proofs.attach.Reads as attach-reads
+use Rattle.avl_insert.proofs.rebalance.Reads as rebalance-reads
+
+attach-requires : tie.Need-attach-requires
+attach-requires c κs = search needs
+
+rebalance-requires : tie.Need-rebalance-requires
+rebalance-requires c κs = let s = c .before .before .before .before .before .before .before .before .before .before .before .before .before .before .before .before .before .before .before .before .before .before .before in
+    let a = s .args in
+    let w = s .pre in
+    subst (λ (T : Lists). Ready T (a .new)) (sym (c .before .before .before .before .before .before .before .before .before .before .before .before .before .attach .ensures)) (new-ready (lists (a .root .now) (a .left .now) (a .right .now) (a .parent .now) (a .height .now)) (a .new) (w .arena) (w .by) (a .place) (w .free))
+
+same-length : tie.Need-same-length
+same-length c = search needs
+
+same-length-2 : tie.Need-same-length-2
+same-length-2 c = search needs
+
+same-length-3 : tie.Need-same-length-3
+same-length-3 c = search needs
+
+same-length-4 : tie.Need-same-length-4
+same-length-4 c = search needs
+
+returns : tie.Need-returns
+returns c = λ w.
+    let a = c .before .before .before .before .before .before .before .before .before .before .before .before .before .before .before .before .before .before .before .before .before .before .before .before .before .before .before .before .before .before .before .before .args in
+    inserted (lists (a .root .now) (a .left .now) (a .right .now) (a .parent .now) (a .height .now)) (a .new) (w .arena) (w .by) (a .place) (w .free) (c .before .before .before .before .before .before .before .before .before .before .before .before .before .before .before .before .before .before .before .before .before .before .attach .ensures) (c .before .before .before .before .before .before .before .before .rebalance .ensures)
+
+pub put-in-spec : {M : Type 1} → statement M
+put-in-spec =
+    tie.close
+    (tie.spec
+    attach-requires
+    rebalance-requires
+    same-length
+    same-length-2
+    same-length-3
+    same-length-4
+    returns)
