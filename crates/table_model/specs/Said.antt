@@ -4,6 +4,7 @@ use mathlib.Core.Path.{_≡_}
 use mathlib.Core.List.{List, [], _∷_}
 use lib.ListN.{length}
 use Rattle.layout_sector.specs.Counter.{sectorsFor}
+use Rattle.avl_model.specs.Tree.{Tree, leaf, node}
 use Rattle.table_model.specs.Entry.{Entry, Item}
 use Rattle.table_model.specs.Table.{stop}
 
@@ -40,3 +41,8 @@ lastSector x = x .sector + sectorsFor (x .entry .size)
 abbrev pub SectorsApart : List Item → Type 0
 SectorsApart [] = Unit {0}
 SectorsApart (x ∷ xs) = AllIn (λ y. lastSector x ≤ y .sector) xs × SectorsApart xs
+
+-- the sectors that a tree's entries take in all
+unfoldable pub sectorsIn : (ℕ → Entry) → Tree → ℕ
+sectorsIn entry leaf = 0
+sectorsIn entry (node l i r) = sectorsFor (entry i .size) + (sectorsIn entry l + sectorsIn entry r)

@@ -1,0 +1,4 @@
+-- What is supposed of a table that was written, and what reading it finds.
+pub mod Written
+pub mod Along
+pub mod Agreement

@@ -1,0 +1,2 @@
+-- Every table that is written passes the strict check.
+pub mod Passes

@@ -1,0 +1,6 @@
+-- Laws of tables: where entries stand, what bytes they are, that they are inside, whole and apart, how a buffer is written, and when placing is refused.
+pub mod Places
+pub mod Bytes
+pub mod Geometry
+pub mod Writing
+pub mod Placing
