@@ -1,3 +1,2 @@
 -- What writing a whole list answers.
-pub mod Grow
 pub mod Whole

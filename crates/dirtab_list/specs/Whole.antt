@@ -5,31 +5,16 @@ use mathlib.Core.List.{List, [], _∷_, _++_}
 use lib.Dec.{leb}
 use lib.ListN.{length, getD, drop, replicate}
 use Rattle.units.specs.Told.{Told, gives, refuses, pick}
-use Rattle.dirtab_entry.specs.declared.Entry as given
 use Rattle.dirtab_entry.specs.Entry.{rounded, kindFor, storedSize, nameIn}
 use Rattle.avl_model.specs.Tree.{Tree}
 use Rattle.table_model.specs.Entry.{Entry}
 use Rattle.table_model.specs.Table.{Placing, placeOf, tableBytes}
 use Rattle.dirtab_list.specs.declared.ListWritten.{ListWritten}
 use Rattle.dirtab_list.specs.declared.ListWritten.the-variants as written
-use Rattle.dirtab_list.specs.Grow.{grow}
+use Rattle.dirtab_grow.specs.Listing.{Listing, givenIn}
+use Rattle.dirtab_grow.specs.Grow.{grow}
 
--- a list of entries in columns: how many they are, where each name starts and how long it is in the bytes lent for names, size and kind
-pub record Listing : Type 0 where
-  pub count : ℕ
-  pub start : List ℕ
-  pub len : List ℕ
-  pub size : List ℕ
-  pub kind : List ℕ
-  pub bytes : List ℕ
-
-abbrev pub listing : ℕ → List ℕ → List ℕ → List ℕ → List ℕ → List ℕ → Listing
-listing n a l z k b = record { count = n; start = a; len = l; size = z; kind = k; bytes = b }
-
--- entry i as it is given, and as a table has it (a directory's size rounded)
-abbrev pub givenIn : Listing → ℕ → given.Entry
-givenIn L i = record { start = getD (L .start) i 0; len = getD (L .len) i 0; kind = kindFor (getD (L .kind) i 0); size = getD (L .size) i 0 }
-
+-- entry i as a table has it (a directory's size rounded)
 abbrev pub entryIn : Listing → ℕ → Entry
 entryIn L i = record {
   name = nameIn (L .bytes) (givenIn L i);

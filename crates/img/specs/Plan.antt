@@ -13,7 +13,7 @@ use Rattle.avl_model.specs.Order.{order}
 use Rattle.table_model.specs.Entry.{Entry}
 use Rattle.table_model.specs.Place.{items, freeOf}
 use Rattle.table_model.specs.Table.{sizeOf, anyFar}
-use Rattle.dirtab_list.specs.Grow.{growFrom, orderIn}
+use Rattle.dirtab_grow.specs.Grow.{growFrom, orderIn}
 use Rattle.img.specs.declared.Planned.{Planned}
 use Rattle.img.specs.declared.Planned.the-variants as planned
 use Rattle.img.specs.Shares.{Request, isDirectory, entryOf, isTree}
