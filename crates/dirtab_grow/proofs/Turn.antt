@@ -14,9 +14,9 @@ use Rattle.avl_model.specs.Seek.{spotIn}
 use Rattle.dirtab_grow.specs.declared.Cause.{Cause}
 use Rattle.dirtab_grow.specs.declared.Step.{Step}
 use Rattle.dirtab_grow.specs.declared.Step.the-variants as step
-use Rattle.dirtab_grow.specs.Listing.{Listing, givenIn}
+use Rattle.dirtab_grow.specs.Listing.{Listing, listing, givenIn}
 use Rattle.dirtab_grow.specs.Grow.{growFrom, orderIn, grow}
-use Rattle.dirtab_grow.specs.Growing.{numberOf, goOn, stepOf, Grown, Growing, Stepped, Holding}
+use Rattle.dirtab_grow.specs.Growing.{numberOf, goOn, stepOf, Grown, Growing, Lent, Wide, Roomy, Stepped, Holding}
 
 module _ (L : Listing) where
   abbrev pub named : Names
@@ -98,3 +98,11 @@ module _ (L : Listing) where
         told = sym (b .whole) ∙ ap (λ (k : ℕ). rest k i (b .t)) {x = L .count - i} {y = 0} (omega (arith, b .to));
         grown = subst (λ (v : ℕ). Grown S named v (b .t)) e (b .grown);
       }
+
+-- an entry that is left has its place in every column
+module _ (L : Listing) (S : Lists) (n i : ℕ) {at : ℕ} (room : Roomy L S n) (h : i < n) (is : at ≡ i) where
+  pub lent-at : Lent (listing 0 (L .start) (L .len) (L .size) (L .kind) (L .bytes)) at
+  lent-at = record { in-start = omega (arith, room .start); in-len = omega (arith, room .len); in-size = omega (arith, room .size); in-kind = omega (arith, room .kind) }
+
+  pub wide-at : (T : Lists) → length (T .L) ≡ length (S .L) → length (T .R) ≡ length (S .R) → length (T .P) ≡ length (S .P) → length (T .H) ≡ length (S .H) → Wide T at
+  wide-at T el er ep eh = record { l = omega (arith, room .l); r = omega (arith, room .r); p = omega (arith, room .p); h = omega (arith, room .h) }

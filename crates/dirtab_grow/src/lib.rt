@@ -18,10 +18,10 @@ use avl_insert::put_in;
 use avl_model::Place;
 use avl_model::Spot;
 use avl_turn::index;
-use dirtab_entry::check_entry;
-use dirtab_entry::kind_of;
 use dirtab_entry::Entry;
 use dirtab_entry::EntryChecked;
+use dirtab_entry::check_entry;
+use dirtab_entry::kind_of;
 
 // Why an entry is refused.
 pub enum Cause {
@@ -156,7 +156,17 @@ fn add_entry(
         Step::Refused(cause) => Step::Refused(cause),
         Step::Taken => {
             let end = index(i) + 1;
-            hang_entry(root, &mut left[..end], &mut right[..end], &mut parent[..end], &mut height[..end], bytes, start, len, i)
+            hang_entry(
+                root,
+                &mut left[..end],
+                &mut right[..end],
+                &mut parent[..end],
+                &mut height[..end],
+                bytes,
+                start,
+                len,
+                i,
+            )
         }
     }
 }
@@ -191,7 +201,19 @@ pub fn build(
     let mut i: u32 = 0;
     while i < count {
         let at = narrow(i);
-        match add_entry(bytes, start, len, size, kind, root, left, right, parent, height, at) {
+        match add_entry(
+            bytes,
+            start,
+            len,
+            size,
+            kind,
+            root,
+            left,
+            right,
+            parent,
+            height,
+            at,
+        ) {
             Step::Taken => i += 1,
             Step::Refused(cause) => return Built::Refused(cause, i),
         }
