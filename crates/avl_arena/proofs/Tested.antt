@@ -54,19 +54,35 @@ and-first b e f = sym (ap (λ (y : Bool). y && b) (sym e ∙ f))
 pub and-second : {a b x y : Bool} → x ≡ a → x ≡ true → y ≡ b → y ≡ (a && b)
 and-second {a} {b} e f g = g ∙ sym (ap (λ (z : Bool). z && b) (sym e ∙ f))
 
+-- ---- each number below m
+
+pub every-fails : (f : ℕ → Bool) (i m : ℕ) → f i ≡ false → i < m → every f m ≡ false
+every-fails f i zero e h = absurd (omega arith)
+every-fails f i (suc m) e h = elim (ℕ-discrete i m) [
+  | yes q ↦ ap (λ (b : Bool). every f m && b) (ap f (sym q) ∙ e) ∙ and-false (every f m)
+  | no ne ↦ ap (λ (b : Bool). b && f m) (every-fails f i m e (omega arith))
+]
+
+pub every-more : (f : ℕ → Bool) (i : ℕ) → every f i ≡ true → f i ≡ true → every f (i + 1) ≡ true
+every-more f i e g = subst (λ (v : ℕ). every f v ≡ true) {x = suc i} {y = i + 1} (omega arith) (and-both e g)
+
+pub every-at : (f : ℕ → Bool) (m : ℕ) → every f m ≡ true → (j : ℕ) → j < m → f j ≡ true
+every-at f zero e j h = absurd (omega arith)
+every-at f (suc m) e j h = elim (ℕ-discrete j m) [
+  | yes q ↦ ap f q ∙ and-r (every f m) _ e
+  | no ne ↦ every-at f m (and-l _ _ e) j (omega arith)
+]
+
+pub every-from : (f : ℕ → Bool) (m : ℕ) → ((j : ℕ) → j < m → f j ≡ true) → every f m ≡ true
+every-from f zero h = refl
+every-from f (suc m) h = and-both (every-from f m (λ j k. h j (omega arith))) (h m (omega arith))
+
 -- ---- each name inside
 
 module _ (B s n : List ℕ) where
   one-out : (i a b : ℕ) → (a ≡ getD s i 0) × (a < 4294967296) → (b ≡ getD n i 0) × (b < 4294967296) → length B < a + b → inside (names B s n) i ≡ false
   unfolding inside
   one-out i a b ea eb h = let k : length B < getD s i 0 + getD n i 0 = omega arith in lt-leb (getD s i 0 + getD n i 0) (length B) k
-
-  every-fails : (f : ℕ → Bool) (i m : ℕ) → f i ≡ false → i < m → every f m ≡ false
-  every-fails f i zero e h = absurd (omega arith)
-  every-fails f i (suc m) e h = elim (ℕ-discrete i m) [
-    | yes q ↦ ap (λ (b : Bool). every f m && b) (ap f (sym q) ∙ e) ∙ and-false (every f m)
-    | no ne ↦ ap (λ (b : Bool). b && f m) (every-fails f i m e (omega arith))
-  ]
 
   pub not-inside : (i a b : ℕ) → i < length s → (a ≡ getD s i 0) × (a < 4294967296) → (b ≡ getD n i 0) × (b < 4294967296) → length B < a + b → false ≡ every (inside (names B s n)) (length s)
   not-inside i a b f ea eb h = sym (every-fails (inside (names B s n)) i (length s) (one-out i a b ea eb h) f)
@@ -75,7 +91,7 @@ module _ (B s n : List ℕ) where
   unfolding inside
   one-more i a b p ea eb h =
       let k : getD s i 0 + getD n i 0 ≤ length B = omega arith in
-      subst (λ (v : ℕ). every (inside (names B s n)) v ≡ true) {x = suc i} {y = i + 1} (omega arith) (and-both p (le-leb (getD s i 0 + getD n i 0) (length B) k))
+      every-more (inside (names B s n)) i p (le-leb (getD s i 0 + getD n i 0) (length B) k)
 
   pub all-inside : (i : ℕ) → i ≤ length s → length s ≤ i → every (inside (names B s n)) i ≡ true → true ≡ every (inside (names B s n)) (length s)
   all-inside i h k e = sym e ∙ ap (every (inside (names B s n))) {x = i} {y = length s} (omega arith)
@@ -83,17 +99,12 @@ module _ (B s n : List ℕ) where
 -- what the test of each name says of one
 pub each-inside : (N : Names) (m : ℕ) → every (inside N) m ≡ true → (j : ℕ) → j < m → getD (N .start) j 0 + getD (N .len) j 0 ≤ length (N .bytes)
 unfolding inside
-each-inside N zero e j h = absurd (omega arith)
-each-inside N (suc m) e j h = elim (ℕ-discrete j m) [
-  | yes q ↦ subst (λ (v : ℕ). getD (N .start) v 0 + getD (N .len) v 0 ≤ length (N .bytes)) (sym q) (leb-true _ _ (and-r (every (inside N) m) _ e))
-  | no ne ↦ each-inside N m (and-l _ _ e) j (omega arith)
-]
+each-inside N m e j h = leb-true (getD (N .start) j 0 + getD (N .len) j 0) (length (N .bytes)) (every-at (inside N) m e j h)
 
 -- and where it says so of each, it holds
 pub every-of : (N : Names) (m : ℕ) → ((j : ℕ) → j < m → getD (N .start) j 0 + getD (N .len) j 0 ≤ length (N .bytes)) → every (inside N) m ≡ true
 unfolding inside
-every-of N zero f = refl
-every-of N (suc m) f = and-both (every-of N m (λ j h. f j (omega arith))) (le-leb (getD (N .start) m 0 + getD (N .len) m 0) (length (N .bytes)) (f m (omega arith)))
+every-of N m f = every-from (inside N) m (λ j h. le-leb (getD (N .start) j 0 + getD (N .len) j 0) (length (N .bytes)) (f j h))
 
 -- ---- places
 

@@ -1,8 +1,16 @@
 // A table being built: entries and the tree over them, in columns that the caller lends. Node i of the tree is entry i.
 ghost use mathlib.Core.Path.{_≡_};
-ghost use Prim.Native.Nat.{_≤_};
+ghost use mathlib.Core.List.{[]};
+ghost use Prim.Native.Nat.{_≤_, _<_};
 ghost use lib.ListN.{length};
-ghost use Rattle.dirtab_arena.specs.Arena.{arena, isArena};
+ghost use Rattle.dirtab_entry.specs.Entry.{checkOf};
+ghost use Rattle.avl_arena.specs.Test.{every};
+ghost use Rattle.dirtab_arena.specs.Arena.{columns, arena, isGiven, isTaken, isArena};
+use avl_arena::is_tree;
+use dirtab_entry::Entry;
+use dirtab_entry::EntryChecked;
+use dirtab_entry::check_entry;
+use dirtab_entry::kind_of;
 
 // The tree that the columns hold: its root, 65,535 for none, and how many nodes it has. They are the numbers below count.
 pub struct Held {
@@ -20,4 +28,80 @@ impl Held {
             count: 0,
         }
     }
+}
+
+// The count as an index.
+fn widen(x: u16) -> usize
+    ensures { λ r. ⌜ (r ≡ x) × (r < 65536) ⌝ }
+{
+    x as usize
+}
+
+// Adding takes the entry.
+fn is_taken(names: &[u8], entry: Entry) -> bool
+    ensures { λ r. ⌜ r ≡ isGiven (checkOf (now (names .entry)) entry) ⌝ }
+{
+    match check_entry(names, entry) {
+        EntryChecked::Good => true,
+        EntryChecked::EmptyName => false,
+        EntryChecked::BadByte => false,
+        EntryChecked::NameTooLong => false,
+        EntryChecked::SizeOverflow => false,
+    }
+}
+
+// Adding takes each of the first n entries.
+fn are_taken(
+    start: &[u32],
+    len: &[u32],
+    size: &[u32],
+    kind: &[u8],
+    names: &[u8],
+    n: usize,
+) -> bool
+    requires { ⌜ (n ≤ length (now start)) × (n ≤ length (now len)) × (n ≤ length (now size)) × (n ≤ length (now kind)) ⌝ }
+    ensures { λ r. ⌜ r ≡ every (isTaken (arena 0 0 (columns [] [] [] [] (now (start .entry)) (now (len .entry)) (now (size .entry)) (now (kind .entry))) (now (names .entry)))) n ⌝ }
+{
+    let mut i = 0;
+    while i < n {
+        let entry = Entry {
+            start: start[i],
+            len: len[i],
+            kind: kind_of(kind[i]),
+            size: size[i],
+        };
+        if !is_taken(names, entry) {
+            return false;
+        }
+        i += 1;
+    }
+    true
+}
+
+// The arena check (else 12): the columns hold one ordered, balanced tree, parents and heights true, of entries that adding takes.
+pub fn is_arena(
+    tree: Held,
+    left: &[u16],
+    right: &[u16],
+    parent: &[u16],
+    height: &[u8],
+    start: &[u32],
+    len: &[u32],
+    size: &[u32],
+    kind: &[u8],
+    names: &[u8],
+) -> bool
+    ensures { λ r. ⌜ r ≡ isArena (arena (tree .root) (tree .count) (columns (now (left .entry)) (now (right .entry)) (now (parent .entry)) (now (height .entry)) (now (start .entry)) (now (len .entry)) (now (size .entry)) (now (kind .entry))) (now (names .entry))) ⌝ }
+{
+    let n = widen(tree.count);
+    if size.len() < n {
+        return false;
+    }
+    if kind.len() < n {
+        return false;
+    }
+    if is_tree(left, right, parent, height, names, start, len, tree.root, tree.count) {
+        return are_taken(start, len, size, kind, names, n);
+    }
+    false
 }

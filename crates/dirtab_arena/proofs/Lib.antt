@@ -1,0 +1,2 @@
+-- The ways out of the arena check.
+pub mod Ways

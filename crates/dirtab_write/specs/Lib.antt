@@ -1,0 +1,3 @@
+-- Entries in columns, and what writing them leaves.
+pub mod Columns
+pub mod Holds
