@@ -51,14 +51,7 @@ fn is_taken(names: &[u8], entry: Entry) -> bool
 }
 
 // Adding takes each of the first n entries.
-fn are_taken(
-    start: &[u32],
-    len: &[u32],
-    size: &[u32],
-    kind: &[u8],
-    names: &[u8],
-    n: usize,
-) -> bool
+fn are_taken(start: &[u32], len: &[u32], size: &[u32], kind: &[u8], names: &[u8], n: usize) -> bool
     requires { ⌜ (n ≤ length (now start)) × (n ≤ length (now len)) × (n ≤ length (now size)) × (n ≤ length (now kind)) ⌝ }
     ensures { λ r. ⌜ r ≡ every (isTaken (arena 0 0 (columns [] [] [] [] (now (start .entry)) (now (len .entry)) (now (size .entry)) (now (kind .entry))) (now (names .entry)))) n ⌝ }
 {
@@ -100,7 +93,17 @@ pub fn is_arena(
     if kind.len() < n {
         return false;
     }
-    if is_tree(left, right, parent, height, names, start, len, tree.root, tree.count) {
+    if is_tree(
+        left,
+        right,
+        parent,
+        height,
+        names,
+        start,
+        len,
+        tree.root,
+        tree.count,
+    ) {
         return are_taken(start, len, size, kind, names, n);
     }
     false

@@ -215,7 +215,7 @@ module _ (left right start len size kind bytes : List ℕ) (n : ℕ) (t : Tree) 
         record {
           writes = record {
             numbered = in-order (Numbered c m) t (all-both _ _ _ t (numbered-from m) (headed t (h .links))
-            (all-both _ _ _ t (λ i a b. (a, b)) (stops-in t 0 m fits refl kept (omega arith)) below));
+                (all-both _ _ _ t (λ i a b. (a, b)) (stops-in t 0 m fits refl kept (omega arith)) below));
             free = f;
             counted = counted;
           };

@@ -44,9 +44,9 @@ same-length c = search needs
 
 returns : tie.Need-returns
 returns c = let z = c .before .before .before .before .before .before .before .before .before .before .before .before .before .before .before .before .before .before .before in let a = z .args in let m = c .before .before .before .before .before in let w = c .before .before .before .before .before .before .before .before .before .widen in let b = c .before .before .before .before .before .before .before .before .stored-at in let k = c .before .before .before .before .before .before .before .take in let p = c .before .before in (
-      taken-free (a .size .now) (a .kind .now) (a .counter .next .0) (a .number) (w .result) (b .result) (k .result) (w .ensures .0) (b .ensures) (k .ensures) _ _ (m .sector .given .1),
-      p .put-item .ensures ∙ ap (λ (s : ℕ). putAt (a .out .now) (4 * getD (a .place .now) (a .number) 0) (stored (itemBy (cols (a .left .now) (a .right .now) (a .place .now) (a .start .now) (a .len .now) (a .size .now) (a .kind .now) (a .names .now)) s (a .number)))) (taken-start (a .size .now) (a .kind .now) (a .counter .next .0) (a .number) (w .result) (b .result) (k .result) (w .ensures .0) (b .ensures) (k .ensures) _ _ (m .sector .given .1)),
-    )
+  taken-free (a .size .now) (a .kind .now) (a .counter .next .0) (a .number) (w .result) (b .result) (k .result) (w .ensures .0) (b .ensures) (k .ensures) _ _ (m .sector .given .1),
+  p .put-item .ensures ∙ ap (λ (s : ℕ). putAt (a .out .now) (4 * getD (a .place .now) (a .number) 0) (stored (itemBy (cols (a .left .now) (a .right .now) (a .place .now) (a .start .now) (a .len .now) (a .size .now) (a .kind .now) (a .names .now)) s (a .number)))) (taken-start (a .size .now) (a .kind .now) (a .counter .next .0) (a .number) (w .result) (b .result) (k .result) (w .ensures .0) (b .ensures) (k .ensures) _ _ (m .sector .given .1)),
+)
 
 returns-2 : tie.Need-returns-2
 returns-2 c = let z = c .before .before .before .before .before .before .before .before .before .before .before .before .before .before in let a = z .args in let w = c .before .before .before .before .widen in let b = c .before .before .before .stored-at in let k = c .before .before .take in

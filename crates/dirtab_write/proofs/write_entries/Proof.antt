@@ -35,9 +35,9 @@ shared-slice-read-put-node c = search needs
 
 put-node-requires : tie.Need-put-node-requires Inv-loop μ-loop
 put-node-requires c κs = let l = c .before .before .before .loop in let z = c .before .before .before .before .before .before .before .before .before .before .before .before .before .before .before in let a = z .args in let h = c .before .before .loop-test .taken in (
-      rw (l .inv .0) (z .pre .numbered (l .k) h),
-      next-low (cols (a .left .now) (a .right .now) (a .place .now) (a .start .now) (a .len .now) (a .size .now) (a .kind .now) (a .names .now)) (a .order .now) 0 (l .counter .next .0) (l .k) (z .pre .free) (l .inv .1 ∙ ap (λ (s : ℕ). freeOver (a .size .now) (a .kind .now) s (a .order .now)) (c .before .before .before .before .starting-at .ensures) ∙ z .pre .counted) h,
-    )
+  rw (l .inv .0) (z .pre .numbered (l .k) h),
+  next-low (cols (a .left .now) (a .right .now) (a .place .now) (a .start .now) (a .len .now) (a .size .now) (a .kind .now) (a .names .now)) (a .order .now) 0 (l .counter .next .0) (l .k) (z .pre .free) (l .inv .1 ∙ ap (λ (s : ℕ). freeOver (a .size .now) (a .kind .now) s (a .order .now)) (c .before .before .before .before .starting-at .ensures) ∙ z .pre .counted) h,
+)
 
 add-k : tie.Need-add-k Inv-loop μ-loop
 add-k c = search needs
