@@ -1,7 +1,19 @@
 // A table is written: from an arena, or from a whole list in one call.
+use avl_order::preorder;
+use dirtab_arena::Held;
+use dirtab_place::Counted;
+use dirtab_place::Ends;
+use dirtab_place::count_sectors;
+use dirtab_place::place_entries;
+use dirtab_write::write_table;
 use units::Sector;
 ghost use mathlib.Core.Path.{_≡_};
+ghost use Prim.Native.Nat.{_≤_, _<_};
+ghost use lib.ListN.{length, replicate};
+ghost use Rattle.dirtab_entry.specs.Entry.{rounded};
+ghost use Rattle.avl_model.specs.Tree.{Tree};
 ghost use Rattle.dirtab.specs.Serialise.{told, serialiseOf, outAfter, scratchAfter};
+ghost use Rattle.dirtab.specs.Steps.{entriesIn, sizeFrom, writingOf, writingOut, Listing, Rooted};
 
 // What serialising answers.
 pub enum Serialised {
@@ -17,4 +29,119 @@ pub enum Serialised {
     SectorOverflow,
     // 9: the output is shorter than the rounded size.
     BufferTooSmall,
+}
+
+fn widen(x: u16) -> usize
+    ensures { λ r. ⌜ (r ≡ x) × (r < 65536) ⌝ }
+{
+    x as usize
+}
+
+// The reported size of a table whose entries end at e: an empty one has 2,048 bytes.
+fn size_from(e: u32) -> u32
+    ensures { λ r. ⌜ r ≡ sizeFrom e ⌝ }
+{
+    if e == 0 { 2048 } else { e }
+}
+
+// Up to a multiple of 2,048.
+fn round_up(n: u32) -> usize
+    ensures { λ r. ⌜ r ≡ rounded n ⌝ }
+{
+    ((n as usize) + 2047) / 2048 * 2048
+}
+
+// The table of the entries that are listed: 7, 8, 9 before any byte of the output is written.
+fn write_listed(
+    order: &[u16],
+    left: &[u16],
+    right: &[u16],
+    start: &[u32],
+    len: &[u32],
+    size: &[u32],
+    kind: &[u8],
+    names: &[u8],
+    first: Sector,
+    place: &mut [u16],
+    out: &mut [u8],
+) -> Serialised
+    requires { ⌜ ((t : Tree) × Listing (now order) (now left) (now right) (now start) (now len) (now size) (now kind) (now names) (length (now place)) t) ⌝ }
+    ensures answer { λ r. ⌜ ((t : Tree) → Listing (now (order .entry)) (now (left .entry)) (now (right .entry)) (now (start .entry)) (now (len .entry)) (now (size .entry)) (now (kind .entry)) (now (names .entry)) (length (now (place .entry))) t → told r ≡ writingOf (entriesIn (now (start .entry)) (now (len .entry)) (now (size .entry)) (now (kind .entry)) (now (names .entry))) (first .0) t (length (now (out .entry)))) ⌝ }
+    ensures out { λ _. ⌜ ((t : Tree) → Listing (now (order .entry)) (now (left .entry)) (now (right .entry)) (now (start .entry)) (now (len .entry)) (now (size .entry)) (now (kind .entry)) (now (names .entry)) (length (now (place .entry))) t → now (out .exit) ≡ writingOut (entriesIn (now (start .entry)) (now (len .entry)) (now (size .entry)) (now (kind .entry)) (now (names .entry))) (first .0) t (now (out .entry))) ⌝ }
+{
+    match place_entries(order, len, place) {
+        Ends::TooManyDirectoryEntries => Serialised::TooManyDirectoryEntries,
+        Ends::At(end) => match count_sectors(order, size, kind, first) {
+            Counted::SectorOverflow => Serialised::SectorOverflow,
+            Counted::Free(free) => {
+                let z = size_from(end);
+                let n = round_up(z);
+                if out.len() < n {
+                    return Serialised::BufferTooSmall;
+                }
+                write_table(
+                    out,
+                    n,
+                    order,
+                    left,
+                    right,
+                    place,
+                    start,
+                    len,
+                    size,
+                    kind,
+                    names,
+                    first,
+                );
+                Serialised::Done(z, free)
+            }
+        },
+    }
+}
+
+// The table of the tree below the root.
+fn write_held(
+    tree: Held,
+    left: &[u16],
+    right: &[u16],
+    start: &[u32],
+    len: &[u32],
+    size: &[u32],
+    kind: &[u8],
+    names: &[u8],
+    first: Sector,
+    order: &mut [u16],
+    place: &mut [u16],
+    out: &mut [u8],
+) -> Serialised
+    requires { ⌜ ((t : Tree) × Rooted (now left) (now right) (now start) (now len) (now size) (now kind) (now names) (tree .root) (tree .count) t) × (tree .count ≤ length (now order)) × (tree .count ≤ length (now place)) ⌝ }
+    ensures answer { λ r. ⌜ ((t : Tree) → Rooted (now (left .entry)) (now (right .entry)) (now (start .entry)) (now (len .entry)) (now (size .entry)) (now (kind .entry)) (now (names .entry)) (tree .root) (tree .count) t → told r ≡ writingOf (entriesIn (now (start .entry)) (now (len .entry)) (now (size .entry)) (now (kind .entry)) (now (names .entry))) (first .0) t (length (now (out .entry)))) ⌝ }
+    ensures out { λ _. ⌜ ((t : Tree) → Rooted (now (left .entry)) (now (right .entry)) (now (start .entry)) (now (len .entry)) (now (size .entry)) (now (kind .entry)) (now (names .entry)) (tree .root) (tree .count) t → now (out .exit) ≡ writingOut (entriesIn (now (start .entry)) (now (len .entry)) (now (size .entry)) (now (kind .entry)) (now (names .entry))) (first .0) t (now (out .entry))) ⌝ }
+{
+    let n = widen(tree.count);
+    preorder(&left[..n], &right[..n], tree.root, order);
+    write_listed(
+        &order[..n],
+        left,
+        right,
+        start,
+        len,
+        size,
+        kind,
+        names,
+        first,
+        place,
+        out,
+    )
+}
+
+// Zero everywhere.
+fn clear(s: &mut [u16])
+    ensures { λ _. ⌜ now (s .exit) ≡ replicate (length (now (s .entry))) 0 ⌝ }
+{
+    let mut i = 0;
+    while i < s.len() {
+        s[i] = 0;
+        i += 1;
+    }
 }

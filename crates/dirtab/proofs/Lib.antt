@@ -1,0 +1,4 @@
+-- The ways out of the functions, and laws of serialising.
+pub mod Listed
+pub mod Zeros
+pub mod Rooted
