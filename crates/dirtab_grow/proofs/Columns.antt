@@ -4,20 +4,36 @@ use native.Mathlib.Omega.{arith}
 use native.Mathlib.Decide.{ℕ-discrete}
 use mathlib.Core.Path.{_≡_, refl, sym, ap, subst, _∙_}
 use mathlib.Core.Bool.{Bool}
-use lib.ListN.{length}
+use mathlib.Core.List.{List}
+use lib.ListN.{length, set, length-set}
+use lib.Seq.{getD-set-same, getD-set-other}
 use Rattle.avl_model.specs.Tree.{Tree, leaf, node, none, ht, δ, cnt, ins}
 use Rattle.avl_model.specs.Laws.{Avl, All}
 use Rattle.avl_model.specs.Lists.{Lists}
-use Rattle.avl_model.specs.Names.{Names, Inside}
+use Rattle.avl_model.specs.Names.{Names, nameAt, Inside}
 use Rattle.avl_model.specs.Rep.{Arr, Rep, hole}
 use Rattle.avl_model.specs.Held.{Long, arrOf, Held, Arena, Whole}
-use Rattle.avl_model.specs.Seek.{Linked, Sought}
+use Rattle.avl_model.specs.Seek.{Linked}
+use Rattle.avl_keyed.specs.Key.{Keyed, KeySought, keyFor}
 use Rattle.avl_model.proofs.Adding.{links-of, below}
 use Rattle.avl_model.proofs.Avl.{at-most-22, ins-avl, all-ins}
 use Rattle.avl_model.proofs.Bal.{ins-cnt}
 use Rattle.avl_model.proofs.Counted.{all-below}
 use Rattle.avl_model.proofs.Frame.{δ-same}
 use Rattle.dirtab_grow.specs.Growing.{Grown, Growing}
+
+-- a key that is stored at a number that the tree does not have leaves the others
+key-kept : (K : List ℕ) (N : Names) (new k : ℕ) (t : Tree) → All (λ j. j < new) t → All (Keyed K N) t → All (Keyed (set K new k) N) t
+key-kept K N new k leaf b a = tt
+key-kept K N new k (node l i r) b a = (
+  record {
+    inside = a .0 .inside;
+    has = simp length-set (a .0 .has);
+    key-is = getD-set-other K new i k 0 (λ e. omega (arith, b .0)) ∙ a .0 .key-is;
+  },
+  key-kept K N new k l (b .1) (a .1),
+  key-kept K N new k r (b .2) (a .2),
+)
 
 -- what is held below n is held below m
 pub rep-up : (A : Arr) (n m p : ℕ) (t : Tree) → n ≤ m → Rep A n p t → Rep A m p t
@@ -28,7 +44,7 @@ rep-up A n m p (node l i r) h c = (
   rep-up A n m i r h (c .2),
 )
 
-module _ (S : Lists) (N : Names) (new : ℕ) (long : Long (new + 1) S) (w : Growing S N new) where
+module _ (S : Lists) (K : List ℕ) (N : Names) (new : ℕ) (long : Long (new + 1) S) (w : Growing S K N new) where
   pub rep-all : Rep (arrOf S) (length (S .L)) none (w .t)
   rep-all = rep-up (arrOf S) new (length (S .L)) none (w .t) (omega (arith, long .l)) (w .grown .held .rep)
 
@@ -36,7 +52,7 @@ module _ (S : Lists) (N : Names) (new : ℕ) (long : Long (new + 1) S) (w : Grow
   low = at-most-22 new (w .t) (omega (arith, w .grown .low)) (below (arrOf S) new none (w .t) (w .grown .held .rep)) (λ j. omega (arith, w .grown .held .once j)) (w .grown .even)
 
   -- the search may go down
-  unfoldable pub sought-in : Sought (S .L) (S .R) (S .root) N
+  unfoldable pub sought-in : KeySought (S .L) (S .R) K (S .root) N
   sought-in = record {
     linked = record {
       t = w .t;
@@ -46,7 +62,7 @@ module _ (S : Lists) (N : Names) (new : ℕ) (long : Long (new + 1) S) (w : Grow
       root-is = w .grown .held .link;
       bound = omega (arith, low);
     };
-    named = w .grown .named;
+    keyed = w .keyed;
   }
 
   -- there is a place for one number more
@@ -74,3 +90,10 @@ module _ (S : Lists) (N : Names) (new : ℕ) (long : Long (new + 1) S) (w : Grow
     named = all-ins (Inside N) less new (w .t) ins-inside (w .grown .named);
     low = omega arith;
   }
+
+  -- and with its key
+  pub keyed-more : (less : ℕ → Bool) (k : ℕ) → Inside N new → new < length K → k ≡ keyFor (nameAt N new) → All (Keyed (set K new k) N) (ins less new (w .t))
+  keyed-more less k inside has e =
+      all-ins (Keyed (set K new k) N) less new (w .t)
+      (record { inside = inside; has = simp length-set has; key-is = getD-set-same K new k 0 has ∙ e })
+      (key-kept K N new k (w .t) (below (arrOf S) new none (w .t) (w .grown .held .rep)) (w .keyed))

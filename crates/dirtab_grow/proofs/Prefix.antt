@@ -41,7 +41,7 @@ frame-grown S T N n t e f g = record {
 abbrev namesIn : Listing → Names
 namesIn L = names (L .bytes) (L .start) (L .len)
 
-module _ (S : Lists) (L : Listing) (i end : ℕ) (end-is : end ≡ i + 1) (wide : Wide S i) where
+module _ (S : Lists) (K : List ℕ) (L : Listing) (i end : ℕ) (end-is : end ≡ i + 1) (wide : Wide S K i) where
   abbrev N : Names
   N = namesIn L
 
@@ -56,7 +56,7 @@ module _ (S : Lists) (L : Listing) (i end : ℕ) (end-is : end ≡ i + 1) (wide 
     h = length-take-le end (S .H) (omega (arith, wide .h)) ∙ end-is;
   }
 
-  unfoldable growing-front : Growing S N i → Growing front N i
+  unfoldable growing-front : Growing S K N i → Growing front K N i
   growing-front w = record {
     t = w .t;
     grown = frame-grown S front N i (w .t) refl (λ j h. record {
@@ -65,13 +65,15 @@ module _ (S : Lists) (L : Listing) (i end : ℕ) (end-is : end ≡ i + 1) (wide 
       p = getD-take end (S .P) j 0 (omega arith);
       h = getD-take end (S .H) j 0 (omega arith);
     }) (w .grown);
+    keyed = w .keyed;
   }
 
   -- an entry that passed its checks may be put in there
-  pub hangable : Lent L i → checkOf (L .bytes) (givenIn L i) ≡ gives tt → Growing S N i → Hangable front N i
+  pub hangable : Lent L i → checkOf (L .bytes) (givenIn L i) ≡ gives tt → Growing S K N i → Hangable front K N i
   hangable lent e w = let g = good (L .bytes) (givenIn L i) e in record {
     growing = growing-front w;
     long = long-front;
+    has = wide .k;
     inside = record { starts = lent .in-start; ends = lent .in-len; fits = g .inside };
     short = g .short;
   }
@@ -83,13 +85,13 @@ module _ (S : Lists) (L : Listing) (i end : ℕ) (end-is : end ≡ i + 1) (wide 
   more t = ins (λ j. isLess (byName N i j)) i t
 
   -- what the first places hold then, all of the columns do
-  pub out-hung : {root : ℕ} {l r p h : List ℕ} {x : Step} {u : Told (Unit {0})}
+  pub out-hung : {root : ℕ} {l r p h J : List ℕ} {x : Step} {u : Told (Unit {0})}
       → length l ≡ length (take end (S .L)) → length r ≡ length (take end (S .R)) → length p ≡ length (take end (S .P)) → length h ≡ length (take end (S .H))
       → u ≡ gives tt
-      → ((v : Growing front N i) → Stepped x (gives tt) (spot (v .t)) i (lists root l r p h) N (more (v .t)))
-      → (w : Growing S N i) → Stepped x u (spot (w .t)) i (lists root (l ++ drop end (S .L)) (r ++ drop end (S .R)) (p ++ drop end (S .P)) (h ++ drop end (S .H))) N (more (w .t))
+      → ((v : Growing front K N i) → Stepped x (gives tt) (spot (v .t)) i (lists root l r p h) J N (more (v .t)))
+      → (w : Growing S K N i) → Stepped x u (spot (w .t)) i (lists root (l ++ drop end (S .L)) (r ++ drop end (S .R)) (p ++ drop end (S .P)) (h ++ drop end (S .H))) J N (more (w .t))
   unfolding growing-front
-  out-hung {root} {l} {r} {p} {h} {x} {u} el er ep eh eu f w =
+  out-hung {root} {l} {r} {p} {h} {J} {x} {u} el er ep eh eu f w =
       let k = f (growing-front w) in
       let n = long-front in
       record {
@@ -100,4 +102,5 @@ module _ (S : Lists) (L : Listing) (i end : ℕ) (end-is : end ≡ i + 1) (wide 
           p = List·getD-append p (drop end (S .P)) 0 j (omega (arith, ep, n .p));
           h = List·getD-append h (drop end (S .H)) 0 j (omega (arith, eh, n .h));
         }) (k .taken e);
+        keyed = k .keyed;
       }

@@ -12,7 +12,8 @@ use Rattle.avl_model.specs.Laws.{Avl, All}
 use Rattle.avl_model.specs.Rep.{hole}
 use Rattle.avl_model.specs.Lists.{Lists}
 use Rattle.avl_model.specs.Held.{Long, arrOf, Held}
-use Rattle.avl_model.specs.Names.{Names, Inside}
+use Rattle.avl_model.specs.Names.{Names, nameAt, Inside}
+use Rattle.avl_keyed.specs.Key.{keyFor, Keyed}
 use Rattle.dirtab_grow.specs.declared.Cause.{Cause}
 use Rattle.dirtab_grow.specs.declared.Cause.the-variants.{EmptyName, BadByte, NameTooLong, SizeOverflow, DuplicateFileName, Room}
 use Rattle.dirtab_grow.specs.declared.Step.{Step}
@@ -50,15 +51,17 @@ pub record Grown (S : Lists) (N : Names) (n : ℕ) (t : Tree) : Type 0 where
   pub named : All (Inside N) t
   pub low : n ≤ 16384
 
--- they hold some such tree
-pub record Growing (S : Lists) (N : Names) (n : ℕ) : Type 0 where
+-- they hold some such tree, and the column K has the keys of the names
+pub record Growing (S : Lists) (K : List ℕ) (N : Names) (n : ℕ) : Type 0 where
   pub t : Tree
   pub grown : Grown S N n t
+  pub keyed : All (Keyed K N) t
 
 -- what putting the entry `new` in takes, on columns of just so many places
-pub record Hangable (S : Lists) (N : Names) (new : ℕ) : Type 0 where
-  pub growing : Growing S N new
+pub record Hangable (S : Lists) (K : List ℕ) (N : Names) (new : ℕ) : Type 0 where
+  pub growing : Growing S K N new
   pub long : Long (new + 1) S
+  pub has : new < length K
   pub inside : Inside N new
   pub short : getD (N .len) new 0 ≤ 255
 
@@ -70,14 +73,15 @@ pub record Lent (L : Listing) (i : ℕ) : Type 0 where
   pub in-kind : i < length (L .kind)
 
 -- and in every column of the tree
-pub record Wide (S : Lists) (i : ℕ) : Type 0 where
+pub record Wide (S : Lists) (K : List ℕ) (i : ℕ) : Type 0 where
+  pub k : i < length K
   pub l : i < length (S .L)
   pub r : i < length (S .R)
   pub p : i < length (S .P)
   pub h : i < length (S .H)
 
 -- every column has a place for each of the first n entries
-pub record Roomy (L : Listing) (S : Lists) (n : ℕ) : Type 0 where
+pub record Roomy (L : Listing) (S : Lists) (K : List ℕ) (n : ℕ) : Type 0 where
   pub start : n ≤ length (L .start)
   pub len : n ≤ length (L .len)
   pub size : n ≤ length (L .size)
@@ -86,16 +90,18 @@ pub record Roomy (L : Listing) (S : Lists) (n : ℕ) : Type 0 where
   pub r : n ≤ length (S .R)
   pub p : n ≤ length (S .P)
   pub h : n ≤ length (S .H)
+  pub k : n ≤ length K
 
 -- what a seat answers, where the name of entry i stands or would hang at s
-abbrev pub Seated : Seat → Spot → ℕ → Type 0
-Seated (seat.At q) s i = (s ≡ Free q) × (i < 16384)
-Seated (seat.Refused c) s i = (x : Told Tree) → refuses (numberOf c) (i ∷ []) ≡ stepOf (gives tt) s i x
+abbrev pub Seated : Seat → Names → Spot → ℕ → Type 0
+Seated (seat.At q k) N s i = (s ≡ Free q) × ((i < 16384) × (k ≡ keyFor (nameAt N i)))
+Seated (seat.Refused c) N s i = (x : Told Tree) → refuses (numberOf c) (i ∷ []) ≡ stepOf (gives tt) s i x
 
 -- what a step answers, and leaves in the columns: t is the tree with the entry i in it
-pub record Stepped (r : Step) (u : Told (Unit {0})) (s : Spot) (i : ℕ) (S : Lists) (N : Names) (t : Tree) : Type 0 where
+pub record Stepped (r : Step) (u : Told (Unit {0})) (s : Spot) (i : ℕ) (S : Lists) (K : List ℕ) (N : Names) (t : Tree) : Type 0 where
   pub answer : (x : Told Tree) → goOn r i x ≡ stepOf u s i x
   pub taken : r ≡ step.Taken → Grown S N (i + 1) t
+  pub keyed : r ≡ step.Taken → All (Keyed K N) t
 
 -- the tree that is told, in the first n places of the columns
 pub record Holding (g : Told Tree) (S : Lists) (N : Names) (n : ℕ) : Type 0 where

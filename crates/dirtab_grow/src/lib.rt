@@ -8,13 +8,15 @@ ghost use Rattle.avl_model.specs.declared.Place.the-variants.{Root};
 ghost use Rattle.avl_model.specs.Tree.{Tree, ins};
 ghost use Rattle.avl_model.specs.Lists.{lists};
 ghost use Rattle.avl_model.specs.Names.{names, byName, isLess, Inside};
-ghost use Rattle.avl_model.specs.Seek.{spotIn, Sought};
+ghost use Rattle.avl_model.specs.Seek.{spotIn};
+ghost use Rattle.avl_keyed.specs.Key.{KeySought};
 ghost use Rattle.dirtab_grow.specs.Listing.{listing, givenIn};
 ghost use Rattle.dirtab_grow.specs.Grow.{ifTaken, grow};
 ghost use Rattle.dirtab_grow.specs.Growing.{goOn, Growing, Hangable, Lent, Wide, Roomy, Seated, Stepped, Outcome};
-use avl_insert::find_spot;
 use avl_insert::name_of;
 use avl_insert::put_in;
+use avl_keyed::key_of;
+use avl_keyed::seek;
 use avl_model::Place;
 use avl_model::Spot;
 use avl_turn::index;
@@ -22,6 +24,7 @@ use dirtab_entry::Entry;
 use dirtab_entry::EntryChecked;
 use dirtab_entry::check_entry;
 use dirtab_entry::kind_of;
+use layout_name::raise_name;
 
 // Why an entry is refused.
 pub enum Cause {
@@ -42,9 +45,9 @@ pub enum Step {
     Refused(Cause),
 }
 
-// Where an entry goes.
+// Where an entry goes, and the key of its name.
 pub enum Seat {
-    At(Place),
+    At(Place, u32),
     Refused(Cause),
 }
 
@@ -79,25 +82,28 @@ fn check_at(bytes: &[u8], start: &[u32], len: &[u32], size: &[u32], kind: &[u8],
 fn find_seat(
     left: &[u16],
     right: &[u16],
+    key: &[u32],
     bytes: &[u8],
     start: &[u32],
     len: &[u32],
     root: u16,
     new: u16,
 ) -> Seat
-    requires { ⌜ Sought (now left) (now right) root (names (now bytes) (now start) (now len)) ⌝ }
+    requires { ⌜ KeySought (now left) (now right) (now key) root (names (now bytes) (now start) (now len)) ⌝ }
     requires { ⌜ Inside (names (now bytes) (now start) (now len)) new × (getD (now len) new 0 ≤ 255) ⌝ }
-    ensures { λ r. ⌜ ((w : Sought (now (left .entry)) (now (right .entry)) root (names (now (bytes .entry)) (now (start .entry)) (now (len .entry)))) →
-        Seated r (spotIn (byName (names (now (bytes .entry)) (now (start .entry)) (now (len .entry))) new) (w .linked .t) Root) new) ⌝ }
+    ensures { λ r. ⌜ ((w : KeySought (now (left .entry)) (now (right .entry)) (now (key .entry)) root (names (now (bytes .entry)) (now (start .entry)) (now (len .entry)))) →
+        Seated r (names (now (bytes .entry)) (now (start .entry)) (now (len .entry))) (spotIn (byName (names (now (bytes .entry)) (now (start .entry)) (now (len .entry))) new) (w .linked .t) Root) new) ⌝ }
 {
     let name = name_of(bytes, start, len, new);
-    match find_spot(left, right, bytes, start, len, root, name) {
+    let copy = raise_name(name);
+    let k = key_of(&copy);
+    match seek(left, right, key, bytes, start, len, root, &copy, name, k) {
         Spot::Same(_) => Seat::Refused(Cause::DuplicateFileName),
         Spot::Free(place) => {
             if 16384 <= new {
                 return Seat::Refused(Cause::Room);
             }
-            Seat::At(place)
+            Seat::At(place, k)
         }
     }
 }
@@ -109,20 +115,23 @@ pub fn hang_entry(
     right: &mut [u16],
     parent: &mut [u16],
     height: &mut [u8],
+    key: &mut [u32],
     bytes: &[u8],
     start: &[u32],
     len: &[u32],
     new: u16,
 ) -> Step
-    requires { ⌜ Hangable (lists (now root) (now left) (now right) (now parent) (now height)) (names (now bytes) (now start) (now len)) new ⌝ }
-    ensures { λ r. ⌜ ((w : Growing (lists (now (root .entry)) (now (left .entry)) (now (right .entry)) (now (parent .entry)) (now (height .entry))) (names (now (bytes .entry)) (now (start .entry)) (now (len .entry))) new) →
+    requires { ⌜ Hangable (lists (now root) (now left) (now right) (now parent) (now height)) (now key) (names (now bytes) (now start) (now len)) new ⌝ }
+    ensures { λ r. ⌜ ((w : Growing (lists (now (root .entry)) (now (left .entry)) (now (right .entry)) (now (parent .entry)) (now (height .entry))) (now (key .entry)) (names (now (bytes .entry)) (now (start .entry)) (now (len .entry))) new) →
         Stepped r (gives tt) (spotIn (byName (names (now (bytes .entry)) (now (start .entry)) (now (len .entry))) new) (w .t) Root) new
-        (lists (now (root .exit)) (now (left .exit)) (now (right .exit)) (now (parent .exit)) (now (height .exit))) (names (now (bytes .entry)) (now (start .entry)) (now (len .entry)))
+        (lists (now (root .exit)) (now (left .exit)) (now (right .exit)) (now (parent .exit)) (now (height .exit))) (now (key .exit)) (names (now (bytes .entry)) (now (start .entry)) (now (len .entry)))
         (ins (λ i. isLess (byName (names (now (bytes .entry)) (now (start .entry)) (now (len .entry))) new i)) new (w .t))) ⌝ }
 {
-    match find_seat(left, right, bytes, start, len, *root, new) {
+    match find_seat(left, right, key, bytes, start, len, *root, new) {
         Seat::Refused(cause) => Step::Refused(cause),
-        Seat::At(place) => {
+        Seat::At(place, k) => {
+            let i = index(new);
+            key[i] = k;
             put_in(root, left, right, parent, height, place, new);
             Step::Taken
         }
@@ -141,15 +150,16 @@ fn add_entry(
     right: &mut [u16],
     parent: &mut [u16],
     height: &mut [u8],
+    key: &mut [u32],
     i: u16,
 ) -> Step
     requires { ⌜ Lent (listing 0 (now start) (now len) (now size) (now kind) (now bytes)) i ⌝ }
-    requires { ⌜ Wide (lists (now root) (now left) (now right) (now parent) (now height)) i ⌝ }
-    requires { ⌜ Growing (lists (now root) (now left) (now right) (now parent) (now height)) (names (now bytes) (now start) (now len)) i ⌝ }
-    ensures { λ r. ⌜ ((w : Growing (lists (now (root .entry)) (now (left .entry)) (now (right .entry)) (now (parent .entry)) (now (height .entry))) (names (now (bytes .entry)) (now (start .entry)) (now (len .entry))) i) →
+    requires { ⌜ Wide (lists (now root) (now left) (now right) (now parent) (now height)) (now key) i ⌝ }
+    requires { ⌜ Growing (lists (now root) (now left) (now right) (now parent) (now height)) (now key) (names (now bytes) (now start) (now len)) i ⌝ }
+    ensures { λ r. ⌜ ((w : Growing (lists (now (root .entry)) (now (left .entry)) (now (right .entry)) (now (parent .entry)) (now (height .entry))) (now (key .entry)) (names (now (bytes .entry)) (now (start .entry)) (now (len .entry))) i) →
         Stepped r (checkOf (now (bytes .entry)) (givenIn (listing 0 (now (start .entry)) (now (len .entry)) (now (size .entry)) (now (kind .entry)) (now (bytes .entry))) i))
         (spotIn (byName (names (now (bytes .entry)) (now (start .entry)) (now (len .entry))) i) (w .t) Root) i
-        (lists (now (root .exit)) (now (left .exit)) (now (right .exit)) (now (parent .exit)) (now (height .exit))) (names (now (bytes .entry)) (now (start .entry)) (now (len .entry)))
+        (lists (now (root .exit)) (now (left .exit)) (now (right .exit)) (now (parent .exit)) (now (height .exit))) (now (key .exit)) (names (now (bytes .entry)) (now (start .entry)) (now (len .entry)))
         (ins (λ j. isLess (byName (names (now (bytes .entry)) (now (start .entry)) (now (len .entry))) i j)) i (w .t))) ⌝ }
 {
     match check_at(bytes, start, len, size, kind, i) {
@@ -162,6 +172,7 @@ fn add_entry(
                 &mut right[..end],
                 &mut parent[..end],
                 &mut height[..end],
+                key,
                 bytes,
                 start,
                 len,
@@ -192,8 +203,9 @@ pub fn build(
     right: &mut [u16],
     parent: &mut [u16],
     height: &mut [u8],
+    key: &mut [u32],
 ) -> Built
-    requires { ⌜ Roomy (listing count (now start) (now len) (now size) (now kind) (now bytes)) (lists (now root) (now left) (now right) (now parent) (now height)) count ⌝ }
+    requires { ⌜ Roomy (listing count (now start) (now len) (now size) (now kind) (now bytes)) (lists (now root) (now left) (now right) (now parent) (now height)) (now key) count ⌝ }
     ensures { λ r. ⌜ Outcome r (grow (now (bytes .entry)) (givenIn (listing count (now (start .entry)) (now (len .entry)) (now (size .entry)) (now (kind .entry)) (now (bytes .entry)))) count)
         (lists (now (root .exit)) (now (left .exit)) (now (right .exit)) (now (parent .exit)) (now (height .exit))) (names (now (bytes .entry)) (now (start .entry)) (now (len .entry))) count ⌝ }
 {
@@ -212,6 +224,7 @@ pub fn build(
             right,
             parent,
             height,
+            key,
             at,
         ) {
             Step::Taken => i += 1,

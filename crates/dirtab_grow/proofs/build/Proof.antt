@@ -16,29 +16,29 @@ use Rattle.dirtab_grow.proofs.add_entry.Reads as add-entry-reads
 use Rattle.dirtab_grow.proofs.narrow.Reads as narrow-reads
 
 abbrev Inv-loop : tie.InvT-loop
-Inv-loop count bytes start len size kind root₀ left₀ right₀ parent₀ height₀ i₀ root left right parent height i =
-    (length left ≡ length left₀) × ((length right ≡ length right₀) × ((length parent ≡ length parent₀) × ((length height ≡ length height₀) × Building (listing count start len size kind bytes) (lists root left right parent height) i)))
+Inv-loop count bytes start len size kind root₀ left₀ right₀ parent₀ height₀ key₀ i₀ root left right parent height key i =
+    (length left ≡ length left₀) × ((length right ≡ length right₀) × ((length parent ≡ length parent₀) × ((length height ≡ length height₀) × ((length key ≡ length key₀) × Building (listing count start len size kind bytes) (lists root left right parent height) key i))))
 
 abbrev μ-loop : tie.MeasureT-loop
-μ-loop count bytes start len size kind root₀ left₀ right₀ parent₀ height₀ i₀ root left right parent height i =
+μ-loop count bytes start len size kind root₀ left₀ right₀ parent₀ height₀ key₀ i₀ root left right parent height key i =
     count - i
 
 loop-holds : tie.Need-loop-holds Inv-loop μ-loop
-loop-holds c = let a = c .before .before .before .before .before .before .before .before .before .args in (refl, (refl, (refl, (refl, none-yet (listing (a .count) (a .start .now) (a .len .now) (a .size .now) (a .kind .now) (a .bytes .now)) (a .left .now) (a .right .now) (a .parent .now) (a .height .now)))))
+loop-holds c = let a = c .before .before .before .before .before .before .before .before .before .before .args in (refl, (refl, (refl, (refl, (refl, none-yet (listing (a .count) (a .start .now) (a .len .now) (a .size .now) (a .kind .now) (a .bytes .now)) (a .left .now) (a .right .now) (a .parent .now) (a .height .now) (a .key .now))))))
 
 narrow-requires : tie.Need-narrow-requires Inv-loop μ-loop
-narrow-requires c κs = let a = c .before .before .before .before .before .before .before .before .before .before .before .args in let l = c .before .loop in
-    low-number (listing (a .count) (a .start .now) (a .len .now) (a .size .now) (a .kind .now) (a .bytes .now)) (lists (l .root) (l .left) (l .right) (l .parent) (l .height)) (l .i) {at = l .i} refl (l .inv .1 .1 .1 .1)
+narrow-requires c κs = let a = c .before .before .before .before .before .before .before .before .before .before .before .before .args in let l = c .before .loop in
+    low-number (listing (a .count) (a .start .now) (a .len .now) (a .size .now) (a .kind .now) (a .bytes .now)) (lists (l .root) (l .left) (l .right) (l .parent) (l .height)) (l .key) (l .i) {at = l .i} refl (l .inv .1 .1 .1 .1 .1)
 
 add-entry-requires : tie.Need-add-entry-requires Inv-loop μ-loop
-add-entry-requires c κs = let s = c .before .before .before .before .before .before .before .before .before .before .before .before .before .before .before .before .before in let a = s .args in let l = c .before .before .before .before .before .before .before .loop in
+add-entry-requires c κs = let s = c .before .before .before .before .before .before .before .before .before .before .before .before .before .before .before .before .before .before .before in let a = s .args in let l = c .before .before .before .before .before .before .before .before .loop in
     let L = listing (a .count) (a .start .now) (a .len .now) (a .size .now) (a .kind .now) (a .bytes .now) in
     let S = lists (a .root .now) (a .left .now) (a .right .now) (a .parent .now) (a .height .now) in
     let T = lists (l .root) (l .left) (l .right) (l .parent) (l .height) in (
-      lent-at L S (a .count) (l .i) (s .pre) (c .before .before .before .before .before .before .loop-test .taken) (c .before .before .before .before .before .narrow .ensures),
+      lent-at L S (a .key .now) (a .count) (l .i) (s .pre) (c .before .before .before .before .before .before .before .loop-test .taken) (c .before .before .before .before .before .before .narrow .ensures),
       (
-        wide-at L S (a .count) (l .i) (s .pre) (c .before .before .before .before .before .before .loop-test .taken) (c .before .before .before .before .before .narrow .ensures) T (l .inv .0) (l .inv .1 .0) (l .inv .1 .1 .0) (l .inv .1 .1 .1 .0),
-        growing L T (l .i) (c .before .before .before .before .before .narrow .ensures) (l .inv .1 .1 .1 .1),
+        wide-at L S (a .key .now) (a .count) (l .i) (s .pre) (c .before .before .before .before .before .before .before .loop-test .taken) (c .before .before .before .before .before .before .narrow .ensures) T (l .key) (l .inv .0) (l .inv .1 .0) (l .inv .1 .1 .0) (l .inv .1 .1 .1 .0) (l .inv .1 .1 .1 .1 .0),
+        growing L T (l .key) (l .i) (c .before .before .before .before .before .before .narrow .ensures) (l .inv .1 .1 .1 .1 .1),
       ),
     )
 
@@ -52,10 +52,10 @@ loop-less : tie.Need-loop-less Inv-loop μ-loop
 loop-less c = omega arith
 
 loop-again : tie.Need-loop-again Inv-loop μ-loop
-loop-again c = let a = c .before .before .before .before .before .before .before .before .before .before .before .before .before .before .before .before .before .before .before .before .before .before .before .before .before .before .before .before .args in let l = c .before .before .before .before .before .before .before .before .before .before .before .before .before .before .before .before .before .before .loop in
+loop-again c = let a = c .before .before .before .before .before .before .before .before .before .before .before .before .before .before .before .before .before .before .before .before .before .before .before .before .before .before .before .before .before .before .before .before .args in let l = c .before .before .before .before .before .before .before .before .before .before .before .before .before .before .before .before .before .before .before .before .before .loop in
     let L = listing (a .count) (a .start .now) (a .len .now) (a .size .now) (a .kind .now) (a .bytes .now) in
     let T = lists (l .root) (l .left) (l .right) (l .parent) (l .height) in
-    let k = c .before .before .before .before .before .before .before .before .before .before .add-entry in (
+    let k = c .before .before .before .before .before .before .before .before .before .before .before .before .add-entry in (
       k .kept .1 .1 .1 .1 .1 .1 .0 ∙ l .inv .0,
       (
         k .kept .1 .1 .1 .1 .1 .1 .1 .0 ∙ l .inv .1 .0,
@@ -63,7 +63,10 @@ loop-again c = let a = c .before .before .before .before .before .before .before
           k .kept .1 .1 .1 .1 .1 .1 .1 .1 .0 ∙ l .inv .1 .1 .0,
           (
             k .kept .1 .1 .1 .1 .1 .1 .1 .1 .1 .0 ∙ l .inv .1 .1 .1 .0,
-            one-more L T (l .i) (c .before .before .before .before .before .before .before .before .before .before .before .before .before .before .before .before .narrow .ensures) (l .inv .1 .1 .1 .1) (c .before .before .before .before .before .before .before .before .before .before .before .before .before .before .before .before .before .loop-test .taken) (k .ensures) (c .enum-told .given .1),
+            (
+              k .kept .1 .1 .1 .1 .1 .1 .1 .1 .1 .1 .0 ∙ l .inv .1 .1 .1 .1 .0,
+              one-more L T (l .key) (l .i) (c .before .before .before .before .before .before .before .before .before .before .before .before .before .before .before .before .before .before .before .narrow .ensures) (l .inv .1 .1 .1 .1 .1) (c .before .before .before .before .before .before .before .before .before .before .before .before .before .before .before .before .before .before .before .before .loop-test .taken) (k .ensures) (c .enum-told .given .1),
+            ),
           ),
         ),
       ),
@@ -84,14 +87,14 @@ same-length-3 c = search needs
 same-length-4 : tie.Need-same-length-4 Inv-loop μ-loop
 same-length-4 c = search needs
 
-returns : tie.Need-returns Inv-loop μ-loop
-returns c = let a = c .before .before .before .before .before .before .before .before .before .before .before .before .before .before .before .before .before .before .before .before .before .before .before .before .before .before .before .before .before .args in let l = c .before .before .before .before .before .before .before .before .before .before .before .before .before .before .before .before .before .before .before .loop in
-    let L = listing (a .count) (a .start .now) (a .len .now) (a .size .now) (a .kind .now) (a .bytes .now) in
-    let T = lists (l .root) (l .left) (l .right) (l .parent) (l .height) in
-    stops L T (l .i) (c .before .before .before .before .before .before .before .before .before .before .before .before .before .before .before .before .before .narrow .ensures) (l .inv .1 .1 .1 .1) (c .before .before .before .before .before .before .before .before .before .before .before .before .before .before .before .before .before .before .loop-test .taken) (c .before .before .before .before .before .before .before .before .before .before .before .add-entry .ensures) (c .before .cause .given .1)
-
 same-length-5 : tie.Need-same-length-5 Inv-loop μ-loop
 same-length-5 c = search needs
+
+returns : tie.Need-returns Inv-loop μ-loop
+returns c = let a = c .before .before .before .before .before .before .before .before .before .before .before .before .before .before .before .before .before .before .before .before .before .before .before .before .before .before .before .before .before .before .before .before .before .args in let l = c .before .before .before .before .before .before .before .before .before .before .before .before .before .before .before .before .before .before .before .before .before .before .loop in
+    let L = listing (a .count) (a .start .now) (a .len .now) (a .size .now) (a .kind .now) (a .bytes .now) in
+    let T = lists (l .root) (l .left) (l .right) (l .parent) (l .height) in
+    stops L T (l .key) (l .i) (c .before .before .before .before .before .before .before .before .before .before .before .before .before .before .before .before .before .before .before .before .narrow .ensures) (l .inv .1 .1 .1 .1 .1) (c .before .before .before .before .before .before .before .before .before .before .before .before .before .before .before .before .before .before .before .before .before .loop-test .taken) (c .before .before .before .before .before .before .before .before .before .before .before .before .before .add-entry .ensures) (c .before .cause .given .1)
 
 same-length-6 : tie.Need-same-length-6 Inv-loop μ-loop
 same-length-6 c = search needs
@@ -102,9 +105,15 @@ same-length-7 c = search needs
 same-length-8 : tie.Need-same-length-8 Inv-loop μ-loop
 same-length-8 c = search needs
 
+same-length-9 : tie.Need-same-length-9 Inv-loop μ-loop
+same-length-9 c = search needs
+
+same-length-10 : tie.Need-same-length-10 Inv-loop μ-loop
+same-length-10 c = search needs
+
 returns-2 : tie.Need-returns-2 Inv-loop μ-loop
-returns-2 c = let a = c .before .before .before .before .before .before .before .before .before .before .before .args in let l = c .before .loop in
-    all-in (listing (a .count) (a .start .now) (a .len .now) (a .size .now) (a .kind .now) (a .bytes .now)) (lists (l .root) (l .left) (l .right) (l .parent) (l .height)) (l .i) (l .inv .1 .1 .1 .1) (c .loop-test .left)
+returns-2 c = let a = c .before .before .before .before .before .before .before .before .before .before .before .before .args in let l = c .before .loop in
+    all-in (listing (a .count) (a .start .now) (a .len .now) (a .size .now) (a .kind .now) (a .bytes .now)) (lists (l .root) (l .left) (l .right) (l .parent) (l .height)) (l .key) (l .i) (l .inv .1 .1 .1 .1 .1) (c .loop-test .left)
 
 pub build-spec : {M : Type 1} → statement M
 build-spec =
@@ -124,9 +133,11 @@ build-spec =
     same-length-2
     same-length-3
     same-length-4
-    returns
     same-length-5
+    returns
     same-length-6
     same-length-7
     same-length-8
+    same-length-9
+    same-length-10
     returns-2)
