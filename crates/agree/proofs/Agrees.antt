@@ -1,6 +1,6 @@
 -- DEMAND 3: what is written is what is listed is what is found. Assumes nothing.
 use Prim.Native.Nat.{ℕ, zero, suc, _+_, _-_, _*_, _/_, _≤_, _<_, max}
-use mathlib.Core.Path.{_≡_, refl, sym, ap, _∙_}
+use mathlib.Core.Path.{_≡_, refl, sym, ap, subst, _∙_}
 use mathlib.Core.Bool.{true, false}
 use mathlib.Core.List.{List, [], _∷_, _++_, map}
 use native.Mathlib.Omega.{arith}
@@ -18,12 +18,12 @@ use Rattle.avl_model.proofs.Avl.{avl-size, least-20, least-mono}
 use Rattle.table_model.specs.Entry.{Entry, Item, lengthOf}
 use Rattle.table_model.specs.Place.{stopOf, endOf, freeAfter, freeOf, items}
 use Rattle.table_model.specs.Table.{stop, tableBytes}
-use Rattle.table_model.specs.Said.{AllIn, Fits, LinkFits, Apart}
+use Rattle.table_model.specs.Said.{AllIn, Fits, LinkFits, Stands, Apart}
 use Rattle.table_model.proofs.Places.{FitsAt, start-at}
-use Rattle.table_model.proofs.Geometry.{all-left, all-right, apart, items-length}
+use Rattle.table_model.proofs.Geometry.{all-left, all-right, inside, apart, sectors-apart, items-length}
 use Rattle.table_model.proofs.Placing.{links-fit}
 use Rattle.agree.specs.Written.{Writable, Stand, Written}
-use Rattle.agree.specs.Agreement.{offsets, ReadBack, Reached, Sound, Agreement}
+use Rattle.agree.specs.Agreement.{offsets, mostHeaders, ReadBack, Reached, Sound, Agreement}
 use Rattle.agree.specs.Agreement as sound
 use Rattle.agree.proofs.Holds.{all-back, setting, ready}
 use Rattle.agree.proofs.Walks.{empty-read, walk-written}
@@ -53,10 +53,10 @@ module _ (entry : ℕ → Entry) where
       omega (arith, count-end x 0 (g .fits), end-small align x 0 s (g .fits) (links-fit entry align s x (g .placing) (g .placed)) (omega arith))
 
   -- so the tree is at most 19 high
-  pub low : (align s : ℕ) (x : Tree) → Writable entry align s x → ht x ≤ 19
-  low align s x g = elim (decLe (ht x) 19) [
+  pub low : (align s : ℕ) (x : Tree) → Writable entry align s x → ht x ≤ mostHeaders
+  low align s x g = elim (decLe (ht x) mostHeaders) [
     | yes k ↦ k
-    | no k ↦ absurd (omega (arith, least-20, least-mono 20 (ht x) (omega arith), avl-size x (g .balanced), few align s x g))
+    | no k ↦ absurd (omega (arith, least-20, least-mono (suc mostHeaders) (ht x) (omega arith), avl-size x (g .balanced), few align s x g))
   ]
 
 -- offsets of items that are apart differ
@@ -102,6 +102,9 @@ pub agreement : (absent : List ℕ) → isIn 0 absent ≡ true
     → (entry : ℕ → Entry) (align s : ℕ) (x : Tree) (w : List ℕ) (first : Sector) (t : Region) (g : Written entry align s x w first t)
     → Agreement absent w first t (g .stand .place) (items entry align 0 s x)
 agreement absent none entry align s x w first t g = record {
+  inside = subst (λ (n : ℕ). AllIn (Stands 0 n) (items entry align 0 s x)) (sym (g .sized)) (inside entry align x s (g .writable .fits));
+  apart = apart entry align x s (g .writable .fits);
+  sectors = sectors-apart entry align (g .writable .aligned) x 0 s;
   listed = λ room h. walk-written entry align s x w first t g room (omega (arith, items-length entry align x 0 s));
   once = differ (items entry align 0 s x) (apart entry align x s (g .writable .fits));
   read = all-back (setting entry align s x w first t g) x 0 s (ready entry align s x w first t g);
@@ -116,8 +119,8 @@ agreement absent none entry align s x w first t g = record {
         (omega (arith, few entry align s (node l i r) (h .writable))) (h .writable .ordered)
 
     sounds : (y : Tree) (h : Written entry align s y w first t) (name : List ℕ) → anyHigh name ≡ false
-        → Sound absent w first t (h .stand .place) (items entry align 0 s y) 19 name (lookupBy absent w first t name)
+        → Sound absent w first t (h .stand .place) (items entry align 0 s y) mostHeaders name (lookupBy absent w first t name)
     sounds leaf h name a = rw (empty-lookup absent entry align s w first t (h .stand) (h .sized) name a) (sound.missing 1 (omega arith))
     sounds (node l i r) h name a =
         all-sound (setting entry align s (node l i r) w first t h) absent none l i r s (ready entry align s (node l i r) w first t h)
-        (omega (arith, few entry align s (node l i r) (h .writable))) 19 (low entry align s (node l i r) (h .writable)) name a
+        (omega (arith, few entry align s (node l i r) (h .writable))) mostHeaders (low entry align s (node l i r) (h .writable)) name a

@@ -5,3 +5,5 @@ pub mod Walks
 pub mod Reaches
 pub mod Agrees
 pub mod Plain
+pub mod FromList
+pub mod Cases

@@ -22,9 +22,10 @@ use Rattle.avl_model.specs.Tree.{Tree}
 use Rattle.table_model.specs.Entry.{Entry, Item}
 use Rattle.table_model.specs.Place.{items}
 use Rattle.table_model.specs.Said.{AllIn}
+use Rattle.table_model.proofs.Geometry.{of-item}
 use Rattle.agree.specs.Written.{Written}
 use Rattle.agree.specs.Along.{answerAlong}
-use Rattle.agree.specs.Agreement.{placedAt, Same, Reached, Sound, found, missing, Agreement}
+use Rattle.agree.specs.Agreement.{mostHeaders, placedAt, Same, Reached, Sound, found, missing, Agreement}
 use Rattle.agree.proofs.Walks.{link-there, link-none}
 use Rattle.agree.proofs.Agrees.{agreement}
 
@@ -47,15 +48,6 @@ along-absent absent x o n (j ∷ ks) k m e = go (isIn j absent) refl (List·Mem�
     go false d (inl q) ih = let z : false ≡ true = sym d ∙ ap (λ (i : ℕ). isIn i absent) (sym q) ∙ e in let y : _≡_ {A = ℕ} 0 1 = cc in absurd (omega arith)
     go false d (inr q) ih = ih q
 
--- of one of the items
-of-item : (P : Item → Type 0) (xs : List Item) (y : Item) → AllIn P xs → List·Memᴰ y xs → P y
-of-item P [] y a m = absurd (List·Memᴰ·not-nil m)
-of-item P (x ∷ xs) y a m = go (List·Memᴰ·cases-cons m) (λ k. of-item P xs y (a .1) k)
-  where
-    go : (y ≡ x) ⊎ List·Memᴰ y xs → (List·Memᴰ y xs → P y) → P y
-    go (inl e) ih = rw e (a .0)
-    go (inr k) ih = ih k
-
 -- which links today's lookup takes for absent
 in-lookup : (k : ℕ) → (k ≡ 0 → ⊥) → (k ≡ 255 → ⊥) → isIn k lookupAbsent ≡ false
 unfolding isIn
@@ -65,7 +57,7 @@ lookup-255 : isIn 255 lookupAbsent ≡ true
 unfolding isIn
 lookup-255 = refl
 
-lookup-0 : isIn 0 lookupAbsent ≡ true
+pub lookup-0 : isIn 0 lookupAbsent ≡ true
 unfolding isIn
 lookup-0 = refl
 
@@ -76,10 +68,10 @@ pub record Listed (xs : List Item) (place : ℕ) (name : List ℕ) (x : Finding)
   pub named : Same name (item .entry .name)
   pub entry : x .entry ≡ placedAt place item
   pub offset : x .offset ≡ item .offset
-  pub headers : x .headers ≤ 19
+  pub headers : x .headers ≤ mostHeaders
 
 module _ (absent w : List ℕ) (first : Sector) (t : Region) (place : ℕ) (xs : List Item) (name : List ℕ) where
-  sound-found : (a : Told Finding) → Sound absent w first t place xs 19 name a → (x : Finding) → a ≡ gives x → Listed xs place name x
+  sound-found : (a : Told Finding) → Sound absent w first t place xs mostHeaders name a → (x : Finding) → a ≡ gives x → Listed xs place name x
   sound-found a (found y c m q k) x e =
       let same : record { entry = placedAt place y; offset = y .offset; headers = c } ≡ x = cc in
       record {
@@ -92,8 +84,8 @@ module _ (absent w : List ℕ) (first : Sector) (t : Region) (place : ℕ) (xs :
       }
   sound-found a (missing c k) x e = let z : _≡_ {A = ℕ} 0 1 = cc in absurd (omega arith)
 
-  sound-missing : (a : Told Finding) → Sound absent w first t place xs 19 name a → ((y : Item) → List·Memᴰ y xs → Same name (y .entry .name) → ⊥)
-      → (c : ℕ) × (c ≤ 19) × (a ≡ refuses 22 (c ∷ []))
+  sound-missing : (a : Told Finding) → Sound absent w first t place xs mostHeaders name a → ((y : Item) → List·Memᴰ y xs → Same name (y .entry .name) → ⊥)
+      → (c : ℕ) × (c ≤ mostHeaders) × (a ≡ refuses 22 (c ∷ []))
   sound-missing a (found y c m q k) f = absurd (f y m q)
   sound-missing a (missing c k) f = (c, k, refl)
 
@@ -121,7 +113,7 @@ module _ (entry : ℕ → Entry) (align s : ℕ) (x : Tree) (w : List ℕ) (firs
         (λ f. let k = along-absent lookupAbsent p (y .offset) 1 (r .links) 255 f lookup-255 in (k .0, q ∙ k .1)),
       )
 
-  pub unlisted : ((y : Item) → List·Memᴰ y xs → Same name (y .entry .name) → ⊥) → (c : ℕ) × (c ≤ 19) × (lookupOf w first t name ≡ refuses 22 (c ∷ []))
+  pub unlisted : ((y : Item) → List·Memᴰ y xs → Same name (y .entry .name) → ⊥) → (c : ℕ) × (c ≤ mostHeaders) × (lookupOf w first t name ≡ refuses 22 (c ∷ []))
   unlisted f = sound-missing lookupAbsent w first t (g .stand .place) xs name (lookupOf w first t name) (all .sound name ascii) f
 
   pub always-found : (y : Item) → List·Memᴰ y xs → Same name (y .entry .name)

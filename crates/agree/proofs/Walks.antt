@@ -2,7 +2,7 @@
 use Prim.Native.Nat.{ℕ, zero, suc, _+_, _-_, _*_, _/_, _≤_, _<_}
 use mathlib.Core.Path.{_≡_, refl, sym, ap, ap₂, _∙_}
 use mathlib.Core.Bool.{true, false}
-use mathlib.Core.List.{List, [], _∷_, _++_, map, append-nil}
+use mathlib.Core.List.{List, [], _∷_, _++_, map, append-nil, map-append}
 use mathlib.Core.Option.{none}
 use native.Mathlib.Omega.{arith}
 use native.Mathlib.Nat.{sub-zero}
@@ -26,10 +26,6 @@ use Rattle.agree.specs.Written.{Writable, Stand, Written}
 use Rattle.agree.specs.Agreement.{offsets, placedAt}
 use Rattle.agree.proofs.Setting.{Setting, start, stop, end, link, next, free, item, its, reads}
 use Rattle.agree.proofs.Holds.{Ready, has-node, left-ready, right-ready, linked, ends, at-zero, setting, ready}
-
-pub map-append : {A B : Type 0} (f : A → B) (xs ys : List A) → map f (xs ++ ys) ≡ map f xs ++ map f ys
-map-append f [] ys = refl
-map-append f (x ∷ xs) ys = ap (λ z. f x ∷ z) (map-append f xs ys)
 
 -- a link of a written table is not one that the walk takes for absent
 pub link-there : (k : ℕ) → (k ≡ 0 → ⊥) → (k ≡ 65535 → ⊥) → isIn k walkAbsent ≡ false

@@ -15,7 +15,7 @@ use Rattle.read_entry.specs.Entry.{Placed, readAt, nameOf}
 use Rattle.read_lookup.specs.Lookup.{Finding, anyHigh, lookupBy}
 use Rattle.read_walk.specs.Walk.{walkOf}
 use Rattle.table_model.specs.Entry.{Item, headerFor}
-use Rattle.table_model.specs.Said.{AllIn}
+use Rattle.table_model.specs.Said.{AllIn, Stands, Apart, SectorsApart}
 use Rattle.agree.specs.Along.{Along, answerAlong}
 
 -- the items' offsets
@@ -26,9 +26,13 @@ offsets = map (λ (y : Item). y .offset)
 abbrev pub placedAt : ℕ → Item → Placed
 placedAt place y = record { header = headerFor y; place = place + y .offset }
 
--- a name has these bytes, raised
+-- two names are the same, raised
 abbrev pub Same : List ℕ → List ℕ → Type 0
 Same a b = map raised a ≡ map raised b
+
+-- as many headers as a lookup in a written table reads at most
+abbrev pub mostHeaders : ℕ
+mostHeaders = 19
 
 module _ (w : List ℕ) (first : Sector) (t : Region) (place : ℕ) where
   -- an item is read back at its offset: its links, sector, size and kind, and its name
@@ -54,6 +58,10 @@ module _ (absent : List ℕ) (w : List ℕ) (first : Sector) (t : Region) (place
     missing : (c : ℕ) → c ≤ m → Sound xs m name (refuses 22 (c ∷ []))
 
   pub record Agreement (xs : List Item) : Type 0 where
+    -- the items are inside the table, cross no sector line and do not overlap, nor do their sectors
+    pub inside : AllIn (Stands 0 (t .size)) xs
+    pub apart : Apart xs
+    pub sectors : SectorsApart xs
     -- the walk lists the items' offsets, in preorder, where its list has room
     pub listed : (room : ℕ) → length xs ≤ room → walkOf w first t room ≡ gives (offsets xs)
     -- none of them twice
@@ -62,5 +70,5 @@ module _ (absent : List ℕ) (w : List ℕ) (first : Sector) (t : Region) (place
     pub read : AllIn (ReadBack w first t place) xs
     -- each is found under its name unless a link on the way is taken for absent
     pub reached : AllIn Reached xs
-    -- nothing else is found, and no lookup reads more than 19 headers
-    pub sound : (name : List ℕ) → anyHigh name ≡ false → Sound xs 19 name (lookupBy absent w first t name)
+    -- nothing else is found, and no lookup reads more than so many headers
+    pub sound : (name : List ℕ) → anyHigh name ≡ false → Sound xs mostHeaders name (lookupBy absent w first t name)

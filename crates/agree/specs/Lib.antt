@@ -2,3 +2,5 @@
 pub mod Written
 pub mod Along
 pub mod Agreement
+pub mod Given
+pub mod Cases

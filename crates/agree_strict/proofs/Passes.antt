@@ -3,11 +3,12 @@
 use Prim.Native.Nat.{ℕ, zero, suc, _+_, _-_, _*_, _/_, _≤_, _<_}
 use mathlib.Core.Path.{_≡_, refl, sym, ap, ap₂, _∙_}
 use mathlib.Core.Bool.{Bool, true, false}
-use mathlib.Core.List.{List, [], _∷_, _++_, append-assoc, append-nil}
+use mathlib.Core.List.{List, [], _∷_, _++_, append-assoc, append-nil, map-append}
 use mathlib.Core.Option.{Option, some, none}
 use native.Mathlib.Omega.{arith}
 use native.Mathlib.Nat.{sub-zero}
 use lib.Dec.{leb}
+use lib.ListN.{length}
 use borrow.Author.Tests.{eq-eqb, ne-eqb, le-leb}
 use Rattle.units.specs.Told.{Told, gives, pick}
 use Rattle.units.specs.declared.Sector.{Sector}
@@ -22,6 +23,8 @@ use Rattle.read_walk.specs.Walk.{before}
 use Rattle.read_walk.proofs.Steps.{before-none, before-before}
 use Rattle.strict.specs.Strict as strict
 use Rattle.strict.specs.Strict.{endBy, nameBy, inSector, clear, apart, placed, isLess, Visit, ordered, verdictAt, push, toEntry, strictFrom, strictOf}
+use Rattle.strict.specs.Accepts.{Accepts}
+use Rattle.strict.proofs.Accepted.{accepted}
 use Rattle.avl_model.specs.Tree.{Tree, leaf, node}
 use Rattle.avl_model.specs.Laws.{All, Ordered, size}
 use Rattle.avl_model.proofs.Avl as avl
@@ -32,9 +35,11 @@ use Rattle.table_model.proofs.Places.{Starts}
 use Rattle.table_model.proofs.Geometry.{items-stand}
 use Rattle.agree.specs.Written.{Before, Written}
 use Rattle.agree.specs.Agreement.{offsets, placedAt}
+use Rattle.agree.specs.Given.{Given, entryOf, treeOf, WrittenList}
 use Rattle.agree.proofs.Setting.{Setting, start, stop, end, link, next, free, item, its, reads, Back}
 use Rattle.agree.proofs.Holds.{Ready, has-node, started, left-ready, right-ready, linked, ends, at-zero, all-back, setting, ready}
-use Rattle.agree.proofs.Walks.{map-append, link-there, link-none, empty-read}
+use Rattle.agree.proofs.FromList.{list-written, list-size}
+use Rattle.agree.proofs.Walks.{link-there, link-none, empty-read}
 
 abbrev AllOf : (ℕ → Type 0) → List ℕ → Type 0
 AllOf P [] = Unit {0}
@@ -243,3 +248,14 @@ written-passes entry align s leaf w first t g room h =
     rw (ne-eqb (t .size) 0 (λ q. omega (arith, g .sized))) (strict-none w (readAt w first t) (t .size) room (empty-read entry align s w first t (g .stand) (g .sized)))
 written-passes entry align s (node l i r) w first t g room h =
     strict-node (setting entry align s (node l i r) w first t g) l i r s (ready entry align s (node l i r) w first t g) (g .writable .ordered) room h
+
+-- it is a table of the rule: the walk ends, no entry is reached twice, entries are inside, whole and disjoint, and names are in order
+pub written-accepts : (entry : ℕ → Entry) (align s : ℕ) (x : Tree) (w : List ℕ) (first : Sector) (t : Region) → Written entry align s x w first t
+    → Accepts w first t (offsets (items entry align 0 s x))
+written-accepts entry align s x w first t g = accepted w first t (size x) (offsets (items entry align 0 s x)) (written-passes entry align s x w first t g (size x) (omega arith)) .0
+
+-- and so the table of every list that is admitted
+pub list-passes : (align s : ℕ) (gs : List Given) (w : List ℕ) (first : Sector) (t : Region) → WrittenList align s gs w first t
+    → (room : ℕ) → length gs ≤ room → strictOf w first t room ≡ gives (offsets (items (entryOf gs) align 0 s (treeOf gs)))
+list-passes align s gs w first t g room h =
+    written-passes (entryOf gs) align s (treeOf gs) w first t (list-written align s gs w first t g) room (omega (arith, list-size align s gs w first t g))

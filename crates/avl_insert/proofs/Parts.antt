@@ -1,10 +1,9 @@
 -- The part of the bytes that is a node's name. i is the node, as it is read as an index; from and n are what the columns say of it.
 use Prim.Native.Nat.{ℕ, _+_, _-_, _≤_}
 use native.Mathlib.Omega.{arith}
-use mathlib.Core.Path.{_≡_, sym, ap, _∙_}
-use mathlib.Core.List.{List}
+use mathlib.Core.Path.{_≡_, ap, _∙_}
 use lib.ListN.{length, getD, take, drop}
-use Rattle.avl_model.specs.Names.{Names, names, nameAt, Inside}
+use Rattle.avl_model.specs.Names.{Names, nameAt, Inside}
 
 module _ (N : Names) (at : ℕ) {i from n : ℕ} where
   pub end-inside : Inside N at → i ≡ at → from ≡ getD (N .start) i 0 → n ≡ getD (N .len) i 0 → from + n ≤ length (N .bytes)

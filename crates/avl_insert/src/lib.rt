@@ -1,8 +1,8 @@
 // Insertion by name into the balanced tree that lent columns hold. The name of node i is the part of `bytes` that starts at start[i] and has
 // len[i] bytes; nothing is asked of what the columns hold for numbers that are not in the tree.
 ghost use mathlib.Core.Path.{_≡_};
-ghost use Prim.Native.Nat.{ℕ, _≤_, _<_};
-ghost use lib.ListN.{length, getD};
+ghost use Prim.Native.Nat.{_≤_, _<_};
+ghost use lib.ListN.{length};
 ghost use Rattle.layout_name.specs.Order.{raisedCopy};
 ghost use Rattle.avl_model.specs.declared.Place.the-variants.{Root};
 ghost use Rattle.avl_model.specs.Tree.{bal, ins};

@@ -4,22 +4,20 @@ use native.Mathlib.Omega.{arith}
 use native.Mathlib.Decide.{ℕ-discrete}
 use mathlib.Core.Path.{_≡_, refl, sym, ap, subst, _∙_}
 use mathlib.Core.Bool.{Bool, true, false}
-use mathlib.Core.List.{List}
 use lib.ListN.{length, getD, set, length-set}
 use lib.Seq.{getD-set-same, getD-set-other}
 use Rattle.layout_name.specs.declared.Order.{Order}
 use Rattle.layout_name.specs.declared.Order.the-variants.{Less, Equal, Greater}
-use Rattle.avl_model.specs.declared.Inserted.{Inserted}
 use Rattle.avl_model.specs.declared.Inserted.the-variants.{Done, Duplicate}
-use Rattle.avl_model.specs.Names.{Names, Inside, isLess}
+use Rattle.avl_model.specs.Names.{Names, isLess}
 use Rattle.avl_model.specs.Laws.{Avl, All}
 use Rattle.avl_model.specs.declared.Place.{Place}
 use Rattle.avl_model.specs.declared.Place.the-variants.{Root, Left, Right}
 use Rattle.avl_model.specs.declared.Spot.{Spot}
 use Rattle.avl_model.specs.declared.Spot.the-variants.{Same, Free}
-use Rattle.avl_model.specs.Lists.{Lists, lists, putRoot, putLeft, putRight, aboveOf, attached}
-use Rattle.avl_model.specs.Tree.{Tree, leaf, node, none, top, ht, δ, cnt, bal, ins, insBy}
-use Rattle.avl_model.specs.Rep.{Arr, arr, Rep, Ctx, hole, inL, inR, over, cntK, climb, Link, Step, RepK, At}
+use Rattle.avl_model.specs.Lists.{Lists, putLeft, putRight, aboveOf, attached}
+use Rattle.avl_model.specs.Tree.{Tree, leaf, node, none, ht, δ, cnt, bal, ins, insBy}
+use Rattle.avl_model.specs.Rep.{Arr, Rep, Ctx, hole, inL, inR, over, cntK, climb, Link, RepK, At}
 use Rattle.avl_model.specs.Held.{Long, arrOf, Held, Ready, Whole, peak, Even, Arena}
 use Rattle.avl_model.specs.Insert.{Filled, Out, OutBy}
 use Rattle.avl_model.specs.Seek.{spotIn, spotBy, path, pathBy, placeIn, Links, Linked, Sought}

@@ -1,13 +1,13 @@
 -- Insertion keeps the balance and the order; how few nodes a height takes.
 use Prim.Native.Nat.{ℕ, zero, suc, _+_, _≤_, _<_, max}
 use native.Mathlib.Omega.{arith}
-use native.Mathlib.Decide.{decLe, decLt, ℕ-discrete}
+use native.Mathlib.Decide.{decLe, ℕ-discrete}
 use mathlib.Core.Path.{_≡_, refl, sym, ap, subst, _∙_}
 use mathlib.Core.Bool.{Bool, true, false}
 use mathlib.Core.Logic.{_⊎_, inl, inr}
 use Rattle.avl_model.specs.Tree.{Tree, leaf, node, ht, δ, cnt, bal, ins, insBy}
 use Rattle.avl_model.specs.Laws.{Avl, All, Ordered, size, least}
-use Rattle.avl_model.proofs.Bal.{bal-ind, bal-cnt}
+use Rattle.avl_model.proofs.Bal.{bal-ind}
 use Rattle.avl_model.proofs.Frame.{δ-same, δ-apart}
 
 -- a tree that grew, and is more than one node, is higher on the side to which the new node went

@@ -1,11 +1,11 @@
 -- What `bal` keeps: the nodes, and the height but for one.
 use Prim.Native.Nat.{ℕ, suc, _+_, _≤_, _<_, max}
 use native.Mathlib.Omega.{arith}
-use mathlib.Core.Path.{_≡_, refl, sym, ap, subst, _∙_}
+use mathlib.Core.Path.{_≡_, refl, sym, ap}
 use mathlib.Core.Bool.{Bool, true, false}
 use lib.Dec.{ltb}
 use borrow.Author.Tests.{ltb-true, ltb-false}
-use Rattle.avl_model.specs.Tree.{Tree, leaf, node, none, top, ht, δ, cnt, turnLeft, turnLeftBy, turnRight, turnRightBy, bal, balBy, ins, insBy}
+use Rattle.avl_model.specs.Tree.{Tree, leaf, node, ht, δ, cnt, turnLeftBy, turnRightBy, bal, balBy, ins, insBy}
 
 -- A property that the node l i r has where the heights are near, and that each rotation has where it is made, `bal l i r` has.
 module _ (P : Tree → Type 0) where

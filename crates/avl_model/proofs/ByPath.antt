@@ -1,13 +1,13 @@
 -- The Rust chooses the rotation by the way that the climb came, and not by the heights of the grandchildren. On an AVL tree that is the same choice.
-use Prim.Native.Nat.{ℕ, zero, suc, _+_, _≤_, _<_, max}
+use Prim.Native.Nat.{ℕ, suc, _≤_, _<_}
 use native.Mathlib.Omega.{arith}
 use native.Mathlib.Decide.{decLt}
-use mathlib.Core.Path.{_≡_, refl, sym, ap, subst, _∙_}
+use mathlib.Core.Path.{_≡_, refl, sym, ap, _∙_}
 use mathlib.Core.Bool.{Bool, true, false, not}
 use mathlib.Core.Logic.{_⊎_, inl, inr}
 use lib.Dec.{ltb}
 use borrow.Author.Tests.{lt-ltb, le-ltb}
-use Rattle.avl_model.specs.Tree.{Tree, leaf, node, ht, bal, balBy, ins, insBy, turnLeft, turnLeftBy, turnRight, turnRightBy}
+use Rattle.avl_model.specs.Tree.{Tree, leaf, node, ht, bal, ins, insBy, turnLeftBy, turnRightBy}
 use Rattle.avl_model.specs.Laws.{Avl}
 use Rattle.avl_model.specs.Rust.{rust, rustBy, insRust}
 use Rattle.avl_model.proofs.Avl.{Lean, Grown, ins-grown}

@@ -1,11 +1,10 @@
 -- What does not touch a tree's nodes leaves the tree held.
-use Prim.Native.Nat.{ℕ, suc, _+_, _≤_, _<_, max}
+use Prim.Native.Nat.{ℕ, suc, _≤_, max}
 use native.Mathlib.Omega.{arith}
-use mathlib.Core.Path.{_≡_, refl, sym, ap, subst, _∙_}
-use mathlib.Core.Bool.{true}
+use mathlib.Core.Path.{_≡_, refl, ap, subst, _∙_}
 use borrow.Author.Tests.{eq-eqb, ne-eqb}
-use Rattle.avl_model.specs.Tree.{Tree, leaf, node, none, top, ht, one, δ, cnt, bal}
-use Rattle.avl_model.specs.Rep.{Arr, Cell, Rep, Ctx, hole, inL, inR, over, cntK, Link, Step, RepK, At}
+use Rattle.avl_model.specs.Tree.{Tree, leaf, node, top, ht, one, δ, cnt}
+use Rattle.avl_model.specs.Rep.{Arr, Rep, Ctx, hole, inL, inR, cntK, Link, Step, RepK}
 
 pub δ-same : (i : ℕ) → δ i i ≡ 1
 unfolding δ

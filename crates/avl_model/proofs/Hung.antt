@@ -1,7 +1,7 @@
 -- What hangs where a hung, once `hang` has stored b there: the same parts, with b at the place.
 use Prim.Native.Nat.{ℕ, suc, _+_, _≤_, _<_, max}
 use native.Mathlib.Omega.{arith}
-use mathlib.Core.Path.{_≡_, refl, sym, ap, subst, _∙_}
+use mathlib.Core.Path.{_≡_, refl, sym, subst, _∙_}
 use mathlib.Core.List.{List}
 use lib.ListN.{length, getD, set}
 use lib.Seq.{getD-set-same, getD-set-other}
@@ -10,7 +10,7 @@ use Rattle.avl_model.specs.declared.Place.{Place}
 use Rattle.avl_model.specs.declared.Place.the-variants.{Root, Left, Right}
 use Rattle.avl_model.specs.Lists.{placeOf, putRoot, putLeft, putRight}
 use Rattle.avl_model.specs.Tree.{Tree, leaf, node, none, top, ht, δ, cnt}
-use Rattle.avl_model.specs.Rep.{Arr, arr, Rep, Ctx, hole, inL, inR, over, cntK, Link, Step, RepK, At}
+use Rattle.avl_model.specs.Rep.{Arr, arr, Ctx, hole, inL, inR, cntK, At}
 use Rattle.avl_model.proofs.Frame.{δ-same, Agree, apart, frame, frame-link, frameK}
 
 -- a tree's root is no node that does not stand in it

@@ -8,18 +8,17 @@ use lib.ListN.{length, getD, set, length-set}
 use lib.Seq.{getD-set-other}
 use lib.Dec.{ltb}
 use borrow.Author.Tests.{lt-ltb, le-ltb, ltb-true, ltb-false}
-use Rattle.avl_model.specs.declared.Direction.{Direction}
 use Rattle.avl_model.specs.declared.Direction.the-variants.{Left as ToLeft, Leaf, Right as ToRight}
 use Rattle.avl_model.specs.Lists.{Lists, lists, risen, tiltOf, tiltBy}
-use Rattle.avl_model.specs.Tree.{Tree, leaf, node, none, top, ht, δ, cnt, turnLeft, turnRight, bal, balBy}
-use Rattle.avl_model.specs.Rep.{Arr, arr, Rep, Ctx, hole, inL, inR, over, cntK, Link, RepK, At}
-use Rattle.avl_model.specs.Held.{Long, arrOf, Held, Heavy, Ready, Up}
+use Rattle.avl_model.specs.Tree.{Tree, leaf, node, none, top, ht, δ, cnt, turnLeft, turnRight, bal}
+use Rattle.avl_model.specs.Rep.{Arr, arr, Rep, Ctx, cntK, At}
+use Rattle.avl_model.specs.Held.{Long, arrOf, Heavy, Ready, Up}
 use Rattle.avl_model.proofs.Frame.{δ-same, Agree, apart, frame, frame-link, frameK}
 use Rattle.avl_model.proofs.Hung.{top-apart}
 use Rattle.avl_model.proofs.Low.{low-risen}
 use Rattle.avl_model.proofs.Peak.{low-from}
 use Rattle.avl_model.proofs.Stores.{height-read, risen-same}
-use Rattle.avl_model.proofs.Mirror.{flip, mir, mirK, ht-mir, top-mir, at-mir}
+use Rattle.avl_model.proofs.Mirror.{mir, mirK, ht-mir, top-mir, at-mir}
 use Rattle.avl_model.proofs.Sides.{held, held-unmir, turn-mir}
 
 -- what the tilt tells

@@ -1,9 +1,9 @@
 -- Left and right exchanged: the other two rotations come from the first two.
-use Prim.Native.Nat.{ℕ, suc, _+_, _≤_, _<_, max}
+use Prim.Native.Nat.{ℕ, suc, max}
 use native.Mathlib.Omega.{arith}
-use mathlib.Core.Path.{_≡_, refl, sym, ap, subst, _∙_}
-use Rattle.avl_model.specs.Tree.{Tree, leaf, node, none, top, ht, one, δ, cnt, bal}
-use Rattle.avl_model.specs.Rep.{Arr, Cell, Rep, Ctx, hole, inL, inR, over, cntK, Link, Step, RepK, At}
+use mathlib.Core.Path.{_≡_, refl, sym, _∙_}
+use Rattle.avl_model.specs.Tree.{Tree, leaf, node, top, ht, cnt}
+use Rattle.avl_model.specs.Rep.{Arr, Rep, Ctx, hole, inL, inR, over, cntK, Link, Step, RepK, At}
 use Rattle.avl_model.proofs.Rotate.{Single, single, Double, double}
 
 abbrev pub flip : Arr → Arr

@@ -2,13 +2,13 @@
 use Prim.Native.Nat.{ℕ, suc, _+_, _≤_, _<_, max}
 use native.Mathlib.Omega.{arith}
 use native.Mathlib.Decide.{decLe, decLt, ℕ-discrete}
-use mathlib.Core.Path.{_≡_, refl, sym, ap, subst, _∙_}
+use mathlib.Core.Path.{_≡_, ap}
 use lib.ListN.{length, getD, List·getD-eq-default}
 use borrow.Author.Tests.{ne-eqb}
-use Rattle.avl_model.specs.Lists.{Lists, lists}
-use Rattle.avl_model.specs.Tree.{Tree, leaf, node, none, top, ht, one, δ, cnt}
-use Rattle.avl_model.specs.Rep.{Arr, arr, Rep, Ctx, hole, inL, inR, over, cntK, Link, Step, RepK, At}
-use Rattle.avl_model.specs.Held.{Long, arrOf, Held, Ready, peak}
+use Rattle.avl_model.specs.Lists.{Lists}
+use Rattle.avl_model.specs.Tree.{Tree, leaf, node, ht, one, δ, cnt}
+use Rattle.avl_model.specs.Rep.{Arr, Rep, Ctx, hole, inL, inR, cntK, Step, RepK}
+use Rattle.avl_model.specs.Held.{arrOf, Ready, peak}
 
 pub δ-is : (i j : ℕ) → 1 ≤ δ i j → i ≡ j
 unfolding δ

@@ -1,6 +1,6 @@
 -- What hangs at a place, where the place is known.
 use Prim.Native.Nat.{ℕ}
-use mathlib.Core.Path.{_≡_, ap}
+use mathlib.Core.Path.{_≡_}
 use mathlib.Core.List.{List}
 use Rattle.avl_model.specs.Lists.{putRoot, putLeft, putRight}
 use Rattle.avl_model.specs.declared.Place.{Place}

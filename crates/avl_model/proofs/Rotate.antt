@@ -1,9 +1,9 @@
 -- The rotations, on arrays taken as functions: from what the stores changed, and where, to the rotated tree.
-use Prim.Native.Nat.{ℕ, suc, _+_, _≤_, _<_, max}
+use Prim.Native.Nat.{ℕ, suc, _+_, _≤_, max}
 use native.Mathlib.Omega.{arith}
-use mathlib.Core.Path.{_≡_, refl, sym, ap, subst, _∙_}
-use Rattle.avl_model.specs.Tree.{Tree, leaf, node, none, top, ht, one, δ, cnt, bal}
-use Rattle.avl_model.specs.Rep.{Arr, Cell, Rep, Ctx, hole, inL, inR, over, cntK, Link, Step, RepK, At}
+use mathlib.Core.Path.{_≡_, _∙_}
+use Rattle.avl_model.specs.Tree.{Tree, node, top, ht, δ, cnt}
+use Rattle.avl_model.specs.Rep.{Arr, Ctx, cntK, At}
 use Rattle.avl_model.proofs.Frame.{δ-same, Agree, Moved, apart, frame, frame-link, frameK, move}
 
 -- What l_rotate changes: a's right child b comes above a, and b's left subtree y goes to a.

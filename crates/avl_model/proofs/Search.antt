@@ -1,20 +1,20 @@
 -- The search by name: what it finds has the name, and where it finds none no node has it; so insertion keeps the order of names.
-use Prim.Native.Nat.{ℕ, suc, _+_, _≤_}
+use Prim.Native.Nat.{ℕ, _+_, _≤_}
 use native.Mathlib.Omega.{arith}
 use mathlib.Core.Path.{_≡_, refl, sym, ap, subst, _∙_}
-use mathlib.Core.Bool.{Bool, true, false}
+use mathlib.Core.Bool.{true, false}
 use mathlib.Core.List.{List}
 use Rattle.layout_name.specs.declared.Order.{Order}
 use Rattle.layout_name.specs.declared.Order.the-variants.{Less, Equal, Greater}
 use Rattle.layout_name.specs.Order.{nameOrder, opposite}
 use Rattle.layout_name.proofs.Laws.{name-opposite, name-trans}
 use Rattle.avl_model.specs.declared.Place.{Place}
-use Rattle.avl_model.specs.declared.Place.the-variants.{Root, Left, Right}
+use Rattle.avl_model.specs.declared.Place.the-variants.{Left, Right}
 use Rattle.avl_model.specs.declared.Spot.{Spot}
 use Rattle.avl_model.specs.declared.Spot.the-variants.{Same, Free}
 use Rattle.avl_model.specs.Tree.{Tree, leaf, node, δ, cnt, ins}
 use Rattle.avl_model.specs.Laws.{All, Ordered}
-use Rattle.avl_model.specs.Names.{Names, nameAt, toName, byName, isLess, Before}
+use Rattle.avl_model.specs.Names.{Names, nameAt, toName, isLess, Before}
 use Rattle.avl_model.specs.Seek.{spotIn, spotBy}
 use Rattle.avl_model.proofs.Frame.{δ-same}
 use Rattle.avl_model.proofs.Avl.{all-map, ins-ordered, two}

@@ -1,23 +1,21 @@
 -- The way down: what is still to be looked through, and its height, which falls.
-use Prim.Native.Nat.{ℕ, zero, suc, _+_, _≤_, _<_, max}
+use Prim.Native.Nat.{ℕ, zero, suc, _≤_, _<_, max}
 use native.Mathlib.Omega.{arith}
 use mathlib.Core.Path.{_≡_, refl, sym, ap, subst, _∙_}
-use mathlib.Core.Bool.{Bool, true, false}
 use mathlib.Core.List.{List}
 use lib.ListN.{length, getD}
-use lib.Dec.{ltb}
 use borrow.Author.Tests.{lt-ltb, le-ltb}
 use Rattle.layout_name.specs.declared.Order.{Order}
 use Rattle.layout_name.specs.declared.Order.the-variants.{Less, Equal, Greater}
 use Rattle.avl_model.specs.declared.Place.{Place}
-use Rattle.avl_model.specs.declared.Place.the-variants.{Root, Left, Right}
+use Rattle.avl_model.specs.declared.Place.the-variants.{Left, Right}
 use Rattle.avl_model.specs.declared.Spot.{Spot}
 use Rattle.avl_model.specs.declared.Spot.the-variants.{Same, Free}
 use Rattle.avl_model.specs.Tree.{Tree, leaf, node, none, top, ht}
 use Rattle.layout_name.specs.Order.{nameOrder}
 use Rattle.avl_model.specs.Laws.{All}
 use Rattle.avl_model.specs.Names.{Names, nameAt, toName}
-use Rattle.avl_model.specs.Seek.{spotIn, Link2, Links, Linked, treeAt}
+use Rattle.avl_model.specs.Seek.{spotIn, Links, treeAt}
 
 pub treeAt-is : (L R : List ℕ) (t : Tree) (f : ℕ) → length L ≤ none → Links L R (length L) t → ht t ≤ f → treeAt f L R (top t) ≡ t
 unfolding treeAt

@@ -1,16 +1,15 @@
 -- The functional rotations are what the array rotations make, on both sides.
-use Prim.Native.Nat.{ℕ, suc, _+_, _≤_, _<_, max}
+use Prim.Native.Nat.{ℕ, _≤_, _<_}
 use native.Mathlib.Omega.{arith}
 use mathlib.Core.Path.{_≡_, refl, sym, ap, subst, _∙_}
-use mathlib.Core.List.{List}
 use mathlib.Core.Bool.{Bool, true, false}
-use lib.ListN.{length, getD, set, length-set}
+use lib.ListN.{getD, length-set}
 use lib.Dec.{ltb}
 use borrow.Author.Tests.{lt-ltb, le-ltb}
-use Rattle.avl_model.specs.Lists.{Lists, lists, placeOf, lRotated, rlRotated}
-use Rattle.avl_model.specs.Tree.{Tree, leaf, node, none, top, ht, δ, cnt, turnLeft, turnLeftBy, turnRight, turnRightBy}
-use Rattle.avl_model.specs.Rep.{Arr, arr, Rep, Ctx, hole, inL, inR, over, cntK, Link, RepK, At}
-use Rattle.avl_model.specs.Held.{Long, arrOf, Held, Heavy, Up}
+use Rattle.avl_model.specs.Lists.{Lists, lRotated, rlRotated}
+use Rattle.avl_model.specs.Tree.{Tree, leaf, node, none, top, ht, turnLeft, turnLeftBy, turnRight, turnRightBy}
+use Rattle.avl_model.specs.Rep.{Arr, Ctx, over, At}
+use Rattle.avl_model.specs.Held.{Long, arrOf, Held, Up}
 use Rattle.avl_model.proofs.Stores.{Turned, l-turns, rl-turns, put-left-length, put-right-length}
 use Rattle.avl_model.proofs.Mirror.{flip, mir, mirK, mir-mir, mirK-mirK, ht-mir, top-mir, over-mir, cnt-mir, cntK-mir, rep-mir, link-mir, repK-mir}
 

@@ -1,13 +1,12 @@
 -- What `turn` reads of the heights, and what it leaves.
-use Prim.Native.Nat.{ℕ, suc, _+_, _≤_, _<_, max}
+use Prim.Native.Nat.{ℕ, _≤_, _<_}
 use native.Mathlib.Omega.{arith}
 use mathlib.Core.Path.{_≡_, refl, sym, ap, subst, _∙_}
-use mathlib.Core.List.{List}
 use lib.ListN.{length, getD}
-use Rattle.avl_model.specs.Lists.{Lists, lists, Three, lRotated, rlRotated}
-use Rattle.avl_model.specs.Tree.{Tree, leaf, node, none, top, ht, turnLeft}
-use Rattle.avl_model.specs.Rep.{Arr, arr, Rep, Ctx, At}
-use Rattle.avl_model.specs.Held.{Long, arrOf, Held, Heavy, Up}
+use Rattle.avl_model.specs.Lists.{Lists, Three, lRotated, rlRotated}
+use Rattle.avl_model.specs.Tree.{Tree, leaf, node, top, ht, turnLeft}
+use Rattle.avl_model.specs.Rep.{Arr, Rep}
+use Rattle.avl_model.specs.Held.{arrOf, Heavy, Up}
 use Rattle.avl_model.proofs.Stores.{height-read}
 use Rattle.avl_model.proofs.Sides.{by-double, by-single}
 

@@ -1,9 +1,8 @@
 -- Lists that hold a tree of all their indices are the lists with the tree written into them.
-use Prim.Native.Nat.{ℕ, zero, suc, _+_, _≤_, _<_, max}
+use Prim.Native.Nat.{ℕ, suc, _≤_, _<_, max}
 use native.Mathlib.Omega.{arith}
 use native.Mathlib.Decide.{decLe, ℕ-discrete}
 use mathlib.Core.Path.{_≡_, refl, sym, ap, subst, _∙_}
-use mathlib.Core.Bool.{Bool, true, false}
 use mathlib.Core.List.{List}
 use lib.ListN.{length, getD, set, length-set}
 use lib.Seq.{getD-set-same, getD-set-other, ext-getD}
@@ -15,12 +14,12 @@ use Rattle.avl_model.specs.declared.Spot.the-variants.{Same, Free}
 use Rattle.avl_model.specs.declared.Place.the-variants.{Root}
 use Rattle.avl_model.specs.Tree.{Tree, leaf, node, none, top, ht, δ, cnt, ins}
 use Rattle.avl_model.specs.Rep.{Arr, Cell, Rep}
-use Rattle.avl_model.specs.Held.{Long, arrOf, Held, Whole, Arena}
+use Rattle.avl_model.specs.Held.{Long, arrOf, Whole, Arena}
 use Rattle.avl_model.specs.Insert.{Out, OutBy}
 use Rattle.avl_model.specs.Names.{isLess}
 use Rattle.avl_model.specs.Seek.{spotIn}
 use Rattle.avl_model.specs.Columns.{write, written, answered, listsBy, after}
-use Rattle.avl_model.proofs.Frame.{δ-same, δ-apart, apart}
+use Rattle.avl_model.proofs.Frame.{δ-same, δ-apart}
 use Rattle.avl_model.proofs.Bal.{ins-cnt}
 
 module _ (f : ℕ → Tree → ℕ → Tree → ℕ) where

@@ -4,7 +4,7 @@ use Prim.Native.Nat.{ℕ, suc, _+_, _≤_, _<_, max}
 use mathlib.Core.Path.{_≡_}
 use lib.ListN.{length, getD}
 use Rattle.avl_model.specs.Lists.{Lists}
-use Rattle.avl_model.specs.Tree.{Tree, leaf, node, none, top, ht, δ, cnt}
+use Rattle.avl_model.specs.Tree.{Tree, node, none, top, ht, δ, cnt}
 use Rattle.avl_model.specs.Laws.{Avl}
 use Rattle.avl_model.specs.Rep.{Arr, arr, Rep, Ctx, hole, inL, inR, over, cntK, Link, RepK, At}
 
@@ -15,6 +15,7 @@ pub record Long (n : ℕ) (S : Lists) : Type 0 where
   pub p : length (S .P) ≡ n
   pub h : length (S .H) ≡ n
 
+-- the four lists and the root as functions from an index
 abbrev pub arrOf : Lists → Arr
 arrOf S = arr (S .root) (S .L) (S .R) (S .P) (S .H)
 

@@ -1,5 +1,5 @@
 -- What an AVL tree is: order, balance, and how few nodes a height takes.
-use Prim.Native.Nat.{ℕ, zero, suc, _+_, _≤_, max}
+use Prim.Native.Nat.{ℕ, zero, suc, _+_, _≤_}
 use Rattle.avl_model.specs.Tree.{Tree, leaf, node, ht}
 
 -- the heights at each node differ by at most one
@@ -17,6 +17,7 @@ abbrev pub Ordered : (ℕ → ℕ → Type 0) → Tree → Type 0
 Ordered lt leaf = Unit {0}
 Ordered lt (node l i r) = All (λ j. lt j i) l × All (λ j. lt i j) r × Ordered lt l × Ordered lt r
 
+-- how many nodes a tree has
 abbrev pub size : Tree → ℕ
 size leaf = 0
 size (node l i r) = size l + suc (size r)

@@ -15,6 +15,7 @@ use Rattle.avl_model.specs.declared.Place.the-variants.{Root, Left, Righ
 abbrev pub risen : List ℕ → List ℕ → List ℕ → ℕ → List ℕ
 risen l r h at = set h at (max (getD h (getD l at 0) 0) (getD h (getD r at 0) 0) + 1)
 
+-- a place by a test
 abbrev pub pickPlace : Bool → Place → Place → Place
 pickPlace true a b = a
 pickPlace false a b = b
@@ -26,21 +27,25 @@ placeOf l p at =
     (pickPlace (eqb (getD l (getD p at 0) 0) at) (Left (getD p at 0)) (Right (getD p at 0)))
     Root
 
+-- the root, once `to` hangs at a place: it changes only where that is the root
 abbrev pub putRoot : Place → ℕ → ℕ → ℕ
 putRoot Root to t = to
 putRoot (Left p) to t = t
 putRoot (Right p) to t = t
 
+-- the left column, once `to` hangs at a place
 abbrev pub putLeft : Place → ℕ → List ℕ → List ℕ
 putLeft Root to l = l
 putLeft (Left p) to l = set l p to
 putLeft (Right p) to l = l
 
+-- the right column, once `to` hangs at a place
 abbrev pub putRight : Place → ℕ → List ℕ → List ℕ
 putRight Root to l = l
 putRight (Left p) to l = l
 putRight (Right p) to l = set l p to
 
+-- the side by two tests: more than one higher on the left, and on the right
 abbrev pub tiltBy : Bool → Bool → Direction
 tiltBy true q = ToLeft
 tiltBy false true = ToRight
@@ -58,6 +63,7 @@ pub record Lists : Type 0 where
   pub P : List ℕ
   pub H : List ℕ
 
+-- the root and the lists left, right, parent and height
 abbrev pub lists : ℕ → List ℕ → List ℕ → List ℕ → List ℕ → Lists
 lists t l r p h = record { root = t; L = l; R = r; P = p; H = h }
 
@@ -73,6 +79,7 @@ lRotatedAt q S a b c =
     let r = set (putRight q b (S .R)) a y in
     lists (putRoot q b (S .root)) l r (set (set (set (S .P) b (getD (S .P) a 0)) y a) a b) (risen3 l r (S .H) a c b)
 
+-- the same, at the place where a hangs
 unfoldable pub lRotated : Lists → ℕ → ℕ → ℕ → Lists
 lRotated S a b c = lRotatedAt (placeOf (S .L) (S .P) a) S a b c
 
@@ -89,6 +96,7 @@ rlRotatedAt q S a b c =
     (set (set (set (set (set (S .P) c (getD (S .P) a 0)) y a) w b) b c) a c)
     (risen3 l r (S .H) a b c)
 
+-- the same, at the place where a hangs
 unfoldable pub rlRotated : Lists → ℕ → ℕ → ℕ → Lists
 rlRotated S a b c = rlRotatedAt (placeOf (S .L) (S .P) a) S a b c
 
@@ -100,6 +108,7 @@ pub record Three (n r h i j k : ℕ) : Type 0 where
   pub j< : j < n
   pub k< : k < n
 
+-- the parent of what hangs at a place
 abbrev pub aboveOf : Place → ℕ
 aboveOf Root = 65535
 aboveOf (Left p) = p

@@ -15,6 +15,7 @@ pub record Names : Type 0 where
   pub start : List ℕ
   pub len : List ℕ
 
+-- bytes, starts and lengths
 abbrev pub names : List ℕ → List ℕ → List ℕ → Names
 names b s n = record { bytes = b; start = s; len = n }
 

@@ -13,6 +13,7 @@ pub record Arr : Type 0 where
   pub P : ℕ → ℕ
   pub H : ℕ → ℕ
 
+-- the root and four lists as functions from an index
 abbrev pub arr : ℕ → List ℕ → List ℕ → List ℕ → List ℕ → Arr
 arr t l r p h = record { root = t; L = λ i. getD l i 0; R = λ i. getD r i 0; P = λ i. getD p i 0; H = λ i. getD h i 0 }
 
@@ -53,6 +54,7 @@ climb hole t = t
 climb (inL i r k) t = climb k (bal t i r)
 climb (inR l i k) t = climb k (bal l i t)
 
+-- how often j stands around the hole
 abbrev pub cntK : ℕ → Ctx → ℕ
 cntK j hole = 0
 cntK j (inL i r k) = δ i j + (cnt j r + cntK j k)

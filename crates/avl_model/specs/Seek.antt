@@ -1,17 +1,17 @@
 -- Where a new node goes, in the tree and in the arrays.
-use Prim.Native.Nat.{ℕ, zero, suc, _+_, _≤_, _<_, max}
+use Prim.Native.Nat.{ℕ, zero, suc, _≤_, _<_}
 use mathlib.Core.Path.{_≡_}
 use mathlib.Core.Bool.{Bool, true, false}
 use mathlib.Core.List.{List}
 use lib.ListN.{length, getD}
-use lib.Dec.{ltb, eqb}
+use lib.Dec.{ltb}
 use Rattle.layout_name.specs.declared.Order.{Order}
 use Rattle.layout_name.specs.declared.Order.the-variants.{Less, Equal, Greater}
 use Rattle.avl_model.specs.declared.Place.{Place}
 use Rattle.avl_model.specs.declared.Place.the-variants.{Root, Left, Right}
 use Rattle.avl_model.specs.declared.Spot.{Spot}
 use Rattle.avl_model.specs.declared.Spot.the-variants.{Same, Free}
-use Rattle.avl_model.specs.Tree.{Tree, leaf, node, none, top, ht, bal}
+use Rattle.avl_model.specs.Tree.{Tree, leaf, node, none, top, ht}
 use Rattle.avl_model.specs.Rep.{Ctx, hole, inL, inR}
 use Rattle.avl_model.specs.Laws.{All}
 use Rattle.avl_model.specs.Names.{Names, Inside}
@@ -27,6 +27,7 @@ abbrev pub spotIn : (ℕ → Order) → Tree → Place → Spot
 spotIn by leaf q = Free q
 spotIn by (node l i r) q = spotBy (by i) (Same i) (spotIn by l (Left i)) (spotIn by r (Right i))
 
+-- a way by a test
 abbrev pub pathBy : Bool → Ctx → Ctx → Ctx
 pathBy true a b = a
 pathBy false a b = b
@@ -36,6 +37,7 @@ abbrev pub path : (ℕ → Bool) → Tree → Ctx → Ctx
 path less leaf k = k
 path less (node l i r) k = pathBy (less i) (path less l (inL i r k)) (path less r (inR l i k))
 
+-- the place of the hole
 abbrev pub placeIn : Ctx → Place
 placeIn hole = Root
 placeIn (inL i r k) = Left i
@@ -47,6 +49,7 @@ pub record Link2 (L R : List ℕ) (n : ℕ) (l : Tree) (i : ℕ) (r : Tree) : Ty
   pub left : getD L i 0 ≡ top l
   pub right : getD R i 0 ≡ top r
 
+-- the lists of left and right links hold the tree
 abbrev pub Links : List ℕ → List ℕ → ℕ → Tree → Type 0
 Links L R n leaf = Unit {0}
 Links L R n (node l i r) = Link2 L R n l i r × Links L R n l × Links L R n r

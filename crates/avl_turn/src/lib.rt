@@ -1,4 +1,4 @@
-// Rotations of a tree that lent columns hold. left, right and parent hold the number of a node, or NONE where there is none; height holds the
+// Rotations of a tree that lent columns hold. left, right and parent hold the number of a node, or 65535 where there is none; height holds the
 // height of the node's subtree. A rotation to the other side is the same function with the columns left and right exchanged.
 ghost use mathlib.Core.Path.{_≡_};
 ghost use Prim.Native.Nat.{ℕ, _<_, max};

@@ -2,3 +2,5 @@
 pub mod Listed
 pub mod Zeros
 pub mod Rooted
+pub mod FromArena
+pub mod Ways

@@ -1,6 +1,7 @@
 // A table is written: from an arena, or from a whole list in one call.
 use avl_order::preorder;
 use dirtab_arena::Held;
+use dirtab_arena::is_arena;
 use dirtab_place::Counted;
 use dirtab_place::Ends;
 use dirtab_place::count_sectors;
@@ -8,10 +9,15 @@ use dirtab_place::place_entries;
 use dirtab_write::write_table;
 use units::Sector;
 ghost use mathlib.Core.Path.{_≡_};
+ghost use mathlib.Core.Bool.{_&&_};
+ghost use mathlib.Core.List.{[]};
 ghost use Prim.Native.Nat.{_≤_, _<_};
+ghost use lib.Dec.{leb};
 ghost use lib.ListN.{length, replicate};
+ghost use Rattle.units.specs.Told.{refuses, pick};
 ghost use Rattle.dirtab_entry.specs.Entry.{rounded};
 ghost use Rattle.avl_model.specs.Tree.{Tree};
+ghost use Rattle.dirtab_arena.specs.Arena.{arena, columns};
 ghost use Rattle.dirtab.specs.Serialise.{told, serialiseOf, outAfter, scratchAfter};
 ghost use Rattle.dirtab.specs.Steps.{entriesIn, sizeFrom, writingOf, writingOut, Listing, Rooted};
 
@@ -144,4 +150,95 @@ pub fn clear(s: &mut [u16])
         s[i] = 0;
         i += 1;
     }
+}
+
+// Zero everywhere, of both columns of scratch.
+fn clear_both(order: &mut [u16], place: &mut [u16])
+    ensures { λ _. ⌜ (now (order .exit) ≡ replicate (length (now (order .entry))) 0) × (now (place .exit) ≡ replicate (length (now (place .entry))) 0) ⌝ }
+{
+    clear(order);
+    clear(place);
+}
+
+// Both columns of scratch have a place for each held node.
+fn has_room(count: u16, n: usize, m: usize) -> bool
+    ensures { λ r. ⌜ r ≡ (leb count n && leb count m) ⌝ }
+{
+    let k = widen(count);
+    if n < k {
+        return false;
+    }
+    k <= m
+}
+
+// The answer where the scratch is too short: 12 comes before 6.
+fn refuse_short(held: bool) -> Serialised
+    ensures { λ r. ⌜ told r ≡ pick held (refuses 6 []) (refuses 12 []) ⌝ }
+{
+    if held {
+        Serialised::Room
+    } else {
+        Serialised::BadArena
+    }
+}
+
+// Writes the table of the arena into the first bytes of the output, up to the size rounded to whole sectors, with sectors from `first` on. The answer is
+// the reported size and the next free sector, or a refusal: 12, 6, 7, 8, 9, and then the output is unchanged. Both columns of scratch need a place for
+// each held node; where one has not, both are unchanged, and else both are all zero after the call.
+pub fn serialise(
+    tree: Held,
+    left: &[u16],
+    right: &[u16],
+    parent: &[u16],
+    height: &[u8],
+    start: &[u32],
+    len: &[u32],
+    size: &[u32],
+    kind: &[u8],
+    names: &[u8],
+    first: Sector,
+    order: &mut [u16],
+    place: &mut [u16],
+    out: &mut [u8],
+) -> Serialised
+    ensures answer { λ r. ⌜ told r ≡ serialiseOf (arena (tree .root) (tree .count) (columns (now (left .entry)) (now (right .entry)) (now (parent .entry)) (now (height .entry)) (now (start .entry)) (now (len .entry)) (now (size .entry)) (now (kind .entry))) (now (names .entry))) (first .0) (length (now (order .entry))) (length (now (place .entry))) (length (now (out .entry))) ⌝ }
+    ensures out { λ _. ⌜ now (out .exit) ≡ outAfter (arena (tree .root) (tree .count) (columns (now (left .entry)) (now (right .entry)) (now (parent .entry)) (now (height .entry)) (now (start .entry)) (now (len .entry)) (now (size .entry)) (now (kind .entry))) (now (names .entry))) (first .0) (length (now (order .entry))) (length (now (place .entry))) (now (out .entry)) ⌝ }
+    ensures order { λ _. ⌜ now (order .exit) ≡ scratchAfter (arena (tree .root) (tree .count) (columns (now (left .entry)) (now (right .entry)) (now (parent .entry)) (now (height .entry)) (now (start .entry)) (now (len .entry)) (now (size .entry)) (now (kind .entry))) (now (names .entry))) (length (now (order .entry))) (length (now (place .entry))) (now (order .entry)) ⌝ }
+    ensures place { λ _. ⌜ now (place .exit) ≡ scratchAfter (arena (tree .root) (tree .count) (columns (now (left .entry)) (now (right .entry)) (now (parent .entry)) (now (height .entry)) (now (start .entry)) (now (len .entry)) (now (size .entry)) (now (kind .entry))) (now (names .entry))) (length (now (order .entry))) (length (now (place .entry))) (now (place .entry)) ⌝ }
+{
+    let held = is_arena(
+        tree,
+        left,
+        right,
+        parent,
+        height,
+        start,
+        len,
+        size,
+        kind,
+        names,
+    );
+    if has_room(tree.count, order.len(), place.len()) {
+        if held {
+            let r = write_held(
+                tree,
+                left,
+                right,
+                start,
+                len,
+                size,
+                kind,
+                names,
+                first,
+                order,
+                place,
+                out,
+            );
+            clear_both(order, place);
+            return r;
+        }
+        clear_both(order, place);
+        return Serialised::BadArena;
+    }
+    refuse_short(held)
 }

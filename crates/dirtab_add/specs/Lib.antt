@@ -1,2 +1,3 @@
 -- What adding answers, and what it leaves in the columns.
 pub mod Add
+pub mod Judging

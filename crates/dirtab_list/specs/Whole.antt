@@ -9,10 +9,10 @@ use Rattle.dirtab_entry.specs.Entry.{kindFor, storedSize, nameIn}
 use Rattle.avl_model.specs.Tree.{Tree}
 use Rattle.table_model.specs.Entry.{Entry}
 use Rattle.table_model.specs.Table.{Placing, placeOf, tableBytes}
-use Rattle.dirtab.specs.Serialise.{ifFits, ifWritten}
+pub use Rattle.dirtab.specs.Serialise.{ifFits, ifWritten}
 use Rattle.dirtab_list.specs.declared.ListWritten.{ListWritten}
 use Rattle.dirtab_list.specs.declared.ListWritten.the-variants as written
-use Rattle.dirtab_grow.specs.Listing.{Listing, givenIn}
+pub use Rattle.dirtab_grow.specs.Listing.{Listing, listing, givenIn}
 use Rattle.dirtab_grow.specs.Grow.{grow}
 
 -- entry i as a table has it (a directory's size rounded)

@@ -4,3 +4,4 @@ pub mod Steps
 pub mod Turn
 pub mod Zeros
 pub mod Told
+pub mod Cases

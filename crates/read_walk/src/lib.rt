@@ -44,7 +44,7 @@ fn push_link(scratch: &mut [u32], top: usize, l: Link) -> usize
 }
 
 // Zero from a place on.
-fn clear_from(s: &mut [u32], from: usize)
+pub fn clear_from(s: &mut [u32], from: usize)
     requires { ⌜ from ≤ length (now s) ⌝ }
     ensures { λ _. ⌜ now (s .exit) ≡ take from (now (s .entry)) ++ replicate (length (now (s .entry)) - from) 0 ⌝ }
 {

@@ -1,3 +1,4 @@
--- What the strict check answers, and which tables it is meant to accept.
+-- What the strict check answers, which tables it is meant to accept, and what its loop leaves.
 pub mod Strict
 pub mod Accepts
+pub mod Run

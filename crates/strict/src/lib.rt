@@ -1,10 +1,24 @@
-// The strict check: a walk that stops at the first fault.
+// The strict check: a walk that stops at the first fault. A map of units tells in one step whether an entry was listed before, and in a few whether it
+// stands on one that was.
+use layout_name::Order;
+use layout_node::Header;
+use read_entry::Read;
+use units::Link;
 use units::Offset;
 use units::Region;
 use units::Sector;
 ghost use mathlib.Core.Path.{_≡_};
-ghost use lib.ListN.{length};
-ghost use Rattle.strict.specs.Strict.{told, strictAnswer, listAfter, scratchAfter};
+ghost use mathlib.Core.List.{List, [], _∷_};
+ghost use mathlib.Core.Option.{Option};
+ghost use Prim.Native.Nat.{ℕ, _+_, _-_, _*_, _/_, _%_, _≤_, _<_};
+ghost use lib.Dec.{eqb};
+ghost use lib.ListN.{length, replicate};
+ghost use Rattle.units.specs.Told.{Told};
+ghost use Rattle.layout_name.specs.Order.{nameOrder};
+ghost use Rattle.read_entry.specs.Entry.{Placed, readAt};
+ghost use Rattle.strict_map.specs.Map.{Marked};
+ghost use Rattle.strict.specs.Strict.{endOf, nameBy, placed, isLess, lessThan, moreThan, nameAt, ordered, verdictAt, root, strictFrom, told, strictAnswer, listAfter, scratchAfter};
+ghost use Rattle.strict.specs.Run.{boundOf, visitOf, Pushed, Entered, Mapped, Judged, keptOf, Runs};
 
 // What the strict check answers.
 pub enum Checked {
@@ -21,4 +35,243 @@ pub enum Checked {
     Shared(Offset),
     OutOfOrder(Offset),
     BadPlace(Offset),
+}
+
+// No fault in an entry, or the answer that its fault is.
+enum Verdict {
+    Good,
+    Bad(Checked),
+}
+
+// One name is less than another.
+fn is_less(a: &[u8], b: &[u8]) -> bool
+    ensures { λ r. ⌜ r ≡ isLess (nameOrder (now (a .entry)) (now (b .entry))) ⌝ }
+{
+    match layout_name::compare(a, b) {
+        Order::Less => true,
+        Order::Equal => false,
+        Order::Greater => false,
+    }
+}
+
+// The name of the entry at an offset, as that part of the window; where there is none, nothing.
+fn name_at(w: &[u8], first: Sector, table: Region, o: Offset) -> &[u8]
+    ensures { λ r. ⌜ now r ≡ nameBy (now (w .entry)) (readAt (now (w .entry)) first table (o .0)) ⌝ }
+{
+    match read_entry::read_at(w, first, table, o) {
+        Read::Entry(h, at) => read_entry::name_of(w, at, h.name_len),
+        Read::Nothing => &w[..0],
+        Read::OutOfBounds(_) => &w[..0],
+        Read::Truncated(_) => &w[..0],
+    }
+}
+
+// The name is less than that of the entry at a link, if there is one.
+fn is_under(w: &[u8], first: Sector, table: Region, name: &[u8], l: Link) -> bool
+    ensures { λ r. ⌜ r ≡ lessThan (now (name .entry)) (nameAt (now (w .entry)) (readAt (now (w .entry)) first table) (boundOf (l .0))) ⌝ }
+{
+    let n = l.number();
+    if n == 0xffff {
+        return true;
+    }
+    is_less(name, name_at(w, first, table, l.offset()))
+}
+
+// The name is greater than that of the entry at a link, if there is one.
+fn is_over(w: &[u8], first: Sector, table: Region, name: &[u8], l: Link) -> bool
+    ensures { λ r. ⌜ r ≡ moreThan (now (name .entry)) (nameAt (now (w .entry)) (readAt (now (w .entry)) first table) (boundOf (l .0))) ⌝ }
+{
+    let n = l.number();
+    if n == 0xffff {
+        return true;
+    }
+    is_less(name_at(w, first, table, l.offset()), name)
+}
+
+// The name stands to its parent's as the visit asks.
+fn is_ordered(w: &[u8], first: Sector, table: Region, c: u64, name: &[u8]) -> bool
+    ensures { λ r. ⌜ r ≡ ordered (now (w .entry)) (readAt (now (w .entry)) first table) (visitOf c) (now (name .entry)) ⌝ }
+{
+    let under = Link::new((c / 65536 % 65536) as u16);
+    let over = Link::new((c / 4294967296 % 65536) as u16);
+    if is_under(w, first, table, name, under) {
+        is_over(w, first, table, name, over)
+    } else {
+        false
+    }
+}
+
+// An entry at a link is inside the table, over no sector line, and over no entry that is marked on the map.
+fn is_placed(table: Region, map: &[u8; 65604], l: Link, h: Header) -> bool
+    ensures { λ r. ⌜ ((f : ℕ → Told (Option Placed)) (seen : List ℕ) → Mapped f seen (now (map .entry)) → r ≡ placed f (table .size) (4 * l .0) (endOf h (4 * l .0)) seen) ⌝ }
+{
+    let from = l.offset();
+    let o = from.number();
+    let e = o + layout_node::entry_length(h.name_len);
+    let size = table.size;
+    if size < e {
+        return false;
+    }
+    if o / 2048 != (e - 1) / 2048 {
+        return false;
+    }
+    strict_map::is_free(map, (o / 4) as usize, (e / 4) as usize)
+}
+
+// An entry at a link marked on the map.
+fn mark_entry(map: &mut [u8; 65604], l: Link, h: Header)
+    requires { ⌜ length (now map) ≡ 65604 ⌝ }
+    ensures { λ _. ⌜ (Marked (now (map .entry)) (l .0) (endOf h (4 * l .0) / 4) (now (map .exit))) × (endOf h (4 * l .0) / 4 ≤ 65604) ⌝ }
+{
+    let from = l.offset();
+    let o = from.number();
+    let e = o + layout_node::entry_length(h.name_len);
+    strict_map::mark(map, (o / 4) as usize, (e / 4) as usize);
+}
+
+// The first fault of an entry that is read at a visit, with `left` places left in the list.
+fn judge(
+    w: &[u8],
+    first: Sector,
+    table: Region,
+    map: &[u8; 65604],
+    left: usize,
+    c: u64,
+    h: Header,
+    at: usize,
+) -> Verdict
+    ensures { λ r. ⌜ ((seen : List ℕ) → Mapped (readAt (now (w .entry)) first table) seen (now (map .entry)) → Judged r (verdictAt (now (w .entry)) (readAt (now (w .entry)) first table) (table .size) seen (eqb left 0) (visitOf c) (record { header = h; place = at }))) ⌝ }
+{
+    let l = Link::new((c % 65536) as u16);
+    let o = l.offset();
+    if strict_map::is_start(map, (c % 65536) as usize) {
+        return Verdict::Bad(Checked::Shared(o));
+    }
+    if left == 0 {
+        return Verdict::Bad(Checked::WalkFull);
+    }
+    if is_placed(table, map, l, h) {
+        if is_ordered(w, first, table, c, read_entry::name_of(w, at, h.name_len)) {
+            return Verdict::Good;
+        }
+        return Verdict::Bad(Checked::OutOfOrder(o));
+    }
+    Verdict::Bad(Checked::BadPlace(o))
+}
+
+// A link on the stack with the rest of its number: 0 and 0xffff are absent. The answer is the stack's new height.
+fn push_link(scratch: &mut [u64], top: usize, l: Link, rest: u64) -> usize
+    requires { ⌜ (top < length (now scratch)) × (rest < 4294967296) ⌝ }
+    ensures { λ r. ⌜ Pushed (l .0) rest (now (scratch .entry)) top (now (scratch .exit)) r ⌝ }
+{
+    let n = l.number();
+    if n == 0 {
+        return top;
+    }
+    if n == 0xffff {
+        return top;
+    }
+    scratch[top] = (n as u64) + 65536 * rest;
+    top + 1
+}
+
+// The children of the entry at a visit on the stack, the left one on top: its name must be less than the entry's, the right one's greater.
+fn push_links(scratch: &mut [u64], top: usize, c: u64, h: Header) -> usize
+    requires { ⌜ (top + 1 < length (now scratch)) × (c % 65536 < 65535) ⌝ }
+    ensures { λ r. ⌜ Entered (visitOf c) h (now (scratch .entry)) top (now (scratch .exit)) r ⌝ }
+{
+    let k = c % 65536;
+    let right = h.right;
+    let left = h.left;
+    let t = push_link(scratch, top, right, 65535 + 65536 * k);
+    push_link(scratch, t, left, k + 4294901760)
+}
+
+// The check itself. What it leaves in the list past its count, and in the scratch, is cleared by the caller.
+fn run(w: &[u8], first: Sector, table: Region, list: &mut [u32], scratch: &mut [u64]) -> Checked
+    requires { ⌜ length (now list) < length (now scratch) ⌝ }
+    ensures { λ r. ⌜ Runs (strictFrom (now (w .entry)) (readAt (now (w .entry)) first table) (table .size) (length (now (list .entry))) [] (root ∷ [])) r (now (list .exit)) ⌝ }
+{
+    let mut map = [0u8; 65604];
+    // The root: link 0, and 0xffff twice.
+    scratch[0] = 281474976645120;
+    let mut top: usize = 1;
+    let mut n: usize = 0;
+    while 0 < top {
+        top -= 1;
+        let c = scratch[top];
+        let l = Link::new((c % 65536) as u16);
+        let o = l.offset();
+        match read_entry::read_at(w, first, table, o) {
+            Read::Entry(h, at) => match judge(w, first, table, &map, list.len() - n, c, h, at) {
+                Verdict::Good => {
+                    list[n] = o.number();
+                    n += 1;
+                    mark_entry(&mut map, l, h);
+                    top = push_links(scratch, top, c, h);
+                }
+                Verdict::Bad(a) => return a,
+            },
+            Read::Nothing => {}
+            Read::OutOfBounds(p) => return Checked::OutOfBounds(p),
+            Read::Truncated(p) => return Checked::Truncated(p),
+        }
+    }
+    Checked::Done(n)
+}
+
+// How many places of the list an answer keeps.
+fn kept(r: Checked) -> usize
+    ensures { λ n. ⌜ n ≡ keptOf r ⌝ }
+{
+    match r {
+        Checked::Done(n) => n,
+        Checked::Room => 0,
+        Checked::OutOfBounds(_) => 0,
+        Checked::Truncated(_) => 0,
+        Checked::WalkFull => 0,
+        Checked::Shared(_) => 0,
+        Checked::OutOfOrder(_) => 0,
+        Checked::BadPlace(_) => 0,
+    }
+}
+
+// All zeros.
+fn clear_all(s: &mut [u64])
+    ensures { λ _. ⌜ now (s .exit) ≡ replicate (length (now (s .entry))) 0 ⌝ }
+{
+    let mut i = 0;
+    while i < s.len() {
+        s[i] = 0;
+        i += 1;
+    }
+}
+
+// The strict check of a table: where it finds no fault, the offsets of its entries in walk order in the list, and zeros past them; else the first fault, and a
+// list of zeros. The scratch is all zero after it. Where the scratch is not longer than the list, all is unchanged.
+pub fn check_table(
+    w: &[u8],
+    first: Sector,
+    table: Region,
+    list: &mut [u32],
+    scratch: &mut [u64],
+) -> Checked
+    ensures { λ r. ⌜ told r ≡ strictAnswer (now (w .entry)) first table (length (now (list .entry))) (length (now (scratch .entry))) ⌝ }
+    ensures { λ _. ⌜ now (list .exit) ≡ listAfter (now (w .entry)) first table (now (list .entry)) (length (now (scratch .entry))) ⌝ }
+    ensures { λ _. ⌜ now (scratch .exit) ≡ scratchAfter (length (now (list .entry))) (now (scratch .entry)) ⌝ }
+{
+    if scratch.len() <= list.len() {
+        return Checked::Room;
+    }
+    let size = table.size;
+    if size == 0 {
+        read_walk::clear_from(list, 0);
+        clear_all(scratch);
+        return Checked::Done(0);
+    }
+    let r = run(w, first, table, list, scratch);
+    let n = kept(r);
+    read_walk::clear_from(list, n);
+    clear_all(scratch);
+    r
 }

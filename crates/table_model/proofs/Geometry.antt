@@ -2,12 +2,14 @@
 use Prim.Native.Nat.{ℕ, _+_, _-_, _*_, _/_, _%_, _≤_, _<_}
 use mathlib.Core.Path.{_≡_, refl, sym, ap, ap₂, _∙_}
 use mathlib.Core.Bool.{Bool, true, false}
-use mathlib.Core.List.{List, [], _∷_, _++_, map}
+use mathlib.Core.Logic.{_⊎_, inl, inr}
+use mathlib.Core.List.{List, [], _∷_, _++_, map, map-append, List·Memᴰ, List·Memᴰ·not-nil, List·Memᴰ·cases-cons}
 use native.Mathlib.Omega.{arith}
 use lib.ListN.{length, length-append}
 use Rattle.layout_sector.specs.Counter.{sectorsFor, alignedUp}
 use Rattle.avl_model.specs.Tree.{Tree, leaf, node}
 use Rattle.avl_model.specs.Laws.{All, size}
+use Rattle.avl_model.specs.Order.{order}
 use Rattle.table_model.specs.Entry.{Entry, Item, lengthOf}
 use Rattle.table_model.specs.Place.{startOf, stopOf, endOf, freeAfter, freeOf, linkTo, itemOf, items}
 use Rattle.table_model.specs.Table.{stop, sizeOf}
@@ -36,6 +38,15 @@ all-left P (x ∷ xs) ys a = (a .0, all-left P xs ys (a .1))
 pub all-right : (P : Item → Type 0) (xs ys : List Item) → AllIn P (xs ++ ys) → AllIn P ys
 all-right P [] ys a = a
 all-right P (x ∷ xs) ys a = all-right P xs ys (a .1)
+
+-- what is said of every item is said of one of them
+pub of-item : (P : Item → Type 0) (xs : List Item) (y : Item) → AllIn P xs → List·Memᴰ y xs → P y
+of-item P [] y a m = absurd (List·Memᴰ·not-nil m)
+of-item P (x ∷ xs) y a m = go (List·Memᴰ·cases-cons m) (λ k. of-item P xs y (a .1) k)
+  where
+    go : (y ≡ x) ⊎ List·Memᴰ y xs → (List·Memᴰ y xs → P y) → P y
+    go (inl e) ih = rw e (a .0)
+    go (inr k) ih = ih k
 
 -- no two of one list overlap, nor of another, and the first list is before the second: no two of both overlap. `from` and `to` say where an item starts
 -- and ends, by its bytes or by its sectors
@@ -149,6 +160,18 @@ module _ (entry : ℕ → Entry) (align : ℕ) where
   unfolding items
   link-first leaf e s = refl
   link-first (node l i r) e s = refl
+
+  -- the items' entries are those of the tree's numbers in preorder
+  pub items-entries : (t : Tree) (e s : ℕ) → map (λ (y : Item). y .entry) (items entry align e s t) ≡ map entry (order t)
+  unfolding items
+  items-entries leaf e s = refl
+  items-entries (node l i r) e s =
+      let e₁ : ℕ = stopOf entry e i in
+      let s₁ : ℕ = freeAfter entry align s i in
+      ap (λ (z : List Entry). entry i ∷ z)
+      (map-append (λ (y : Item). y .entry) (items entry align e₁ s₁ l) (items entry align (endOf entry e₁ l) (freeOf entry align s₁ l) r)
+      ∙ ap₂ _++_ (items-entries l e₁ s₁) (items-entries r (endOf entry e₁ l) (freeOf entry align s₁ l))
+      ∙ sym (map-append entry (order l) (order r)))
 
   -- an item for each node
   pub items-length : (t : Tree) (e s : ℕ) → length (items entry align e s t) ≡ size t

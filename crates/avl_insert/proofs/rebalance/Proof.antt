@@ -3,7 +3,7 @@
 use borrow.Author.Needs.{needs}
 use native.Mathlib.Omega.{arith}
 use mathlib.Core.Path.{_≡_, refl, _∙_}
-use mathlib.Core.Logic.{inl, inr}
+use mathlib.Core.Logic.{inl}
 use lib.ListN.{length}
 use Rattle.avl_model.specs.Lists.{lists}
 use Rattle.avl_model.specs.Tree.{bal}

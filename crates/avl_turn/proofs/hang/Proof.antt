@@ -1,5 +1,4 @@
 -- `hang` meets its contract: `cc` from what `place_of`, `put` and `index` ensure.
-use mathlib.Core.Path.{refl}
 use lib.ListN.{getD, set}
 use borrow.Author.Needs.{needs}
 use Rattle.avl_turn.proofs.hang.Statement.{statement}

@@ -1,6 +1,6 @@
 -- `put` meets its contract. What a `match` arm knows is that the place is `Left p`, with p's index; past the end `set` changes nothing.
 use Prim.Native.Nat.{ℕ}
-use mathlib.Core.Path.{refl, sym, ap, _∙_}
+use mathlib.Core.Path.{sym, ap, _∙_}
 use lib.ListN.{set}
 use lib.Seq.{set-out}
 use Rattle.avl_model.proofs.Placed.{at-place}

@@ -1,0 +1,62 @@
+//! Three readers behind one set of answers: `ours` (this repository's proved code), `theirs` (the Rust original) and `plain` (written from
+//! document 01 for this harness alone, to know beforehand where the Rust would never return).
+pub mod inputs;
+pub mod ours;
+pub mod plain;
+pub mod theirs;
+
+/// A window: bytes, and the number of the sector that they start with.
+#[derive(Clone, Copy)]
+pub struct View<'a> {
+    pub bytes: &'a [u8],
+    pub first: u32,
+}
+
+/// Where a table stands on the image.
+#[derive(Clone, Copy, Debug, PartialEq, Eq)]
+pub struct Table {
+    pub sector: u32,
+    pub size: u32,
+}
+
+/// The fields of an entry, with the byte of the image at which it starts.
+#[derive(Clone, Copy, Debug, PartialEq, Eq)]
+pub struct Entry {
+    pub byte: u64,
+    pub left: u16,
+    pub right: u16,
+    pub sector: u32,
+    pub size: u32,
+    pub attributes: u8,
+    pub name_len: u8,
+}
+
+/// An answer, by document 01's numbers. What a reader does not say is None.
+#[derive(Clone, Debug, PartialEq, Eq)]
+pub enum Said {
+    Found { entry: Entry, headers: Option<u32> },
+    Refused { number: u32, byte: Option<u64>, headers: Option<u32> },
+    Listed(Vec<u32>),
+    Panicked,
+}
+
+impl Said {
+    pub fn refused(number: u32) -> Said {
+        Said::Refused { number, byte: None, headers: None }
+    }
+
+    /// Equal as far as both say.
+    pub fn agrees(&self, other: &Said) -> bool {
+        fn same<T: PartialEq>(a: &Option<T>, b: &Option<T>) -> bool {
+            a.is_none() || b.is_none() || a == b
+        }
+        match (self, other) {
+            (Said::Found { entry: e, headers: h }, Said::Found { entry: f, headers: i }) => e == f && same(h, i),
+            (Said::Refused { number: n, byte: b, headers: h }, Said::Refused { number: m, byte: c, headers: i }) => {
+                n == m && same(b, c) && same(h, i)
+            }
+            (Said::Listed(a), Said::Listed(b)) => a == b,
+            _ => false,
+        }
+    }
+}

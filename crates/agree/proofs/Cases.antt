@@ -1,0 +1,151 @@
+-- The starred cases hold, computed. Assumes nothing.
+use Prim.Native.Nat.{ℕ, zero, suc, _+_, _*_, _/_, _≤_, _<_}
+use mathlib.Core.Path.{_≡_, refl, sym, ap, _∙_}
+use mathlib.Core.List.{List, [], _∷_, map, append-nil}
+use native.Mathlib.Omega.{arith}
+use lib.ListN.{length}
+use Rattle.layout_bytes.specs.Bytes.{all}
+use Rattle.layout_name.specs.Order.{raised, numberOrder, listOrder, orderBy, nameOrder}
+use Rattle.layout_node.specs.Header.{headerOf, headerBytes, isBlank}
+use Rattle.layout_sector.specs.Counter.{sectorsFor}
+use Rattle.dirtab_entry.specs.Entry.{anyBad, checkOf}
+use Rattle.read_entry.specs.Entry.{readHere, readAt, nameOf}
+use Rattle.read_entry.specs.Links.{isIn}
+use Rattle.read_lookup.specs.Lookup.{byLink, stepAt, chainFrom, anyHigh, lookupBy}
+use Rattle.read_walk.specs.Walk.{push, toEntry, walkFrom, walkOf}
+use Rattle.avl_model.specs.Tree.{bal}
+use Rattle.avl_model.specs.Laws.{least}
+use Rattle.table_model.specs.Entry.{entryBytes}
+use Rattle.table_model.specs.Place.{startAfter, endOf, freeOf, items}
+use Rattle.table_model.specs.Table.{anyFar, bytesFrom, sizeOf, tableBytes, placeOf}
+use Rattle.table_model.specs.Said.{Stands}
+use Rattle.table_model.proofs.Geometry.{of-item, inside, never-262140}
+use Rattle.table_model.proofs.Placing.{place-seven}
+use Rattle.agree.specs.Agreement.{Same}
+use Rattle.agree.specs.Given.{Given, Good, numbered, grown, WrittenList}
+use Rattle.agree.specs.Cases.{a, b, c, bytesOf, regionOf, starred, Each, Starred}
+
+computed : Each starred
+unfolding grown bal items endOf freeOf startAfter sectorsFor tableBytes bytesFrom entryBytes headerBytes raised numberOrder listOrder orderBy nameOrder least anyBad checkOf walkOf walkFrom toEntry push readAt readHere isBlank all headerOf nameOf isIn lookupBy anyHigh chainFrom stepAt byLink
+computed = (
+  (refl, refl),
+  (
+    refl,
+    (
+      refl,
+      (
+        (refl, refl),
+        (
+          refl,
+          (
+            (refl, refl),
+            (
+              refl,
+              (
+                refl,
+                (
+                  refl,
+                  (
+                    (refl, refl),
+                    (
+                      refl,
+                      (
+                        refl,
+                        (
+                          refl,
+                          (
+                            refl,
+                            (
+                              refl,
+                              (
+                                refl,
+                                (
+                                  refl,
+                                  (
+                                    refl,
+                                    (
+                                      refl,
+                                      (
+                                        refl,
+                                        (
+                                          refl,
+                                          (
+                                            refl,
+                                            (
+                                              refl,
+                                              (
+                                                refl,
+                                                (refl, (refl, tt)),
+                                              ),
+                                            ),
+                                          ),
+                                        ),
+                                      ),
+                                    ),
+                                  ),
+                                ),
+                              ),
+                            ),
+                          ),
+                        ),
+                      ),
+                    ),
+                  ),
+                ),
+              ),
+            ),
+          ),
+        ),
+      ),
+    ),
+  ),
+)
+
+-- THE STARRED CASES
+pub cases : Starred
+cases = record {
+  computed = computed;
+  link-65532 = λ entry align s x y m e. (ap (λ (o : ℕ). o / 4) e, omega arith);
+  seven = λ entry align s x y m e. place-seven entry align s x y m (omega arith);
+  never = λ entry align s x f y m e.
+      never-262140 0 (sizeOf entry x) y (of-item (Stands 0 (sizeOf entry x)) (items entry align 0 s x) y (inside entry align x s f) m) e;
+}
+
+-- WHAT THE THEOREMS SUPPOSE CAN BE MET: by the table of `a`, `b`, `c`, that stands at sector 33 in a window of its bytes
+abbrev abc : List Given
+abc = a ∷ b ∷ c ∷ []
+
+abc-good : (i : ℕ) → i < 3 → Good (numbered abc i)
+unfolding anyBad
+abc-good zero h = record { some = omega arith; short = omega arith; ascii = refl; small = omega arith; roundable = λ e. omega arith }
+abc-good (suc zero) h = record { some = omega arith; short = omega arith; ascii = refl; small = omega arith; roundable = λ e. omega arith }
+abc-good (suc (suc zero)) h = record { some = omega arith; short = omega arith; ascii = refl; small = omega arith; roundable = λ e. omega arith }
+abc-good (suc (suc (suc i))) h = absurd (omega arith)
+
+abc-raised : (i : ℕ) → i < 3 → map raised (numbered abc i .name) ≡ (65 + i) ∷ []
+unfolding raised
+abc-raised zero h = refl
+abc-raised (suc zero) h = refl
+abc-raised (suc (suc zero)) h = refl
+abc-raised (suc (suc (suc i))) h = absurd (omega arith)
+
+abc-differ : (i j : ℕ) → i < 3 → j < 3 → Same (numbered abc i .name) (numbered abc j .name) → i ≡ j
+abc-differ i j h k e =
+    let same : (65 + i) ∷ [] ≡ (65 + j) ∷ [] = sym (abc-raised i h) ∙ e ∙ abc-raised j k in
+    let first : 65 + i ≡ 65 + j = cc in
+    omega arith
+
+pub abc-written : WrittenList 1 34 abc (bytesOf abc 34) (record { 0 = 33 }) (regionOf abc)
+unfolding placeOf anyFar grown bal items endOf freeOf startAfter sectorsFor raised numberOrder listOrder orderBy nameOrder
+abc-written = record {
+  admitted = record {
+    aligned = omega arith;
+    few = omega arith;
+    good = abc-good;
+    differ = abc-differ;
+    placing = record { size = 48; free = 37 };
+    placed = refl;
+  };
+  stand = record { place = 0; at-sector = refl; rest = []; here = sym (append-nil (bytesOf abc 34)) };
+  sized = refl;
+}

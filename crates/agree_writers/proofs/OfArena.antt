@@ -1,0 +1,137 @@
+-- WHAT SERIALISING AN ARENA LEAVES, where it answers a size, is what is listed and found. Assumes nothing.
+use Prim.Native.Nat.{ℕ, zero, suc, _+_, _≤_, _<_}
+use mathlib.Core.Path.{_≡_, refl, sym, ap, subst, _∙_}
+use mathlib.Core.Bool.{Bool, true, false, _&&_}
+use mathlib.Core.List.{List, [], _∷_, _++_}
+use native.Mathlib.Omega.{arith}
+use native.Mathlib.Decide.{ℕ-discrete}
+use lib.Dec.{leb}
+use lib.ListN.{length, getD, drop}
+use Rattle.units.specs.Told.{Told, gives, refuses, pick}
+use Rattle.units.specs.declared.Sector.{Sector}
+use Rattle.units.specs.declared.Region.{Region}
+use Rattle.dirtab_entry.specs.Entry.{rounded, checkOf}
+use Rattle.read_entry.specs.Links.{isIn, lookupAbsent}
+use Rattle.avl_model.specs.Tree.{Tree, cnt}
+use Rattle.avl_model.specs.Laws.{All, Ordered}
+use Rattle.avl_model.specs.Names.{toName}
+use Rattle.avl_model.specs.Order.{order}
+use Rattle.avl_model.proofs.Avl.{all-map}
+use Rattle.avl_model.proofs.Counted.{all-below, rep-below}
+use Rattle.avl_arena.specs.Test.{every, holdsTree, decoded}
+use Rattle.avl_arena.specs.HeldTree.{HeldTree}
+use Rattle.avl_arena.proofs.Tested.{and-l, and-r}
+use Rattle.avl_arena.proofs.Sound.{sound}
+use Rattle.avl_model.specs.Held.{arrOf}
+use Rattle.table_model.specs.Entry.{Entry, Item}
+use Rattle.table_model.specs.Place.{items}
+use Rattle.table_model.specs.Table.{Placing, tableBytes, placeOf}
+use Rattle.table_model.specs.Said.{Fits}
+use Rattle.table_model.proofs.Geometry.{items-entries}
+use Rattle.table_model.proofs.Placing.{size-given}
+use Rattle.dirtab_arena.specs.Arena.{Arena, listsOf, namesOf, givenAt, entryAt, isGiven, isTaken, isArena, treeOf}
+use Rattle.dirtab.specs.Serialise.{scratchFits, ifFits, serialiseOf, ifWritten, outAfter}
+use Rattle.strict.specs.Strict.{strictOf}
+use Rattle.agree.specs.Written.{Before, Written}
+use Rattle.agree.specs.Agreement.{offsets, Agreement}
+use Rattle.agree.specs.Given.{EachOnce}
+use Rattle.agree.proofs.Agrees as agrees
+use Rattle.agree.proofs.Plain.{lookup-0}
+use Rattle.agree.proofs.FromList.{times-order}
+use Rattle.agree_strict.proofs.Passes.{written-passes}
+use Rattle.agree_writers.specs.Wrote.{WroteArena}
+use Rattle.agree_writers.proofs.Checks.{name-short, size-small, first-stand, fits-gives}
+
+-- a test of each number below n, of one of them
+every-at : (f : ℕ → Bool) (n j : ℕ) → every f n ≡ true → j < n → f j ≡ true
+every-at f zero j e h = absurd (omega arith)
+every-at f (suc n) j e h = elim (ℕ-discrete n j) [
+  | yes q ↦ subst (λ (m : ℕ). f m ≡ true) q (and-r (every f n) _ e)
+  | no q ↦ every-at f n j (and-l (every f n) _ e) (omega arith)
+]
+
+given-is : (a : Told (Unit {0})) → isGiven a ≡ true → a ≡ gives tt
+given-is (gives u) e = refl
+given-is (refuses k vs) e = let z : _≡_ {A = ℕ} 0 1 = cc in absurd (omega arith)
+
+-- what serialising's answer rests on
+if-arena : (b d : Bool) (x : Told Placing) (p : Placing) → pick b (pick d x (refuses 6 [])) (refuses 12 []) ≡ gives p → (b ≡ true) × (x ≡ gives p)
+if-arena true true x p e = (refl, e)
+if-arena true false x p e = let z : _≡_ {A = ℕ} 0 1 = cc in absurd (omega arith)
+if-arena false d x p e = let z : _≡_ {A = ℕ} 0 1 = cc in absurd (omega arith)
+
+module _ (A : Arena) (held : isArena A ≡ true) where
+  tests : (holdsTree (listsOf A) (namesOf A) (A .count) ≡ true) × (every (isTaken A) (A .count) ≡ true)
+  unfolding isArena
+  tests =
+      let e₁ = and-r (leb (A .count) (length (A .columns .size))) _ held in
+      let e₂ = and-r (leb (A .count) (length (A .columns .kind))) _ e₁ in
+      (and-l (holdsTree (listsOf A) (namesOf A) (A .count)) _ e₂, and-r (holdsTree (listsOf A) (namesOf A) (A .count)) _ e₂)
+
+  tree-held : HeldTree (listsOf A) (namesOf A) (A .count) (treeOf A)
+  tree-held = sound (listsOf A) (namesOf A) (A .count) (tests .0)
+
+  below : All (λ i. i < A .count) (treeOf A)
+  below = rep-below (arrOf (listsOf A)) (A .count) _ (treeOf A) (tree-held .rep)
+
+  checked : (i : ℕ) → i < A .count → checkOf (A .bytes) (givenAt A i) ≡ gives tt
+  unfolding isTaken
+  checked i h = given-is (checkOf (A .bytes) (givenAt A i)) (every-at (isTaken A) (A .count) i (tests .1) h)
+
+  ordered : Ordered (Before (entryAt A)) (treeOf A)
+  unfolding toName
+  ordered = tree-held .ordered
+
+  fits : ((i : ℕ) → getD (A .columns .size) i 0 ≤ 4294967295) → All (λ i. Fits (entryAt A i)) (treeOf A)
+  fits sizes =
+      all-map (λ i. i < A .count) (λ i. Fits (entryAt A i)) (treeOf A)
+      (λ i h. record {
+        short = name-short (A .bytes) (givenAt A i) (checked i h);
+        small = size-small (A .bytes) (givenAt A i) (checked i h) (sizes i);
+      })
+      below
+
+  -- each held entry is once among the items
+  pub arena-each : (s : ℕ) → EachOnce (entryAt A) (A .count) (items (entryAt A) 1 0 s (treeOf A))
+  arena-each s = record {
+    numbers = order (treeOf A);
+    entries = items-entries (entryAt A) 1 (treeOf A) 0 s;
+    once = λ i h. times-order i (treeOf A) ∙ tree-held .each i h;
+    others = λ i h. times-order i (treeOf A) ∙ all-below (A .count) (treeOf A) i below h;
+  }
+
+module _ (A : Arena) (s n m : ℕ) (out : List ℕ) (p : Placing) (w : List ℕ) (first : Sector) (t : Region) (g : WroteArena A s n m out p w first t) where
+  told : (isArena A ≡ true) × (ifFits (length out) (placeOf (entryAt A) 1 s (treeOf A)) ≡ gives p)
+  unfolding serialiseOf
+  told = if-arena (isArena A) (scratchFits A n m) _ p (g .answer)
+
+  placed : placeOf (entryAt A) 1 s (treeOf A) ≡ gives p
+  placed = fits-gives ifFits (λ k q. refl) (λ k j vs. refl) (length out) (placeOf (entryAt A) 1 s (treeOf A)) p (told .1)
+
+  bytes-are : outAfter A s n m out ≡ tableBytes (entryAt A) 1 s (treeOf A) ++ drop (rounded (p .size)) out
+  unfolding outAfter
+  bytes-are = rw (g .answer)
+
+  -- the arena's tree was written
+  pub arena-wrote : Written (entryAt A) 1 s (treeOf A) w first t
+  arena-wrote = record {
+    writable = record {
+      aligned = omega arith;
+      fits = fits A (told .0) (g .sizes);
+      ordered = ordered A (told .0);
+      balanced = tree-held A (told .0) .balanced;
+      placing = p;
+      placed = placed;
+    };
+    stand = first-stand w first (t .sector) _ (drop (rounded (p .size)) out) _ bytes-are (g .stand);
+    sized = g .sized ∙ size-given (entryAt A) 1 s (treeOf A) p placed;
+  }
+
+  -- DEMAND 3 OF WHAT IS WRITTEN: reading finds the held entries
+  pub arena-agrees : Agreement lookupAbsent w first t (g .stand .place) (items (entryAt A) 1 0 s (treeOf A))
+  unfolding arena-wrote first-stand
+  arena-agrees = agrees.agreement lookupAbsent lookup-0 (entryAt A) 1 s (treeOf A) w first t arena-wrote
+
+  -- and it passes the strict check, which lists the same
+  pub arena-strict : (room : ℕ) → A .count ≤ room → strictOf w first t room ≡ gives (offsets (items (entryAt A) 1 0 s (treeOf A)))
+  arena-strict room h = written-passes (entryAt A) 1 s (treeOf A) w first t arena-wrote room (omega (arith, tree-held A (told .0) .size-is))

@@ -1,0 +1,2 @@
+-- Turns of the loops over a map of units.
+pub mod Turn

@@ -1,0 +1,47 @@
+// A map of four-byte units, for the strict check: a mark for each unit, 1 where an entry starts, 2 on its other units, 0 where none stands.
+// A link reaches unit 65,535 and an entry has at most 68 units, so 65,604 units are enough.
+ghost use mathlib.Core.Path.{_≡_};
+ghost use Prim.Native.Nat.{_≤_, _<_};
+ghost use lib.Dec.{eqb};
+ghost use lib.ListN.{length, getD};
+ghost use Rattle.strict_map.specs.Map.{Tested, Marked};
+
+// An entry starts at the unit.
+pub fn is_start(map: &[u8; 65604], unit: usize) -> bool
+    requires { ⌜ unit < 65604 ⌝ }
+    ensures { λ r. ⌜ r ≡ eqb (getD (now (map .entry)) unit 0) 1 ⌝ }
+{
+    map[unit] == 1
+}
+
+// The last unit and every fourth from the first are free: no entry of four units or more stands on any between them.
+pub fn is_free(map: &[u8; 65604], from: usize, to: usize) -> bool
+    requires { ⌜ (from < to) × (to ≤ 65604) ⌝ }
+    ensures { λ r. ⌜ Tested (now (map .entry)) from to r ⌝ }
+{
+    let last = map[to - 1];
+    if last != 0 {
+        return false;
+    }
+    let mut i = from;
+    while i < to {
+        if map[i] != 0 {
+            return false;
+        }
+        i += 4;
+    }
+    true
+}
+
+// An entry marked on its units.
+pub fn mark(map: &mut [u8; 65604], from: usize, to: usize)
+    requires { ⌜ (from < to) × (to ≤ 65604) × (length (now map) ≡ 65604) ⌝ }
+    ensures { λ _. ⌜ Marked (now (map .entry)) from to (now (map .exit)) ⌝ }
+{
+    map[from] = 1;
+    let mut i = from + 1;
+    while i < to {
+        map[i] = 2;
+        i += 1;
+    }
+}
