@@ -106,7 +106,7 @@ fn write_listed(
 }
 
 // The table of the tree below the root.
-fn write_held(
+pub fn write_held(
     tree: Held,
     left: &[u16],
     right: &[u16],
@@ -142,7 +142,7 @@ fn write_held(
 }
 
 // Zero everywhere.
-fn clear(s: &mut [u16])
+pub fn clear(s: &mut [u16])
     ensures { λ _. ⌜ now (s .exit) ≡ replicate (length (now (s .entry))) 0 ⌝ }
 {
     let mut i = 0;

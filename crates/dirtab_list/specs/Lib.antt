@@ -1,3 +1,4 @@
 -- What writing a whole list answers.
 pub mod Grow
 pub mod Whole
+pub mod Steps

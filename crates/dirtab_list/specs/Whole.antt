@@ -1,35 +1,21 @@
 -- Writing a whole list as a table: 6, then adding's refusals entry by entry, then 7, 8, 9. Assumes nothing.
-use Prim.Native.Nat.{ℕ}
+use Prim.Native.Nat.{ℕ, min}
 use mathlib.Core.Bool.{Bool, _&&_}
-use mathlib.Core.List.{List, [], _∷_, _++_}
+use mathlib.Core.List.{List, [], _∷_}
 use lib.Dec.{leb}
-use lib.ListN.{length, getD, drop, replicate}
+use lib.ListN.{length, getD, replicate}
 use Rattle.units.specs.Told.{Told, gives, refuses, pick}
-use Rattle.dirtab_entry.specs.declared.Entry as given
-use Rattle.dirtab_entry.specs.Entry.{rounded, kindFor, storedSize, nameIn}
+use Rattle.dirtab_entry.specs.Entry.{kindFor, storedSize, nameIn}
 use Rattle.avl_model.specs.Tree.{Tree}
 use Rattle.table_model.specs.Entry.{Entry}
 use Rattle.table_model.specs.Table.{Placing, placeOf, tableBytes}
+pub use Rattle.dirtab.specs.Serialise.{ifFits, ifWritten}
 use Rattle.dirtab_list.specs.declared.ListWritten.{ListWritten}
 use Rattle.dirtab_list.specs.declared.ListWritten.the-variants as written
-use Rattle.dirtab_list.specs.Grow.{grow}
+pub use Rattle.dirtab_grow.specs.Listing.{Listing, listing, givenIn}
+use Rattle.dirtab_grow.specs.Grow.{grow}
 
--- a list of entries in columns: how many they are, where each name starts and how long it is in the bytes lent for names, size and kind
-pub record Listing : Type 0 where
-  pub count : ℕ
-  pub start : List ℕ
-  pub len : List ℕ
-  pub size : List ℕ
-  pub kind : List ℕ
-  pub bytes : List ℕ
-
-abbrev pub listing : ℕ → List ℕ → List ℕ → List ℕ → List ℕ → List ℕ → Listing
-listing n a l z k b = record { count = n; start = a; len = l; size = z; kind = k; bytes = b }
-
--- entry i as it is given, and as a table has it (a directory's size rounded)
-abbrev pub givenIn : Listing → ℕ → given.Entry
-givenIn L i = record { start = getD (L .start) i 0; len = getD (L .len) i 0; kind = kindFor (getD (L .kind) i 0); size = getD (L .size) i 0 }
-
+-- entry i as a table has it (a directory's size rounded)
 abbrev pub entryIn : Listing → ℕ → Entry
 entryIn L i = record {
   name = nameIn (L .bytes) (givenIn L i);
@@ -37,24 +23,25 @@ entryIn L i = record {
   size = storedSize (kindFor (getD (L .kind) i 0)) (getD (L .size) i 0);
 }
 
--- every column has a place for each entry; `shortest` is the length of the shortest column of scratch
+-- the length of the shortest column of scratch
+abbrev pub shortest : List ℕ → List ℕ → List ℕ → List ℕ → List ℕ → List ℕ → List ℕ → ℕ
+shortest left right parent height key order place =
+    min (length left) (min (length right) (min (length parent) (min (length height) (min (length key) (min (length order) (length place))))))
+
+-- every column has a place for each entry; n is the length of the shortest column of scratch
 abbrev pub hasPlaces : Listing → ℕ → Bool
-hasPlaces L shortest =
-    leb (L .count) (length (L .start)) && (leb (L .count) (length (L .len)) && (leb (L .count) (length (L .size)) && (leb (L .count) (length (L .kind)) && leb (L .count) shortest)))
+hasPlaces L n =
+    leb (L .count) (length (L .start)) && (leb (L .count) (length (L .len)) && (leb (L .count) (length (L .size)) && (leb (L .count) (length (L .kind)) && leb (L .count) n)))
 
--- what placing gives must fit the output (else 9)
-abbrev pub ifFits : ℕ → Told Placing → Told Placing
-ifFits bytes (gives p) = pick (leb (rounded (p .size)) bytes) (gives p) (refuses 9 [])
-ifFits bytes (refuses k vs) = refuses k vs
-
+-- go on with the tree
 abbrev pub ifGrown : Told Tree → (Tree → Told Placing) → Told Placing
 ifGrown (gives t) next = next t
 ifGrown (refuses k vs) next = refuses k vs
 
--- THE ANSWER: s is the first sector, `bytes` the length of the output
+-- THE ANSWER: n is the length of the shortest column of scratch, s the first sector, `bytes` the length of the output
 unfoldable pub wholeOf : Listing → ℕ → ℕ → ℕ → Told Placing
-wholeOf L shortest s bytes =
-    pick (hasPlaces L shortest)
+wholeOf L n s bytes =
+    pick (hasPlaces L n)
     (ifGrown (grow (L .bytes) (givenIn L) (L .count)) (λ t. ifFits bytes (placeOf (entryIn L) 1 s t)))
     (refuses 6 [])
 
@@ -63,17 +50,13 @@ abbrev pub tableFor : Told Tree → (Tree → List ℕ) → List ℕ
 tableFor (gives t) bytes = bytes t
 tableFor (refuses k vs) bytes = []
 
-abbrev pub ifWritten : Told Placing → List ℕ → List ℕ → List ℕ
-ifWritten (gives p) table out = table ++ drop (rounded (p .size)) out
-ifWritten (refuses k vs) table out = out
-
 unfoldable pub outAfter : Listing → ℕ → ℕ → List ℕ → List ℕ
-outAfter L shortest s out =
-    ifWritten (wholeOf L shortest s (length out)) (tableFor (grow (L .bytes) (givenIn L) (L .count)) (λ t. tableBytes (entryIn L) 1 s t)) out
+outAfter L n s out =
+    ifWritten (wholeOf L n s (length out)) (tableFor (grow (L .bytes) (givenIn L) (L .count)) (λ t. tableBytes (entryIn L) 1 s t)) out
 
 -- EACH COLUMN OF SCRATCH AFTERWARDS: unchanged after the first 6, else all zero
 unfoldable pub scratchAfter : Listing → ℕ → List ℕ → List ℕ
-scratchAfter L shortest xs = pick (hasPlaces L shortest) (replicate (length xs) 0) xs
+scratchAfter L n xs = pick (hasPlaces L n) (replicate (length xs) 0) xs
 
 -- what each answer of the code stands for
 abbrev pub told : ListWritten → Told Placing

@@ -1,0 +1,131 @@
+-- `seek` meets its contract. The invariant is a function of the tree (`w`), since the `ensures` speaks of every tree that the links hold: what is found below
+-- `at`, which hangs below `above`, is what is found in the whole. The measure is the height of the tree below `at`.
+use native.Mathlib.Omega.{arith}
+use Prim.Native.Nat.{ℕ}
+use mathlib.Core.Path.{refl, ap, _∙_}
+use lib.ListN.{getD}
+use mathlib.Core.Bool.{true, false}
+use lib.Dec.{ltb}
+use borrow.Author.Tests.{ltb-true, ltb-false, lt-ltb, le-ltb}
+use borrow.Author.Needs.{needs}
+use Rattle.avl_model.specs.declared.Place.the-variants.{Root}
+use Rattle.avl_model.specs.Names.{names, toName}
+use Rattle.avl_model.specs.Seek.{spotIn}
+use Rattle.avl_model.proofs.Seeking.{Seeking, depth, told, inside, known, found, free}
+use Rattle.avl_keyed.specs.Key.{Keyed, KeySought, placeFrom}
+use Rattle.avl_keyed.proofs.Turn.{chosen, lower, never-both, by-less, by-greater}
+use Rattle.avl_keyed.proofs.seek.Statement.{statement}
+use Rattle.avl_keyed.proofs.seek.Tie as tie
+use Rattle.avl_keyed.proofs.seek.Reads as reads
+use Rattle.avl_keyed.proofs.seek.Lts as lts
+use Rattle.avl_insert.proofs.name_of.Reads as name-of-reads
+use Rattle.avl_keyed.proofs.choose.Reads as choose-reads
+use Rattle.avl_keyed.proofs.place_below.Reads as place-below-reads
+use Rattle.avl_turn.proofs.index.Reads as index-reads
+use Rattle.layout_name.proofs.compare_raised.Reads as compare-raised-reads
+
+abbrev Inv-loop : tie.InvT-loop
+Inv-loop left right key bytes start len root copy name k at₀ above₀ less₀ at above less = (w : KeySought left right key root (names bytes start len))
+    → Seeking left right (toName (names bytes start len) name) (Keyed key (names bytes start len)) at (placeFrom above less) (spotIn (toName (names bytes start len) name) (w .linked .t) Root)
+
+abbrev μ-loop : tie.MeasureT-loop
+μ-loop left right key bytes start len root copy name k at₀ above₀ less₀ at above less = depth left right at
+
+loop-holds : tie.Need-loop-holds Inv-loop μ-loop
+loop-holds c = λ w. record { s = w .linked .t; at-is = w .linked .root-is; links = w .linked .links; bound = w .linked .bound; spot = refl; all = w .keyed }
+
+index-requires : tie.Need-index-requires Inv-loop μ-loop
+index-requires c κs = search needs
+
+mul-q : tie.Need-mul-q Inv-loop μ-loop
+mul-q c = omega (arith, c .index .ensures)
+
+shared-slice-read-q : tie.Need-shared-slice-read-q Inv-loop μ-loop
+shared-slice-read-q c = let s = c .before .before .before .before .before .before .before .before .before .before .before in let a = s .args in let N = names (a .bytes .now) (a .start .now) (a .len .now) in let l = c .before .before .before .loop in omega (arith, c .before .index .ensures, known (a .left .now) (a .right .now) (toName N (a .name .now)) (Keyed (a .key .now) N) ((s .pre .0) .linked .small) (l .inv (s .pre .0)) (c .before .before .loop-test .taken) .has)
+
+mul-l : tie.Need-mul-l Inv-loop μ-loop
+mul-l c = omega (arith, c .before .index .ensures)
+
+shared-slice-read-l : tie.Need-shared-slice-read-l Inv-loop μ-loop
+shared-slice-read-l c = let s = c .before .before .before .before .before .before .before .before .before .before .before .before in let a = s .args in let N = names (a .bytes .now) (a .start .now) (a .len .now) in let l = c .before .before .before .before .loop in omega (arith, c .before .before .index .ensures, inside (a .left .now) (a .right .now) (toName N (a .name .now)) (Keyed (a .key .now) N) ((s .pre .0) .linked .small) (l .inv (s .pre .0)) (c .before .before .before .loop-test .taken))
+
+mul-r : tie.Need-mul-r Inv-loop μ-loop
+mul-r c = omega (arith, c .before .before .index .ensures)
+
+shared-slice-read-r : tie.Need-shared-slice-read-r Inv-loop μ-loop
+shared-slice-read-r c = let s = c .before .before .before .before .before .before .before .before .before .before .before .before .before in let a = s .args in let N = names (a .bytes .now) (a .start .now) (a .len .now) in let l = c .before .before .before .before .before .loop in omega (arith, c .before .before .before .index .ensures, inside (a .left .now) (a .right .now) (toName N (a .name .now)) (Keyed (a .key .now) N) ((s .pre .0) .linked .small) (l .inv (s .pre .0)) (c .before .before .before .before .loop-test .taken), s .pre .0 .linked .n-is)
+
+name-of-requires : tie.Need-name-of-requires Inv-loop μ-loop
+name-of-requires c κs = let s = c .before .before .before .before .before .before .before .before .before .before .before .before .before .before in let a = s .args in let N = names (a .bytes .now) (a .start .now) (a .len .now) in let l = c .before .before .before .before .before .before .loop in known (a .left .now) (a .right .now) (toName N (a .name .now)) (Keyed (a .key .now) N) ((s .pre .0) .linked .small) (l .inv (s .pre .0)) (c .before .before .before .before .before .loop-test .taken) .inside
+
+compare-raised-requires : tie.Need-compare-raised-requires Inv-loop μ-loop
+compare-raised-requires c κs = c .before .before .before .before .before .before .before .before .before .before .before .before .before .before .before .pre .1 .0
+
+enum-told : tie.Need-enum-told Inv-loop μ-loop
+enum-told c = search needs
+
+returns : tie.Need-returns Inv-loop μ-loop
+returns c = λ w. let s = c .before .before .before .before .before .before .before .before .before .before .before .before .before .before .before .before .before .before in let a = s .args in let N = names (a .bytes .now) (a .start .now) (a .len .now) in let l = c .before .before .before .before .before .before .before .before .before .before .loop in found (a .left .now) (a .right .now) (toName N (a .name .now)) (Keyed (a .key .now) N) (w .linked .small) (l .inv w) (c .before .before .before .before .before .before .before .before .before .loop-test .taken) (told N (a .name .now) (l .at) (c .before .before .before .name-of .ensures) (c .before .before .compare-raised .ensures) (c .enum-told .given .1))
+
+enum-told-2 : tie.Need-enum-told-2 Inv-loop μ-loop
+enum-told-2 c = search needs
+
+loop-less : tie.Need-loop-less Inv-loop μ-loop
+loop-less c = let s = c .before .before .before .before .before .before .before .before .before .before .before .before .before .before .before .before .before .before in let a = s .args in let N = names (a .bytes .now) (a .start .now) (a .len .now) in let l = c .before .before .before .before .before .before .before .before .before .before .loop in lower (a .left .now) (a .right .now) (toName N (a .name .now)) (Keyed (a .key .now) N) ((s .pre .0) .linked .small) (l .inv (s .pre .0)) (c .before .before .before .before .before .before .before .before .before .loop-test .taken) (c .before .before .before .before .before .before .before .before .index .ensures .0) true refl (λ _. (told N (a .name .now) (l .at) (c .before .before .before .name-of .ensures) (c .before .before .compare-raised .ensures) (c .enum-told2 .given .1))) (λ e. never-both e)
+
+loop-again : tie.Need-loop-again Inv-loop μ-loop
+loop-again c = λ w. let s = c .before .before .before .before .before .before .before .before .before .before .before .before .before .before .before .before .before .before in let a = s .args in let N = names (a .bytes .now) (a .start .now) (a .len .now) in let l = c .before .before .before .before .before .before .before .before .before .before .loop in chosen (a .left .now) (a .right .now) (toName N (a .name .now)) (Keyed (a .key .now) N) (w .linked .small) (l .inv w) (c .before .before .before .before .before .before .before .before .before .loop-test .taken) (c .before .before .before .before .before .before .before .before .index .ensures .0) true refl (λ _. (told N (a .name .now) (l .at) (c .before .before .before .name-of .ensures) (c .before .before .compare-raised .ensures) (c .enum-told2 .given .1))) (λ e. never-both e)
+
+enum-told-3 : tie.Need-enum-told-3 Inv-loop μ-loop
+enum-told-3 c = search needs
+
+loop-less-2 : tie.Need-loop-less-2 Inv-loop μ-loop
+loop-less-2 c = let s = c .before .before .before .before .before .before .before .before .before .before .before .before .before .before .before .before .before .before in let a = s .args in let N = names (a .bytes .now) (a .start .now) (a .len .now) in let l = c .before .before .before .before .before .before .before .before .before .before .loop in lower (a .left .now) (a .right .now) (toName N (a .name .now)) (Keyed (a .key .now) N) ((s .pre .0) .linked .small) (l .inv (s .pre .0)) (c .before .before .before .before .before .before .before .before .before .loop-test .taken) (c .before .before .before .before .before .before .before .before .index .ensures .0) false refl (λ e. never-both (mathlib.Core.Path.sym e)) (λ _. (told N (a .name .now) (l .at) (c .before .before .before .name-of .ensures) (c .before .before .compare-raised .ensures) (c .enum-told3 .given .1)))
+
+loop-again-2 : tie.Need-loop-again-2 Inv-loop μ-loop
+loop-again-2 c = λ w. let s = c .before .before .before .before .before .before .before .before .before .before .before .before .before .before .before .before .before .before in let a = s .args in let N = names (a .bytes .now) (a .start .now) (a .len .now) in let l = c .before .before .before .before .before .before .before .before .before .before .loop in chosen (a .left .now) (a .right .now) (toName N (a .name .now)) (Keyed (a .key .now) N) (w .linked .small) (l .inv w) (c .before .before .before .before .before .before .before .before .before .loop-test .taken) (c .before .before .before .before .before .before .before .before .index .ensures .0) false refl (λ e. never-both (mathlib.Core.Path.sym e)) (λ _. (told N (a .name .now) (l .at) (c .before .before .before .name-of .ensures) (c .before .before .compare-raised .ensures) (c .enum-told3 .given .1)))
+
+choose-requires : tie.Need-choose-requires Inv-loop μ-loop
+choose-requires c κs = search needs
+
+loop-less-3 : tie.Need-loop-less-3 Inv-loop μ-loop
+loop-less-3 c = let s = c .before .before .before .before .before .before .before .before .before .before .before .before .before .before .before in let a = s .args in let N = names (a .bytes .now) (a .start .now) (a .len .now) in let l = c .before .before .before .before .before .before .before .loop in lower (a .left .now) (a .right .now) (toName N (a .name .now)) (Keyed (a .key .now) N) ((s .pre .0) .linked .small) (l .inv (s .pre .0)) (c .before .before .before .before .before .before .loop-test .taken) (c .before .before .before .before .before .index .ensures .0) (ltb (a .k) (getD (a .key .now) (c .before .before .before .before .before .index .result) 0)) (c .choose .ensures) (λ e. by-less N (a .name .now) (λ j. omega (arith, c .before .before .before .before .before .before .before .before .shared-slice-known7 .given j)) (λ j. omega (arith, c .before .before .before .before .before .before .before .before .before .before .before .shared-slice-known4 .given j)) (l .at) (s .pre .1 .1) (ap (λ (v : ℕ). getD (a .key .now) v 0) (c .before .before .before .before .before .index .ensures .0) ∙ known (a .left .now) (a .right .now) (toName N (a .name .now)) (Keyed (a .key .now) N) ((s .pre .0) .linked .small) (l .inv (s .pre .0)) (c .before .before .before .before .before .before .loop-test .taken) .key-is) (ltb-true (a .k) (getD (a .key .now) (c .before .before .before .before .before .index .result) 0) e)) (λ e. by-greater N (a .name .now) (λ j. omega (arith, c .before .before .before .before .before .before .before .before .shared-slice-known7 .given j)) (λ j. omega (arith, c .before .before .before .before .before .before .before .before .before .before .before .shared-slice-known4 .given j)) (l .at) (s .pre .1 .1) (ap (λ (v : ℕ). getD (a .key .now) v 0) (c .before .before .before .before .before .index .ensures .0) ∙ known (a .left .now) (a .right .now) (toName N (a .name .now)) (Keyed (a .key .now) N) ((s .pre .0) .linked .small) (l .inv (s .pre .0)) (c .before .before .before .before .before .before .loop-test .taken) .key-is) (c .before .if1 .left) (ltb-false (a .k) (getD (a .key .now) (c .before .before .before .before .before .index .result) 0) e))
+
+loop-again-3 : tie.Need-loop-again-3 Inv-loop μ-loop
+loop-again-3 c = λ w. let s = c .before .before .before .before .before .before .before .before .before .before .before .before .before .before .before in let a = s .args in let N = names (a .bytes .now) (a .start .now) (a .len .now) in let l = c .before .before .before .before .before .before .before .loop in chosen (a .left .now) (a .right .now) (toName N (a .name .now)) (Keyed (a .key .now) N) (w .linked .small) (l .inv w) (c .before .before .before .before .before .before .loop-test .taken) (c .before .before .before .before .before .index .ensures .0) (ltb (a .k) (getD (a .key .now) (c .before .before .before .before .before .index .result) 0)) (c .choose .ensures) (λ e. by-less N (a .name .now) (λ j. omega (arith, c .before .before .before .before .before .before .before .before .shared-slice-known7 .given j)) (λ j. omega (arith, c .before .before .before .before .before .before .before .before .before .before .before .shared-slice-known4 .given j)) (l .at) (s .pre .1 .1) (ap (λ (v : ℕ). getD (a .key .now) v 0) (c .before .before .before .before .before .index .ensures .0) ∙ known (a .left .now) (a .right .now) (toName N (a .name .now)) (Keyed (a .key .now) N) (w .linked .small) (l .inv w) (c .before .before .before .before .before .before .loop-test .taken) .key-is) (ltb-true (a .k) (getD (a .key .now) (c .before .before .before .before .before .index .result) 0) e)) (λ e. by-greater N (a .name .now) (λ j. omega (arith, c .before .before .before .before .before .before .before .before .shared-slice-known7 .given j)) (λ j. omega (arith, c .before .before .before .before .before .before .before .before .before .before .before .shared-slice-known4 .given j)) (l .at) (s .pre .1 .1) (ap (λ (v : ℕ). getD (a .key .now) v 0) (c .before .before .before .before .before .index .ensures .0) ∙ known (a .left .now) (a .right .now) (toName N (a .name .now)) (Keyed (a .key .now) N) (w .linked .small) (l .inv w) (c .before .before .before .before .before .before .loop-test .taken) .key-is) (c .before .if1 .left) (ltb-false (a .k) (getD (a .key .now) (c .before .before .before .before .before .index .result) 0) e))
+
+place-below-requires : tie.Need-place-below-requires Inv-loop μ-loop
+place-below-requires c κs = search needs
+
+returns-2 : tie.Need-returns-2 Inv-loop μ-loop
+returns-2 c = λ w. let a = c .before .before .before .before .before .before .before .before .before .before .args in let N = names (a .bytes .now) (a .start .now) (a .len .now) in c .place-below .ensures ∙ free (a .left .now) (a .right .now) (toName N (a .name .now)) (Keyed (a .key .now) N) (w .linked .small) (c .before .before .loop .inv w) (c .before .loop-test .left)
+
+pub seek-spec : {M : Type 1} → statement M
+seek-spec =
+    tie.close
+    (tie.spec
+    Inv-loop
+    μ-loop
+    loop-holds
+    index-requires
+    mul-q
+    shared-slice-read-q
+    mul-l
+    shared-slice-read-l
+    mul-r
+    shared-slice-read-r
+    name-of-requires
+    compare-raised-requires
+    enum-told
+    returns
+    enum-told-2
+    loop-less
+    loop-again
+    enum-told-3
+    loop-less-2
+    loop-again-2
+    choose-requires
+    loop-less-3
+    loop-again-3
+    place-below-requires
+    returns-2)

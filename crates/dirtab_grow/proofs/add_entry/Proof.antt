@@ -1,0 +1,121 @@
+-- `add_entry` meets its contract: the first places of the columns hold the tree so far (`hangable`), and what they hold afterwards all of the columns do (`out-hung`).
+use Prim.Native.Nat.{_+_}
+use native.Mathlib.Omega.{arith}
+use mathlib.Core.Path.{sym}
+use lib.Seq.{length-take-le}
+use Rattle.dirtab_entry.specs.Entry.{checkOf}
+use Rattle.avl_model.specs.declared.Place.the-variants.{Root}
+use Rattle.avl_model.specs.Lists.{lists}
+use Rattle.avl_model.specs.Names.{names, byName}
+use Rattle.avl_model.specs.Seek.{spotIn}
+use Rattle.dirtab_grow.specs.Listing.{listing, givenIn}
+use Rattle.dirtab_grow.proofs.Checked.{passes, refused-by}
+use Rattle.dirtab_grow.proofs.Hung.{refused-step}
+use Rattle.dirtab_grow.proofs.Prefix.{hangable, out-hung}
+use borrow.Author.Needs.{needs}
+use Rattle.dirtab_grow.proofs.add_entry.Statement.{statement}
+use Rattle.dirtab_grow.proofs.add_entry.Tie as tie
+use Rattle.dirtab_grow.proofs.add_entry.Reads as reads
+use Rattle.dirtab_grow.proofs.add_entry.Lts as lts
+use Rattle.avl_turn.proofs.index.Reads as index-reads
+use Rattle.dirtab_grow.proofs.check_at.Reads as check-at-reads
+use Rattle.dirtab_grow.proofs.hang_entry.Reads as hang-entry-reads
+
+check-at-requires : tie.Need-check-at-requires
+check-at-requires c κs = search needs
+
+enum-known-cause : tie.Need-enum-known-cause
+enum-known-cause c = search needs
+
+enum-told : tie.Need-enum-told
+enum-told c = search needs
+
+index-requires : tie.Need-index-requires
+index-requires c κs = search needs
+
+add-end : tie.Need-add-end
+add-end c = search needs
+
+slice-relend-prefix-hang-entry : tie.Need-slice-relend-prefix-hang-entry
+slice-relend-prefix-hang-entry c = search needs
+
+slice-aggregate-hang-entry : tie.Need-slice-aggregate-hang-entry
+slice-aggregate-hang-entry c = let s = c .before .before .before .before .before .before .before .before .before .before .before .before .before .before .before .before in sym (length-take-le (c .before .before .index .result + 1) (s .args .left .now) (omega (arith, s .pre .1 .0 .l, c .before .before .index .ensures .0)))
+
+slice-relend-prefix-hang-entry-2 : tie.Need-slice-relend-prefix-hang-entry-2
+slice-relend-prefix-hang-entry-2 c = search needs
+
+slice-aggregate-hang-entry-2 : tie.Need-slice-aggregate-hang-entry-2
+slice-aggregate-hang-entry-2 c = let s = c .before .before .before .before .before .before .before .before .before .before .before .before .before .before .before .before .before in sym (length-take-le (c .before .before .before .index .result + 1) (s .args .right .now) (omega (arith, s .pre .1 .0 .r, c .before .before .before .index .ensures .0)))
+
+slice-relend-prefix-hang-entry-3 : tie.Need-slice-relend-prefix-hang-entry-3
+slice-relend-prefix-hang-entry-3 c = search needs
+
+slice-aggregate-hang-entry-3 : tie.Need-slice-aggregate-hang-entry-3
+slice-aggregate-hang-entry-3 c = let s = c .before .before .before .before .before .before .before .before .before .before .before .before .before .before .before .before .before .before in sym (length-take-le (c .before .before .before .before .index .result + 1) (s .args .parent .now) (omega (arith, s .pre .1 .0 .p, c .before .before .before .before .index .ensures .0)))
+
+slice-relend-prefix-hang-entry-4 : tie.Need-slice-relend-prefix-hang-entry-4
+slice-relend-prefix-hang-entry-4 c = search needs
+
+slice-aggregate-hang-entry-4 : tie.Need-slice-aggregate-hang-entry-4
+slice-aggregate-hang-entry-4 c = let s = c .before .before .before .before .before .before .before .before .before .before .before .before .before .before .before .before .before .before .before in sym (length-take-le (c .before .before .before .before .before .index .result + 1) (s .args .height .now) (omega (arith, s .pre .1 .0 .h, c .before .before .before .before .before .index .ensures .0)))
+
+hang-entry-requires : tie.Need-hang-entry-requires
+hang-entry-requires c κs = let s = c .before .before .before .before .before .before .before .before .before .before .before .before .before .before .before .before .before .before .before .before in let a = s .args in
+    let L = listing 0 (a .start .now) (a .len .now) (a .size .now) (a .kind .now) (a .bytes .now) in
+    hangable (lists (a .root .now) (a .left .now) (a .right .now) (a .parent .now) (a .height .now)) (a .key .now) L (a .i) (c .before .before .before .before .before .before .index .result + 1) (omega (arith, c .before .before .before .before .before .before .index .ensures .0)) (s .pre .1 .0) (s .pre .0)
+    (passes (a .i) (checkOf (a .bytes .now) (givenIn L (a .i))) (c .before .before .before .before .before .before .before .before .before .check-at .ensures) (c .before .before .before .before .before .before .before .enum-told .given .1)) (s .pre .1 .1)
+
+returns : tie.Need-returns
+returns c = λ w. let a = c .before .before .before .before .before .before .before .before .before .before .before .before .before .before .args in
+    let L = listing 0 (a .start .now) (a .len .now) (a .size .now) (a .kind .now) (a .bytes .now) in
+    refused-step (refused-by (a .i) (checkOf (a .bytes .now) (givenIn L (a .i))) (spotIn (byName (names (a .bytes .now) (a .start .now) (a .len .now)) (a .i)) (w .t) Root) (c .before .before .before .check-at .ensures) (c .before .cause .given .1))
+
+same-length : tie.Need-same-length
+same-length c = search needs
+
+same-length-2 : tie.Need-same-length-2
+same-length-2 c = search needs
+
+same-length-3 : tie.Need-same-length-3
+same-length-3 c = search needs
+
+same-length-4 : tie.Need-same-length-4
+same-length-4 c = search needs
+
+same-length-5 : tie.Need-same-length-5
+same-length-5 c = search needs
+
+returns-2 : tie.Need-returns-2
+returns-2 c = let s = c .before .before .before .before .before .before .before .before .before .before .before .before .before .before .before .before .before .before .before .before .before .before .before .before .before .before .before .before .before .before .before in let a = s .args in
+    let L = listing 0 (a .start .now) (a .len .now) (a .size .now) (a .kind .now) (a .bytes .now) in
+    let h = c .before .before .before .before .before .before .before .before .before .before .hang-entry in
+    out-hung (lists (a .root .now) (a .left .now) (a .right .now) (a .parent .now) (a .height .now)) (a .key .now) L (a .i) (c .before .before .before .before .before .before .before .before .before .before .before .before .before .before .before .before .before .index .result + 1) (omega (arith, c .before .before .before .before .before .before .before .before .before .before .before .before .before .before .before .before .before .index .ensures .0)) (s .pre .1 .0)
+    (h .kept .1 .0) (h .kept .1 .1 .0) (h .kept .1 .1 .1 .0) (h .kept .1 .1 .1 .1 .0)
+    (passes (a .i) (checkOf (a .bytes .now) (givenIn L (a .i))) (c .before .before .before .before .before .before .before .before .before .before .before .before .before .before .before .before .before .before .before .before .check-at .ensures) (c .before .before .before .before .before .before .before .before .before .before .before .before .before .before .before .before .before .before .enum-told .given .1)) (h .ensures)
+
+pub add-entry-spec : {M : Type 1} → statement M
+add-entry-spec =
+    tie.close
+    (tie.spec
+    check-at-requires
+    enum-known-cause
+    enum-told
+    index-requires
+    add-end
+    slice-relend-prefix-hang-entry
+    slice-aggregate-hang-entry
+    slice-relend-prefix-hang-entry-2
+    slice-aggregate-hang-entry-2
+    slice-relend-prefix-hang-entry-3
+    slice-aggregate-hang-entry-3
+    slice-relend-prefix-hang-entry-4
+    slice-aggregate-hang-entry-4
+    hang-entry-requires
+    returns
+    same-length
+    same-length-2
+    same-length-3
+    same-length-4
+    same-length-5
+    returns-2)

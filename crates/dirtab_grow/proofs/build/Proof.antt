@@ -1,0 +1,143 @@
+-- `build` meets its contract. The loop's invariant: the columns keep their lengths, their first i places hold the tree of the first i entries, and that tree
+-- with the entries that are left makes the whole (`Building`). The measure is the number of entries left.
+use Prim.Native.Nat.{_-_}
+use native.Mathlib.Omega.{arith}
+use mathlib.Core.Path.{_≡_, refl, _∙_}
+use lib.ListN.{length}
+use borrow.Author.Needs.{needs}
+use Rattle.avl_model.specs.Lists.{lists}
+use Rattle.dirtab_grow.specs.Listing.{listing}
+use Rattle.dirtab_grow.proofs.Turn.{Building, none-yet, growing, low-number, one-more, stops, all-in, lent-at, wide-at}
+use Rattle.dirtab_grow.proofs.build.Statement.{statement}
+use Rattle.dirtab_grow.proofs.build.Tie as tie
+use Rattle.dirtab_grow.proofs.build.Reads as reads
+use Rattle.dirtab_grow.proofs.build.Lts as lts
+use Rattle.dirtab_grow.proofs.add_entry.Reads as add-entry-reads
+use Rattle.dirtab_grow.proofs.narrow.Reads as narrow-reads
+
+abbrev Inv-loop : tie.InvT-loop
+Inv-loop count bytes start len size kind root₀ left₀ right₀ parent₀ height₀ key₀ i₀ root left right parent height key i =
+    (length left ≡ length left₀) × ((length right ≡ length right₀) × ((length parent ≡ length parent₀) × ((length height ≡ length height₀) × ((length key ≡ length key₀) × Building (listing count start len size kind bytes) (lists root left right parent height) key i))))
+
+abbrev μ-loop : tie.MeasureT-loop
+μ-loop count bytes start len size kind root₀ left₀ right₀ parent₀ height₀ key₀ i₀ root left right parent height key i =
+    count - i
+
+loop-holds : tie.Need-loop-holds Inv-loop μ-loop
+loop-holds c = let a = c .before .before .before .before .before .before .before .before .before .before .args in (refl, (refl, (refl, (refl, (refl, none-yet (listing (a .count) (a .start .now) (a .len .now) (a .size .now) (a .kind .now) (a .bytes .now)) (a .left .now) (a .right .now) (a .parent .now) (a .height .now) (a .key .now))))))
+
+narrow-requires : tie.Need-narrow-requires Inv-loop μ-loop
+narrow-requires c κs = let a = c .before .before .before .before .before .before .before .before .before .before .before .before .args in let l = c .before .loop in
+    low-number (listing (a .count) (a .start .now) (a .len .now) (a .size .now) (a .kind .now) (a .bytes .now)) (lists (l .root) (l .left) (l .right) (l .parent) (l .height)) (l .key) (l .i) {at = l .i} refl (l .inv .1 .1 .1 .1 .1)
+
+add-entry-requires : tie.Need-add-entry-requires Inv-loop μ-loop
+add-entry-requires c κs = let s = c .before .before .before .before .before .before .before .before .before .before .before .before .before .before .before .before .before .before .before in let a = s .args in let l = c .before .before .before .before .before .before .before .before .loop in
+    let L = listing (a .count) (a .start .now) (a .len .now) (a .size .now) (a .kind .now) (a .bytes .now) in
+    let S = lists (a .root .now) (a .left .now) (a .right .now) (a .parent .now) (a .height .now) in
+    let T = lists (l .root) (l .left) (l .right) (l .parent) (l .height) in (
+      lent-at L S (a .key .now) (a .count) (l .i) (s .pre) (c .before .before .before .before .before .before .before .loop-test .taken) (c .before .before .before .before .before .before .narrow .ensures),
+      (
+        wide-at L S (a .key .now) (a .count) (l .i) (s .pre) (c .before .before .before .before .before .before .before .loop-test .taken) (c .before .before .before .before .before .before .narrow .ensures) T (l .key) (l .inv .0) (l .inv .1 .0) (l .inv .1 .1 .0) (l .inv .1 .1 .1 .0) (l .inv .1 .1 .1 .1 .0),
+        growing L T (l .key) (l .i) (c .before .before .before .before .before .before .narrow .ensures) (l .inv .1 .1 .1 .1 .1),
+      ),
+    )
+
+enum-told : tie.Need-enum-told Inv-loop μ-loop
+enum-told c = search needs
+
+add-i : tie.Need-add-i Inv-loop μ-loop
+add-i c = search needs
+
+loop-less : tie.Need-loop-less Inv-loop μ-loop
+loop-less c = omega arith
+
+loop-again : tie.Need-loop-again Inv-loop μ-loop
+loop-again c = let a = c .before .before .before .before .before .before .before .before .before .before .before .before .before .before .before .before .before .before .before .before .before .before .before .before .before .before .before .before .before .before .before .before .args in let l = c .before .before .before .before .before .before .before .before .before .before .before .before .before .before .before .before .before .before .before .before .before .loop in
+    let L = listing (a .count) (a .start .now) (a .len .now) (a .size .now) (a .kind .now) (a .bytes .now) in
+    let T = lists (l .root) (l .left) (l .right) (l .parent) (l .height) in
+    let k = c .before .before .before .before .before .before .before .before .before .before .before .before .add-entry in (
+      k .kept .1 .1 .1 .1 .1 .1 .0 ∙ l .inv .0,
+      (
+        k .kept .1 .1 .1 .1 .1 .1 .1 .0 ∙ l .inv .1 .0,
+        (
+          k .kept .1 .1 .1 .1 .1 .1 .1 .1 .0 ∙ l .inv .1 .1 .0,
+          (
+            k .kept .1 .1 .1 .1 .1 .1 .1 .1 .1 .0 ∙ l .inv .1 .1 .1 .0,
+            (
+              k .kept .1 .1 .1 .1 .1 .1 .1 .1 .1 .1 .0 ∙ l .inv .1 .1 .1 .1 .0,
+              one-more L T (l .key) (l .i) (c .before .before .before .before .before .before .before .before .before .before .before .before .before .before .before .before .before .before .before .narrow .ensures) (l .inv .1 .1 .1 .1 .1) (c .before .before .before .before .before .before .before .before .before .before .before .before .before .before .before .before .before .before .before .before .loop-test .taken) (k .ensures) (c .enum-told .given .1),
+            ),
+          ),
+        ),
+      ),
+    )
+
+enum-known-cause : tie.Need-enum-known-cause Inv-loop μ-loop
+enum-known-cause c = search needs
+
+same-length : tie.Need-same-length Inv-loop μ-loop
+same-length c = search needs
+
+same-length-2 : tie.Need-same-length-2 Inv-loop μ-loop
+same-length-2 c = search needs
+
+same-length-3 : tie.Need-same-length-3 Inv-loop μ-loop
+same-length-3 c = search needs
+
+same-length-4 : tie.Need-same-length-4 Inv-loop μ-loop
+same-length-4 c = search needs
+
+same-length-5 : tie.Need-same-length-5 Inv-loop μ-loop
+same-length-5 c = search needs
+
+returns : tie.Need-returns Inv-loop μ-loop
+returns c = let a = c .before .before .before .before .before .before .before .before .before .before .before .before .before .before .before .before .before .before .before .before .before .before .before .before .before .before .before .before .before .before .before .before .before .args in let l = c .before .before .before .before .before .before .before .before .before .before .before .before .before .before .before .before .before .before .before .before .before .before .loop in
+    let L = listing (a .count) (a .start .now) (a .len .now) (a .size .now) (a .kind .now) (a .bytes .now) in
+    let T = lists (l .root) (l .left) (l .right) (l .parent) (l .height) in
+    stops L T (l .key) (l .i) (c .before .before .before .before .before .before .before .before .before .before .before .before .before .before .before .before .before .before .before .before .narrow .ensures) (l .inv .1 .1 .1 .1 .1) (c .before .before .before .before .before .before .before .before .before .before .before .before .before .before .before .before .before .before .before .before .before .loop-test .taken) (c .before .before .before .before .before .before .before .before .before .before .before .before .before .add-entry .ensures) (c .before .cause .given .1)
+
+same-length-6 : tie.Need-same-length-6 Inv-loop μ-loop
+same-length-6 c = search needs
+
+same-length-7 : tie.Need-same-length-7 Inv-loop μ-loop
+same-length-7 c = search needs
+
+same-length-8 : tie.Need-same-length-8 Inv-loop μ-loop
+same-length-8 c = search needs
+
+same-length-9 : tie.Need-same-length-9 Inv-loop μ-loop
+same-length-9 c = search needs
+
+same-length-10 : tie.Need-same-length-10 Inv-loop μ-loop
+same-length-10 c = search needs
+
+returns-2 : tie.Need-returns-2 Inv-loop μ-loop
+returns-2 c = let a = c .before .before .before .before .before .before .before .before .before .before .before .before .args in let l = c .before .loop in
+    all-in (listing (a .count) (a .start .now) (a .len .now) (a .size .now) (a .kind .now) (a .bytes .now)) (lists (l .root) (l .left) (l .right) (l .parent) (l .height)) (l .key) (l .i) (l .inv .1 .1 .1 .1 .1) (c .loop-test .left)
+
+pub build-spec : {M : Type 1} → statement M
+build-spec =
+    tie.close
+    (tie.spec
+    Inv-loop
+    μ-loop
+    loop-holds
+    narrow-requires
+    add-entry-requires
+    enum-told
+    add-i
+    loop-less
+    loop-again
+    enum-known-cause
+    same-length
+    same-length-2
+    same-length-3
+    same-length-4
+    same-length-5
+    returns
+    same-length-6
+    same-length-7
+    same-length-8
+    same-length-9
+    same-length-10
+    returns-2)

@@ -1,0 +1,55 @@
+-- `find_seat` meets its contract: the search's answer (`found`), and then the count, make the seat.
+use Rattle.avl_model.specs.Names.{names}
+use Rattle.dirtab_grow.proofs.Checked.{short-name, key-of-name, found, seat-same, seat-full}
+use borrow.Author.Needs.{needs}
+use Rattle.dirtab_grow.proofs.find_seat.Statement.{statement}
+use Rattle.dirtab_grow.proofs.find_seat.Tie as tie
+use Rattle.dirtab_grow.proofs.find_seat.Reads as reads
+use Rattle.dirtab_grow.proofs.find_seat.Lts as lts
+use Rattle.avl_insert.proofs.name_of.Reads as name-of-reads
+use Rattle.avl_keyed.proofs.key_of.Reads as key-of-reads
+use Rattle.avl_keyed.proofs.seek.Reads as seek-reads
+use Rattle.layout_name.proofs.raise_name.Reads as raise-name-reads
+
+name-of-requires : tie.Need-name-of-requires
+name-of-requires c κs = search needs
+
+raise-name-requires : tie.Need-raise-name-requires
+raise-name-requires c κs = let s = c .before .before .before .before .before .before .before in short-name (names (s .args .bytes .now) (s .args .start .now) (s .args .len .now)) (s .args .new) (c .name-of .ensures) (s .pre .1 .1)
+
+key-of-requires : tie.Need-key-of-requires
+key-of-requires c κs = search needs
+
+seek-requires : tie.Need-seek-requires
+seek-requires c κs = let s = c .before .before .before .before .before .before .before .before .before .before .before in let N = names (s .args .bytes .now) (s .args .start .now) (s .args .len .now) in
+    (s .pre .0, ((short-name N (s .args .new) (c .before .before .before .before .name-of .ensures) (s .pre .1 .1), c .before .before .before .raise-name .ensures), key-of-name N (s .args .new) (c .before .before .before .before .name-of .ensures) (c .before .before .before .raise-name .ensures) (c .before .key-of .ensures) .0))
+
+enum-told : tie.Need-enum-told
+enum-told c = search needs
+
+enum-known-place : tie.Need-enum-known-place
+enum-known-place c = search needs
+
+returns : tie.Need-returns
+returns c = λ w. let s = c .before .before .before .before .before .before .before .before .before .before .before .before .before .before .before .before .args in seat-full (s .new) (found (names (s .bytes .now) (s .start .now) (s .len .now)) (s .new) (w .linked .t) (c .before .before .before .before .before .before .before .before .before .name-of .ensures) (c .before .before .before .before .seek .ensures w) (c .before .before .place .given .1)) (c .if1 .taken)
+
+returns-2 : tie.Need-returns-2
+returns-2 c = λ w. let s = c .before .before .before .before .before .before .before .before .before .before .before .before .before .before .args in seat-same (s .new) (found (names (s .bytes .now) (s .start .now) (s .len .now)) (s .new) (w .linked .t) (c .before .before .before .before .before .before .before .name-of .ensures) (c .before .before .seek .ensures w) (c .enum-told .given .1))
+
+returns-3 : tie.Need-returns-3
+returns-3 c = λ w. let s = c .before .before .before .before .before .before .before .before .before .before .before .before .before .before .before .before .args in let N = names (s .bytes .now) (s .start .now) (s .len .now) in
+    (found N (s .new) (w .linked .t) (c .before .before .before .before .before .before .before .before .before .name-of .ensures) (c .before .before .before .before .seek .ensures w) (c .before .before .place .given .1), (c .if1 .left, key-of-name N (s .new) (c .before .before .before .before .before .before .before .before .before .name-of .ensures) (c .before .before .before .before .before .before .before .before .raise-name .ensures) (c .before .before .before .before .before .before .key-of .ensures) .1))
+
+pub find-seat-spec : {M : Type 1} → statement M
+find-seat-spec =
+    tie.close
+    (tie.spec
+    name-of-requires
+    raise-name-requires
+    key-of-requires
+    seek-requires
+    enum-told
+    enum-known-place
+    returns
+    returns-2
+    returns-3)

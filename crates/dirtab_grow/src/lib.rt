@@ -1,0 +1,235 @@
+// A list's entries are put one after another into a tree that lent columns hold, without a check of what the columns held before.
+ghost use mathlib.Core.Path.{_≡_};
+ghost use Prim.Native.Nat.{_≤_, _<_};
+ghost use lib.ListN.{length, getD};
+ghost use Rattle.units.specs.Told.{Told, gives};
+ghost use Rattle.dirtab_entry.specs.Entry.{checkOf};
+ghost use Rattle.avl_model.specs.declared.Place.the-variants.{Root};
+ghost use Rattle.avl_model.specs.Tree.{Tree, ins};
+ghost use Rattle.avl_model.specs.Lists.{lists};
+ghost use Rattle.avl_model.specs.Names.{names, byName, isLess, Inside};
+ghost use Rattle.avl_model.specs.Seek.{spotIn};
+ghost use Rattle.avl_keyed.specs.Key.{KeySought};
+ghost use Rattle.dirtab_grow.specs.Listing.{listing, givenIn};
+ghost use Rattle.dirtab_grow.specs.Grow.{ifTaken, grow};
+ghost use Rattle.dirtab_grow.specs.Growing.{goOn, Growing, Hangable, Lent, Wide, Roomy, Seated, Stepped, Outcome};
+use avl_insert::name_of;
+use avl_insert::put_in;
+use avl_keyed::key_of;
+use avl_keyed::seek;
+use avl_model::Place;
+use avl_model::Spot;
+use avl_turn::index;
+use dirtab_entry::Entry;
+use dirtab_entry::EntryChecked;
+use dirtab_entry::check_entry;
+use dirtab_entry::kind_of;
+use layout_name::raise_name;
+
+// Why an entry is refused.
+pub enum Cause {
+    // 1, 2, 3, 5: the entry by itself.
+    EmptyName,
+    BadByte,
+    NameTooLong,
+    SizeOverflow,
+    // 4: an equal name is there.
+    DuplicateFileName,
+    // 6: 16,384 entries are there.
+    Room,
+}
+
+// What a step on an entry answers.
+pub enum Step {
+    Taken,
+    Refused(Cause),
+}
+
+// Where an entry goes, and the key of its name.
+pub enum Seat {
+    At(Place, u32),
+    Refused(Cause),
+}
+
+// What building answers: the tree is in the columns, or an entry is refused, by its number.
+pub enum Built {
+    Done,
+    Refused(Cause, u32),
+}
+
+// What adding asks of the entry i by itself.
+fn check_at(bytes: &[u8], start: &[u32], len: &[u32], size: &[u32], kind: &[u8], i: u16) -> Step
+    requires { ⌜ Lent (listing 0 (now start) (now len) (now size) (now kind) (now bytes)) i ⌝ }
+    ensures { λ r. ⌜ ((x : Told Tree) → goOn r i x ≡ ifTaken i (checkOf (now (bytes .entry)) (givenIn (listing 0 (now (start .entry)) (now (len .entry)) (now (size .entry)) (now (kind .entry)) (now (bytes .entry))) i)) x) ⌝ }
+{
+    let at = index(i);
+    let entry = Entry {
+        start: start[at],
+        len: len[at],
+        kind: kind_of(kind[at]),
+        size: size[at],
+    };
+    match check_entry(bytes, entry) {
+        EntryChecked::Good => Step::Taken,
+        EntryChecked::EmptyName => Step::Refused(Cause::EmptyName),
+        EntryChecked::BadByte => Step::Refused(Cause::BadByte),
+        EntryChecked::NameTooLong => Step::Refused(Cause::NameTooLong),
+        EntryChecked::SizeOverflow => Step::Refused(Cause::SizeOverflow),
+    }
+}
+
+// Where the entry `new` goes in the tree: 4 where its name is there, 6 where 16,384 entries are.
+fn find_seat(
+    left: &[u16],
+    right: &[u16],
+    key: &[u32],
+    bytes: &[u8],
+    start: &[u32],
+    len: &[u32],
+    root: u16,
+    new: u16,
+) -> Seat
+    requires { ⌜ KeySought (now left) (now right) (now key) root (names (now bytes) (now start) (now len)) ⌝ }
+    requires { ⌜ Inside (names (now bytes) (now start) (now len)) new × (getD (now len) new 0 ≤ 255) ⌝ }
+    ensures { λ r. ⌜ ((w : KeySought (now (left .entry)) (now (right .entry)) (now (key .entry)) root (names (now (bytes .entry)) (now (start .entry)) (now (len .entry)))) →
+        Seated r (names (now (bytes .entry)) (now (start .entry)) (now (len .entry))) (spotIn (byName (names (now (bytes .entry)) (now (start .entry)) (now (len .entry))) new) (w .linked .t) Root) new) ⌝ }
+{
+    let name = name_of(bytes, start, len, new);
+    let copy = raise_name(name);
+    let k = key_of(&copy);
+    match seek(left, right, key, bytes, start, len, root, &copy, name, k) {
+        Spot::Same(_) => Seat::Refused(Cause::DuplicateFileName),
+        Spot::Free(place) => {
+            if 16384 <= new {
+                return Seat::Refused(Cause::Room);
+            }
+            Seat::At(place, k)
+        }
+    }
+}
+
+// Puts the entry `new`, the last that the columns have a place for, into the tree.
+pub fn hang_entry(
+    root: &mut u16,
+    left: &mut [u16],
+    right: &mut [u16],
+    parent: &mut [u16],
+    height: &mut [u8],
+    key: &mut [u32],
+    bytes: &[u8],
+    start: &[u32],
+    len: &[u32],
+    new: u16,
+) -> Step
+    requires { ⌜ Hangable (lists (now root) (now left) (now right) (now parent) (now height)) (now key) (names (now bytes) (now start) (now len)) new ⌝ }
+    ensures { λ r. ⌜ ((w : Growing (lists (now (root .entry)) (now (left .entry)) (now (right .entry)) (now (parent .entry)) (now (height .entry))) (now (key .entry)) (names (now (bytes .entry)) (now (start .entry)) (now (len .entry))) new) →
+        Stepped r (gives tt) (spotIn (byName (names (now (bytes .entry)) (now (start .entry)) (now (len .entry))) new) (w .t) Root) new
+        (lists (now (root .exit)) (now (left .exit)) (now (right .exit)) (now (parent .exit)) (now (height .exit))) (now (key .exit)) (names (now (bytes .entry)) (now (start .entry)) (now (len .entry)))
+        (ins (λ i. isLess (byName (names (now (bytes .entry)) (now (start .entry)) (now (len .entry))) new i)) new (w .t))) ⌝ }
+{
+    match find_seat(left, right, key, bytes, start, len, *root, new) {
+        Seat::Refused(cause) => Step::Refused(cause),
+        Seat::At(place, k) => {
+            let i = index(new);
+            key[i] = k;
+            put_in(root, left, right, parent, height, place, new);
+            Step::Taken
+        }
+    }
+}
+
+// The entry i: its own checks, and then its place in the tree of those before it, in the first i + 1 places of the columns.
+fn add_entry(
+    bytes: &[u8],
+    start: &[u32],
+    len: &[u32],
+    size: &[u32],
+    kind: &[u8],
+    root: &mut u16,
+    left: &mut [u16],
+    right: &mut [u16],
+    parent: &mut [u16],
+    height: &mut [u8],
+    key: &mut [u32],
+    i: u16,
+) -> Step
+    requires { ⌜ Lent (listing 0 (now start) (now len) (now size) (now kind) (now bytes)) i ⌝ }
+    requires { ⌜ Wide (lists (now root) (now left) (now right) (now parent) (now height)) (now key) i ⌝ }
+    requires { ⌜ Growing (lists (now root) (now left) (now right) (now parent) (now height)) (now key) (names (now bytes) (now start) (now len)) i ⌝ }
+    ensures { λ r. ⌜ ((w : Growing (lists (now (root .entry)) (now (left .entry)) (now (right .entry)) (now (parent .entry)) (now (height .entry))) (now (key .entry)) (names (now (bytes .entry)) (now (start .entry)) (now (len .entry))) i) →
+        Stepped r (checkOf (now (bytes .entry)) (givenIn (listing 0 (now (start .entry)) (now (len .entry)) (now (size .entry)) (now (kind .entry)) (now (bytes .entry))) i))
+        (spotIn (byName (names (now (bytes .entry)) (now (start .entry)) (now (len .entry))) i) (w .t) Root) i
+        (lists (now (root .exit)) (now (left .exit)) (now (right .exit)) (now (parent .exit)) (now (height .exit))) (now (key .exit)) (names (now (bytes .entry)) (now (start .entry)) (now (len .entry)))
+        (ins (λ j. isLess (byName (names (now (bytes .entry)) (now (start .entry)) (now (len .entry))) i j)) i (w .t))) ⌝ }
+{
+    match check_at(bytes, start, len, size, kind, i) {
+        Step::Refused(cause) => Step::Refused(cause),
+        Step::Taken => {
+            let end = index(i) + 1;
+            hang_entry(
+                root,
+                &mut left[..end],
+                &mut right[..end],
+                &mut parent[..end],
+                &mut height[..end],
+                key,
+                bytes,
+                start,
+                len,
+                i,
+            )
+        }
+    }
+}
+
+// A number as an index of the tree.
+fn narrow(i: u32) -> u16
+    requires { ⌜ i ≤ 16384 ⌝ }
+    ensures { λ r. ⌜ r ≡ i ⌝ }
+{
+    i as u16
+}
+
+// The first `count` entries of a list, one after another, into the tree that the columns hold afterwards in their first places.
+pub fn build(
+    count: u32,
+    bytes: &[u8],
+    start: &[u32],
+    len: &[u32],
+    size: &[u32],
+    kind: &[u8],
+    root: &mut u16,
+    left: &mut [u16],
+    right: &mut [u16],
+    parent: &mut [u16],
+    height: &mut [u8],
+    key: &mut [u32],
+) -> Built
+    requires { ⌜ Roomy (listing count (now start) (now len) (now size) (now kind) (now bytes)) (lists (now root) (now left) (now right) (now parent) (now height)) (now key) count ⌝ }
+    ensures { λ r. ⌜ Outcome r (grow (now (bytes .entry)) (givenIn (listing count (now (start .entry)) (now (len .entry)) (now (size .entry)) (now (kind .entry)) (now (bytes .entry)))) count)
+        (lists (now (root .exit)) (now (left .exit)) (now (right .exit)) (now (parent .exit)) (now (height .exit))) (names (now (bytes .entry)) (now (start .entry)) (now (len .entry))) count ⌝ }
+{
+    *root = 65535;
+    let mut i: u32 = 0;
+    while i < count {
+        let at = narrow(i);
+        match add_entry(
+            bytes,
+            start,
+            len,
+            size,
+            kind,
+            root,
+            left,
+            right,
+            parent,
+            height,
+            key,
+            at,
+        ) {
+            Step::Taken => i += 1,
+            Step::Refused(cause) => return Built::Refused(cause, i),
+        }
+    }
+    Built::Done
+}
