@@ -1,11 +1,11 @@
 // A whole list of entries is written as a table in one call. The columns of the tree are scratch.
+use dirtab::Serialised;
 use dirtab::clear;
 use dirtab::write_held;
-use dirtab::Serialised;
 use dirtab_arena::Held;
-use dirtab_grow::build;
 use dirtab_grow::Built;
 use dirtab_grow::Cause;
+use dirtab_grow::build;
 use units::Sector;
 ghost use mathlib.Core.Path.{_≡_};
 ghost use mathlib.Core.Bool.{_&&_};
