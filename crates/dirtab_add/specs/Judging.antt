@@ -33,6 +33,7 @@ pub record Refusing (A : Arena) (e : given.Entry) (a : Added) : Type 0 where
   pub told-is : told a ≡ refuses number []
   pub answer : addOf A e ≡ refuses number []
 
+-- what the checks found
 abbrev pub Judged : Verdict → Arena → given.Entry → Type 0
 Judged (Refuse a) A e = Refusing A e a
 Judged (Take q) A e = Taking A e q
