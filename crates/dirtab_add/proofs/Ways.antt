@@ -130,11 +130,11 @@ module _ (A : Arena) (e : given.Entry) (q : Place) (w : Taking A e q) where
       let m : n ≡ A .count = en .0 in (
         (λ d. gives (record { root = t d .root; count = A .count + 1 })) ∙ sym answers,
         (λ d. columns (t d .L) (t d .R) (t d .P) (t d .H)
-        ((es ∙ ap (λ (v : ℕ). set (A .columns .start) v (e .start)) m) d)
-        ((el ∙ ap (λ (v : ℕ). set (A .columns .len) v (e .len)) m) d)
-        ((ez ∙ ap (λ (v : ℕ). set (A .columns .size) v (storedSize (e .kind) (e .size))) m) d)
-        ((ek ∙ ap (λ (v : ℕ). set (A .columns .kind) v (kindNumber (e .kind))) m) d))
-        ∙ sym (ap (λ (x : Told Grown). ifGiven x (columnsWith A e) (A .columns)) answers),
+            ((es ∙ ap (λ (v : ℕ). set (A .columns .start) v (e .start)) m) d)
+            ((el ∙ ap (λ (v : ℕ). set (A .columns .len) v (e .len)) m) d)
+            ((ez ∙ ap (λ (v : ℕ). set (A .columns .size) v (storedSize (e .kind) (e .size))) m) d)
+            ((ek ∙ ap (λ (v : ℕ). set (A .columns .kind) v (kindNumber (e .kind))) m) d))
+            ∙ sym (ap (λ (x : Told Grown). ifGiven x (columnsWith A e) (A .columns)) answers),
       )
 
 -- ---- what the checks said

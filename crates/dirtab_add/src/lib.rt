@@ -123,7 +123,15 @@ fn find_place(
     let n = widen(tree.count);
     let from = widen_place(entry.start);
     let to = from + widen_place(entry.len);
-    find_spot(&left[..n], &right[..n], names, start, len, tree.root, &names[from..to])
+    find_spot(
+        &left[..n],
+        &right[..n],
+        names,
+        start,
+        len,
+        tree.root,
+        &names[from..to],
+    )
 }
 
 // Of an entry that adding takes by itself: 4 where its name is there, then 6.
@@ -172,11 +180,32 @@ fn judge(
 ) -> Verdict
     ensures { λ v. ⌜ Judged v (arena (tree .root) (tree .count) (columns (now (left .entry)) (now (right .entry)) (now (parent .entry)) (now (height .entry)) (now (start .entry)) (now (len .entry)) (now (size .entry)) (now (kind .entry))) (now (names .entry))) entry ⌝ }
 {
-    if is_arena(tree, left, right, parent, height, start, len, size, kind, names) {
+    if is_arena(
+        tree,
+        left,
+        right,
+        parent,
+        height,
+        start,
+        len,
+        size,
+        kind,
+        names,
+    ) {
         match check_entry(names, entry) {
             EntryChecked::Good => {
                 return judge_name(
-                    tree, left, right, parent, height, start, len, size, kind, names, entry,
+                    tree,
+                    left,
+                    right,
+                    parent,
+                    height,
+                    start,
+                    len,
+                    size,
+                    kind,
+                    names,
+                    entry,
                 );
             }
             EntryChecked::EmptyName => return Verdict::Refuse(Added::EmptyName),
@@ -265,7 +294,19 @@ pub fn add(
     ensures { λ _. ⌜ columns (now (left .exit)) (now (right .exit)) (now (parent .exit)) (now (height .exit)) (now (start .exit)) (now (len .exit)) (now (size .exit)) (now (kind .exit))
         ≡ columnsAfter (arena (tree .root) (tree .count) (columns (now (left .entry)) (now (right .entry)) (now (parent .entry)) (now (height .entry)) (now (start .entry)) (now (len .entry)) (now (size .entry)) (now (kind .entry))) (now (names .entry))) entry ⌝ }
 {
-    let verdict = judge(tree, left, right, parent, height, start, len, size, kind, names, entry);
+    let verdict = judge(
+        tree,
+        left,
+        right,
+        parent,
+        height,
+        start,
+        len,
+        size,
+        kind,
+        names,
+        entry,
+    );
     match verdict {
         Verdict::Refuse(answer) => answer,
         Verdict::Take(place) => {

@@ -1,0 +1,4 @@
+-- What the proofs of writing a whole list are made of.
+pub mod Grew
+pub mod Ends
+pub mod Room
