@@ -53,6 +53,13 @@ module _ (L : Listing) (l r p h k o q : List ℕ) (e : hasPlaces L (shortest l r
         m5,
       )
 
+-- what is tested is whether there are places: w is the count and m the shortest length, as they are read
+pub places-are : (L : Listing) (n : ℕ) {w m : ℕ} {b v : Bool} → w ≡ L .count → m ≡ n
+    → b ≡ (leb w (length (L .start)) && (leb w (length (L .len)) && (leb w (length (L .size)) && (leb w (length (L .kind)) && leb w m)))) → b ≡ v → hasPlaces L n ≡ v
+places-are L n ew em eb ev =
+    sym (λ d. leb (ew d) (length (L .start)) && (leb (ew d) (length (L .len)) && (leb (ew d) (length (L .size)) && (leb (ew d) (length (L .kind)) && leb (ew d) (em d)))))
+    ∙ sym eb ∙ ev
+
 -- the answers by whether the columns are long enough
 module _ (L : Listing) (n : ℕ) where
   pub whole-answer : (s bytes : ℕ) → hasPlaces L n ≡ true → answerOf L s bytes ≡ wholeOf L n s bytes
