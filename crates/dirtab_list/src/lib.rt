@@ -14,13 +14,15 @@ ghost use Prim.Native.Nat.{_≤_, min};
 ghost use lib.Dec.{leb};
 ghost use lib.ListN.{length, replicate};
 ghost use Rattle.units.specs.Told.{refuses};
+ghost use Rattle.avl_model.specs.Tree.{Tree};
 ghost use Rattle.avl_model.specs.Lists.{lists};
 ghost use Rattle.avl_model.specs.Names.{names};
 ghost use Rattle.dirtab.specs.Serialise as serialise;
+ghost use Rattle.dirtab.specs.Steps.{Rooted, writingOf, writingOut};
 ghost use Rattle.dirtab_grow.specs.Listing.{listing, givenIn};
 ghost use Rattle.dirtab_grow.specs.Grow.{grow};
 ghost use Rattle.dirtab_grow.specs.Growing.{numberOf, Roomy, Holding};
-ghost use Rattle.dirtab_list.specs.Whole.{told, shortest, wholeOf, outAfter, scratchAfter};
+ghost use Rattle.dirtab_list.specs.Whole.{told, entryIn, shortest, wholeOf, outAfter, scratchAfter};
 ghost use Rattle.dirtab_list.specs.Steps.{answerOf, outputOf};
 
 // What writing a list answers.
@@ -142,4 +144,198 @@ fn pass_on(r: Serialised) -> ListWritten
         Serialised::SectorOverflow => ListWritten::SectorOverflow,
         Serialised::BufferTooSmall => ListWritten::BufferTooSmall,
     }
+}
+
+fn narrow(n: u32) -> u16
+    requires { ⌜ n ≤ 16384 ⌝ }
+    ensures { λ r. ⌜ r ≡ n ⌝ }
+{
+    n as u16
+}
+
+// The table of the tree that was built.
+fn write_built(
+    count: u32,
+    root: u16,
+    left: &[u16],
+    right: &[u16],
+    start: &[u32],
+    len: &[u32],
+    size: &[u32],
+    kind: &[u8],
+    names: &[u8],
+    first: Sector,
+    order: &mut [u16],
+    place: &mut [u16],
+    out: &mut [u8],
+) -> ListWritten
+    requires { ⌜ (count ≤ 16384) × (((t : Tree) × Rooted (now left) (now right) (now start) (now len) (now size) (now kind) (now names) root count t) × ((count ≤ length (now order)) × (count ≤ length (now place)))) ⌝ }
+    ensures answer { λ r. ⌜ ((t : Tree) → Rooted (now (left .entry)) (now (right .entry)) (now (start .entry)) (now (len .entry)) (now (size .entry)) (now (kind .entry)) (now (names .entry)) root count t →
+        told r ≡ writingOf (entryIn (listing count (now (start .entry)) (now (len .entry)) (now (size .entry)) (now (kind .entry)) (now (names .entry)))) (first .0) t (length (now (out .entry)))) ⌝ }
+    ensures out { λ _. ⌜ ((t : Tree) → Rooted (now (left .entry)) (now (right .entry)) (now (start .entry)) (now (len .entry)) (now (size .entry)) (now (kind .entry)) (now (names .entry)) root count t →
+        now (out .exit) ≡ writingOut (entryIn (listing count (now (start .entry)) (now (len .entry)) (now (size .entry)) (now (kind .entry)) (now (names .entry)))) (first .0) t (now (out .entry))) ⌝ }
+{
+    let held = Held {
+        root: root,
+        count: narrow(count),
+    };
+    let r = write_held(
+        held,
+        left,
+        right,
+        start,
+        len,
+        size,
+        kind,
+        names,
+        first,
+        order,
+        place,
+        out,
+    );
+    pass_on(r)
+}
+
+// The table of a list whose columns are long enough. What it leaves in the scratch is not cleared.
+fn write_checked(
+    count: u32,
+    start: &[u32],
+    len: &[u32],
+    size: &[u32],
+    kind: &[u8],
+    names: &[u8],
+    first: Sector,
+    left: &mut [u16],
+    right: &mut [u16],
+    parent: &mut [u16],
+    height: &mut [u8],
+    key: &mut [u32],
+    order: &mut [u16],
+    place: &mut [u16],
+    out: &mut [u8],
+) -> ListWritten
+    requires { ⌜ Roomy (listing count (now start) (now len) (now size) (now kind) (now names)) (lists 65535 (now left) (now right) (now parent) (now height)) (now key) count × ((count ≤ length (now order)) × (count ≤ length (now place))) ⌝ }
+    ensures answer { λ r. ⌜ told r ≡ answerOf (listing count (now (start .entry)) (now (len .entry)) (now (size .entry)) (now (kind .entry)) (now (names .entry))) (first .0) (length (now (out .entry))) ⌝ }
+    ensures out { λ _. ⌜ now (out .exit) ≡ outputOf (listing count (now (start .entry)) (now (len .entry)) (now (size .entry)) (now (kind .entry)) (now (names .entry))) (first .0) (now (out .entry)) ⌝ }
+{
+    let mut root: u16 = 65535;
+    match build(
+        count,
+        names,
+        start,
+        len,
+        size,
+        kind,
+        &mut root,
+        left,
+        right,
+        parent,
+        height,
+        key,
+    ) {
+        Built::Refused(cause, i) => refuse(cause, i),
+        Built::Done => write_built(
+            count,
+            root,
+            left,
+            right,
+            start,
+            len,
+            size,
+            kind,
+            names,
+            first,
+            order,
+            place,
+            out,
+        ),
+    }
+}
+
+// The length of the shortest column of scratch.
+fn measure(
+    left: &[u16],
+    right: &[u16],
+    parent: &[u16],
+    height: &[u8],
+    key: &[u32],
+    order: &[u16],
+    place: &[u16],
+) -> usize
+    ensures { λ r. ⌜ r ≡ shortest (now (left .entry)) (now (right .entry)) (now (parent .entry)) (now (height .entry)) (now (key .entry)) (now (order .entry)) (now (place .entry)) ⌝ }
+{
+    least(
+        left.len(),
+        least(
+            right.len(),
+            least(
+                parent.len(),
+                least(
+                    height.len(),
+                    least(key.len(), least(order.len(), place.len())),
+                ),
+            ),
+        ),
+    )
+}
+
+// The table of the first `count` entries of a list, in one call: as adding each of them in turn to an empty arena, and then serialising.
+pub fn write_list(
+    count: u32,
+    start: &[u32],
+    len: &[u32],
+    size: &[u32],
+    kind: &[u8],
+    names: &[u8],
+    first: Sector,
+    left: &mut [u16],
+    right: &mut [u16],
+    parent: &mut [u16],
+    height: &mut [u8],
+    key: &mut [u32],
+    order: &mut [u16],
+    place: &mut [u16],
+    out: &mut [u8],
+) -> ListWritten
+    ensures answer { λ r. ⌜ told r ≡ wholeOf (listing count (now (start .entry)) (now (len .entry)) (now (size .entry)) (now (kind .entry)) (now (names .entry))) (shortest (now (left .entry)) (now (right .entry)) (now (parent .entry)) (now (height .entry)) (now (key .entry)) (now (order .entry)) (now (place .entry))) (first .0) (length (now (out .entry))) ⌝ }
+    ensures out { λ _. ⌜ now (out .exit) ≡ outAfter (listing count (now (start .entry)) (now (len .entry)) (now (size .entry)) (now (kind .entry)) (now (names .entry))) (shortest (now (left .entry)) (now (right .entry)) (now (parent .entry)) (now (height .entry)) (now (key .entry)) (now (order .entry)) (now (place .entry))) (first .0) (now (out .entry)) ⌝ }
+    ensures left { λ _. ⌜ now (left .exit) ≡ scratchAfter (listing count (now (start .entry)) (now (len .entry)) (now (size .entry)) (now (kind .entry)) (now (names .entry))) (shortest (now (left .entry)) (now (right .entry)) (now (parent .entry)) (now (height .entry)) (now (key .entry)) (now (order .entry)) (now (place .entry))) (now (left .entry)) ⌝ }
+    ensures right { λ _. ⌜ now (right .exit) ≡ scratchAfter (listing count (now (start .entry)) (now (len .entry)) (now (size .entry)) (now (kind .entry)) (now (names .entry))) (shortest (now (left .entry)) (now (right .entry)) (now (parent .entry)) (now (height .entry)) (now (key .entry)) (now (order .entry)) (now (place .entry))) (now (right .entry)) ⌝ }
+    ensures parent { λ _. ⌜ now (parent .exit) ≡ scratchAfter (listing count (now (start .entry)) (now (len .entry)) (now (size .entry)) (now (kind .entry)) (now (names .entry))) (shortest (now (left .entry)) (now (right .entry)) (now (parent .entry)) (now (height .entry)) (now (key .entry)) (now (order .entry)) (now (place .entry))) (now (parent .entry)) ⌝ }
+    ensures height { λ _. ⌜ now (height .exit) ≡ scratchAfter (listing count (now (start .entry)) (now (len .entry)) (now (size .entry)) (now (kind .entry)) (now (names .entry))) (shortest (now (left .entry)) (now (right .entry)) (now (parent .entry)) (now (height .entry)) (now (key .entry)) (now (order .entry)) (now (place .entry))) (now (height .entry)) ⌝ }
+    ensures key { λ _. ⌜ now (key .exit) ≡ scratchAfter (listing count (now (start .entry)) (now (len .entry)) (now (size .entry)) (now (kind .entry)) (now (names .entry))) (shortest (now (left .entry)) (now (right .entry)) (now (parent .entry)) (now (height .entry)) (now (key .entry)) (now (order .entry)) (now (place .entry))) (now (key .entry)) ⌝ }
+    ensures order { λ _. ⌜ now (order .exit) ≡ scratchAfter (listing count (now (start .entry)) (now (len .entry)) (now (size .entry)) (now (kind .entry)) (now (names .entry))) (shortest (now (left .entry)) (now (right .entry)) (now (parent .entry)) (now (height .entry)) (now (key .entry)) (now (order .entry)) (now (place .entry))) (now (order .entry)) ⌝ }
+    ensures place { λ _. ⌜ now (place .exit) ≡ scratchAfter (listing count (now (start .entry)) (now (len .entry)) (now (size .entry)) (now (kind .entry)) (now (names .entry))) (shortest (now (left .entry)) (now (right .entry)) (now (parent .entry)) (now (height .entry)) (now (key .entry)) (now (order .entry)) (now (place .entry))) (now (place .entry)) ⌝ }
+{
+    let scratch = measure(left, right, parent, height, key, order, place);
+    if have_places(
+        widen(count),
+        start.len(),
+        len.len(),
+        size.len(),
+        kind.len(),
+        scratch,
+    ) {
+        let r = write_checked(
+            count,
+            start,
+            len,
+            size,
+            kind,
+            names,
+            first,
+            left,
+            right,
+            parent,
+            height,
+            key,
+            order,
+            place,
+            out,
+        );
+        clear_three(left, right, parent);
+        clear_four(height, key, order, place);
+        return r;
+    }
+    ListWritten::Room
 }

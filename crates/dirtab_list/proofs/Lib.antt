@@ -1,0 +1,5 @@
+-- What the proofs of writing a whole list are made of.
+pub mod Told
+pub mod Grew
+pub mod Ends
+pub mod Room
