@@ -1,4 +1,4 @@
--- The ways out of the functions, and laws of serialising.
+-- The ways out of the functions, laws of serialising, small arenas by computing, and that answers are told one-to-one.
 pub mod Listed
 pub mod Zeros
 pub mod Rooted

@@ -72,9 +72,6 @@ module _ (listed left right start len size kind bytes : List ℕ) (places s : �
   pub count-asks : Countable listed size kind
   count-asks = subst (λ (xs : List ℕ). Countable xs size kind) (sym (h .listed-is)) (bridge.countable left right start len size kind bytes (length listed) t (h .holds))
 
-  far : Bool
-  far = anyFar (items entry 1 0 s t)
-
   ends-are : endsOver len 0 listed ≡ pick (anyFar (items entry 1 0 s t)) (refuses 7 []) (gives (endOf entry 0 t))
   ends-are = ap (endsOver len 0) (h .listed-is) ∙ bridge.ends-table left right start len size kind bytes (length listed) t (h .holds) s
 
