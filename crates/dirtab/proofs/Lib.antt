@@ -4,3 +4,6 @@ pub mod Zeros
 pub mod Rooted
 pub mod FromArena
 pub mod Ways
+pub mod Told
+pub mod Laws
+pub mod Cases

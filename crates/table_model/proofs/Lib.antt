@@ -1,6 +1,8 @@
--- Laws of tables: where entries stand, what bytes they are, that they are inside, whole and apart, how a buffer is written, and when placing is refused.
+-- Laws of tables: where entries stand, what bytes they are, that they are inside, whole and apart, how a buffer is written, when placing is refused, and a
+-- small table by computing.
 pub mod Places
 pub mod Bytes
 pub mod Geometry
 pub mod Writing
 pub mod Placing
+pub mod Cases
