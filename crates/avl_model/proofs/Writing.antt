@@ -3,11 +3,11 @@ use Prim.Native.Nat.{ℕ, suc, _+_, _≤_, _<_, max}
 use native.Mathlib.Omega.{arith}
 use mathlib.Core.Path.{_≡_, refl, sym, ap, subst, _∙_}
 use mathlib.Core.List.{List, _++_}
-use lib.ListN.{length, getD, set, take, drop, take-append-drop}
+use lib.ListN.{length, set, take, drop, take-append-drop}
 use lib.Seq.{getD-set-same, getD-set-other, set-append-left, length-take-le}
 use Rattle.avl_model.specs.Lists.{Lists, lists}
 use Rattle.avl_model.specs.Tree.{Tree, leaf, node, none, top, ht, δ, cnt}
-use Rattle.avl_model.specs.Rep.{Arr, Rep}
+use Rattle.avl_model.specs.Rep.{Rep}
 use Rattle.avl_model.specs.Held.{arrOf}
 use Rattle.avl_model.specs.Laws.{All}
 use Rattle.avl_model.specs.Columns.{write, written}

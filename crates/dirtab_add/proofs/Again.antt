@@ -1,16 +1,13 @@
 -- After an entry was added the columns are an arena again: of the grown tree, with the earlier entries as they were and the new one behind them.
-use Prim.Native.Nat.{ℕ, zero, suc, _+_, _≤_, _<_}
+use Prim.Native.Nat.{ℕ, _+_, _≤_, _<_}
 use native.Mathlib.Omega.{arith}
 use native.Mathlib.Decide.{decLt, ℕ-discrete}
 use mathlib.Core.Path.{_≡_, refl, sym, ap, ap₂, subst, _∙_}
-use mathlib.Core.Bool.{Bool, true, false}
-use mathlib.Core.List.{List, []}
-use lib.ListN.{length, getD, set, take, drop, length-set}
+use mathlib.Core.Bool.{Bool, true}
+use lib.ListN.{length, getD, take, drop, length-set}
 use lib.Seq.{getD-set-same, getD-set-other}
-use lib.Dec.{ltb}
-use borrow.Author.Tests.{le-leb, ne-eqb, le-ltb}
-use Rattle.units.specs.Told.{Told, gives, refuses, pick}
-use Rattle.layout_name.specs.declared.Order.the-variants.{Less}
+use borrow.Author.Tests.{le-leb}
+use Rattle.units.specs.Told.{Told, gives}
 use Rattle.layout_name.specs.Order.{nameOrder}
 use Rattle.dirtab_entry.specs.declared.Entry as given
 use Rattle.dirtab_entry.specs.declared.Kind.{Kind}
@@ -18,14 +15,11 @@ use Rattle.dirtab_entry.specs.declared.Kind.the-variants.{File, Directory}
 use Rattle.dirtab_entry.specs.Entry.{kindFor, isDirectory, storedSize, nameIn, checkOf}
 use Rattle.avl_model.specs.declared.Place.{Place}
 use Rattle.avl_model.specs.declared.Place.the-variants.{Root}
-use Rattle.avl_model.specs.declared.Spot.the-variants.{Free}
-use Rattle.avl_model.specs.Lists.{Lists, lists}
-use Rattle.avl_model.specs.Names.{Names, nameAt, toName, byName, isLess}
-use Rattle.avl_model.specs.Tree.{Tree, none, top, δ, cnt, ins}
+use Rattle.avl_model.specs.Names.{nameAt, toName, isLess}
+use Rattle.avl_model.specs.Tree.{Tree, none, top, δ, cnt}
 use Rattle.avl_model.specs.Rep.{Rep}
 use Rattle.avl_model.specs.Held.{arrOf}
 use Rattle.avl_model.specs.Laws.{All, Ordered, size}
-use Rattle.avl_model.specs.Seek.{spotIn}
 use Rattle.avl_model.specs.Columns.{written}
 use Rattle.avl_model.proofs.Frame.{δ-same, δ-apart}
 use Rattle.avl_model.proofs.Bal.{ins-cnt}
@@ -35,30 +29,20 @@ use Rattle.avl_model.proofs.Search.{ins-names}
 use Rattle.avl_model.proofs.Alike.{ins-alike, spot-alike, ordered-alike}
 use Rattle.avl_model.proofs.Written.{write-length}
 use Rattle.avl_model.proofs.Writing.{Wide, written-held}
-use Rattle.avl_arena.specs.Test.{every, decoded}
 use Rattle.avl_arena.specs.HeldTree.{Before, Places, HeldTree}
 use Rattle.avl_arena.proofs.Tested.{and-both, every-at, every-from}
 use Rattle.avl_arena.proofs.Complete.{complete, decoded-is}
 use Rattle.table_model.specs.Entry.{Entry}
-use Rattle.dirtab_arena.specs.Arena.{Columns, Arena, arena, listsOf, namesOf, givenAt, entryAt, isGiven, isTaken, isArena, treeOf}
+use Rattle.dirtab_arena.specs.Arena.{Arena, arena, listsOf, namesOf, givenAt, entryAt, isGiven, isTaken, isArena, treeOf}
 use Rattle.dirtab_add.specs.Add.{Grown, orderTo, grownTree, addOf, kindNumber, columnsWith, ifGiven, columnsAfter}
-use Rattle.dirtab_add.specs.Judging.{Checked, Taking}
+use Rattle.dirtab_add.specs.Judging.{Taking}
 use Rattle.dirtab_add.proofs.Room.{Roomy}
-use Rattle.dirtab_add.proofs.Checks.{Fine, held, entries-passed, size-places, kind-places}
+use Rattle.dirtab_arena.proofs.Fine.{Fine, fine-taken}
+use Rattle.dirtab_arena.proofs.Passed.{held, entries-passed}
 use Rattle.dirtab_add.proofs.Ways.{roomy, fine, answers}
 use Rattle.dirtab_add.proofs.Given.{given-taking}
 
 -- ---- an entry as it is stored
-
-not-large : (d : Bool) (n : ℕ) → (d ≡ true → n ≤ 4294965248) → pick d (ltb 4294965248 n) false ≡ false
-not-large true n h = le-ltb 4294965248 n (h refl)
-not-large false n h = refl
-
--- the check takes what it says to be fine
-fine-taken : (B : List ℕ) (e : given.Entry) → Fine B e → checkOf B e ≡ gives tt
-unfolding checkOf
-fine-taken B e f =
-    simp (ne-eqb (e .len) 0 (f .some), le-ltb (length B) (e .start + e .len) (f .inside), f .good, le-ltb 255 (e .len) (f .short), not-large (isDirectory (e .kind)) (e .size) (f .small))
 
 stored-small : (k : Kind) (n : ℕ) → (isDirectory k ≡ true → n ≤ 4294965248) → isDirectory k ≡ true → storedSize k n ≤ 4294965248
 stored-small File n h q = let z : _≡_ {A = ℕ} 0 1 = cc in absurd (omega arith)

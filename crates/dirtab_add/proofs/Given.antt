@@ -1,9 +1,9 @@
 -- Where adding gives, every check passed; and where a held entry has the name, the answer is 4.
-use Prim.Native.Nat.{ℕ, _+_, _≤_, _<_}
+use Prim.Native.Nat.{ℕ, _<_}
 use native.Mathlib.Omega.{arith}
-use mathlib.Core.Path.{_≡_, refl, sym, ap, subst, _∙_}
+use mathlib.Core.Path.{_≡_, refl, sym}
 use mathlib.Core.Bool.{Bool, true, false}
-use mathlib.Core.List.{List, []}
+use mathlib.Core.List.{[]}
 use Rattle.units.specs.Told.{Told, gives, refuses, pick}
 use Rattle.layout_name.specs.declared.Order.the-variants.{Equal}
 use Rattle.dirtab_entry.specs.declared.Entry as given
@@ -13,13 +13,12 @@ use Rattle.avl_model.specs.declared.Place.the-variants.{Root}
 use Rattle.avl_model.specs.declared.Spot.{Spot}
 use Rattle.avl_model.specs.declared.Spot.the-variants.{Same, Free}
 use Rattle.avl_model.specs.Seek.{spotIn}
-use Rattle.avl_model.specs.Tree.{top}
 use Rattle.avl_model.proofs.Search.{equal-found}
-use Rattle.dirtab_arena.specs.Arena.{Columns, Arena, namesOf, isArena, treeOf}
-use Rattle.dirtab_add.specs.Add.{Grown, orderTo, grownTree, hasRoom, ifTaken, ifFree, addOf, columnsAfter}
+use Rattle.dirtab_arena.specs.Arena.{Arena, namesOf, isArena, treeOf}
+use Rattle.dirtab_add.specs.Add.{Grown, orderTo, hasRoom, ifTaken, ifFree, addOf, columnsAfter}
 use Rattle.dirtab_add.specs.Judging.{Checked, Taking}
-use Rattle.dirtab_add.proofs.Checks.{held}
-use Rattle.dirtab_add.proofs.Ways.{same-name, refused, answers}
+use Rattle.dirtab_arena.proofs.Passed.{held}
+use Rattle.dirtab_add.proofs.Ways.{same-name, refused}
 
 pick-gives : (b : Bool) (k : ℕ) (x : Told Grown) (g : Grown) → pick b x (refuses k []) ≡ gives g → (b ≡ true) × (x ≡ gives g)
 pick-gives true k x g e = (refl, e)

@@ -1,9 +1,8 @@
 -- The new node in the first places of the columns, and the columns whole again.
 use Prim.Native.Nat.{ℕ, suc, _+_, _≤_, _<_, max}
-use native.Mathlib.Omega.{arith}
 use mathlib.Core.Path.{_≡_, refl, sym, ap, subst, _∙_}
-use mathlib.Core.Bool.{Bool, true}
-use mathlib.Core.List.{List, _++_}
+use mathlib.Core.Bool.{true}
+use mathlib.Core.List.{_++_}
 use lib.ListN.{length, take, drop}
 use lib.Seq.{length-take-le}
 use Rattle.layout_name.specs.declared.Order.{Order}
@@ -15,12 +14,11 @@ use Rattle.avl_model.specs.declared.Spot.the-variants.{Free}
 use Rattle.avl_model.specs.Lists.{Lists, lists}
 use Rattle.avl_model.specs.Names.{Names, isLess}
 use Rattle.avl_model.specs.Tree.{Tree, none, top, ht, ins}
-use Rattle.avl_model.specs.Rep.{Rep}
-use Rattle.avl_model.specs.Held.{Long, arrOf, Whole, Arena}
+use Rattle.avl_model.specs.Held.{arrOf, Whole}
 use Rattle.avl_model.specs.Laws.{All}
 use Rattle.avl_model.specs.Insert.{OutBy, Placed}
 use Rattle.avl_model.specs.Seek.{spotIn}
-use Rattle.avl_model.specs.Columns.{write, written, listsBy, after}
+use Rattle.avl_model.specs.Columns.{written, listsBy, after}
 use Rattle.avl_model.proofs.Counted.{rep-below}
 use Rattle.avl_model.proofs.Written.{out-after}
 use Rattle.avl_model.proofs.Writing.{write-part, Wide}

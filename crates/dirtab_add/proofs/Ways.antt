@@ -9,21 +9,20 @@ use Rattle.units.specs.Told.{Told, gives, refuses, pick}
 use Rattle.dirtab_entry.specs.declared.Entry as given
 use Rattle.dirtab_entry.specs.declared.EntryChecked.{EntryChecked}
 use Rattle.dirtab_entry.specs.Entry as entry
-use Rattle.dirtab_entry.specs.Entry.{isDirectory, storedSize, nameIn, checkOf}
+use Rattle.dirtab_entry.specs.Entry.{storedSize, nameIn, checkOf}
 use Rattle.avl_model.specs.declared.Place.{Place}
 use Rattle.avl_model.specs.declared.Place.the-variants.{Root}
 use Rattle.avl_model.specs.declared.Spot.{Spot}
 use Rattle.avl_model.specs.declared.Spot.the-variants.{Same, Free}
-use Rattle.avl_model.specs.Lists.{Lists, lists}
+use Rattle.avl_model.specs.Lists.{Lists}
 use Rattle.avl_model.specs.Names.{Names, toName, isLess}
 use Rattle.avl_model.specs.Seek.{spotIn, Sought}
-use Rattle.avl_model.specs.Tree.{Tree, top, ins}
+use Rattle.avl_model.specs.Tree.{top, ins}
 use Rattle.avl_model.specs.Insert.{Placed}
 use Rattle.avl_model.specs.Columns.{written}
-use Rattle.avl_model.proofs.Writing.{Wide}
-use Rattle.avl_arena.specs.Test.{partOf, decoded}
+use Rattle.avl_arena.specs.Test.{partOf}
 use Rattle.avl_arena.specs.HeldTree.{Places}
-use Rattle.dirtab_arena.specs.Arena.{Columns, columns, Arena, arena, listsOf, namesOf, isArena, treeOf}
+use Rattle.dirtab_arena.specs.Arena.{columns, Arena, arena, listsOf, namesOf, isArena, treeOf}
 use Rattle.dirtab_add.specs.declared.Added.{Added}
 use Rattle.dirtab_add.specs.declared.Added.the-variants as added
 use Rattle.dirtab_add.specs.Add.{Grown, orderTo, grownTree, hasRoom, ifTaken, ifFree, addOf, kindNumber, columnsWith, ifGiven, columnsAfter, told}
@@ -31,7 +30,8 @@ use Rattle.dirtab_add.specs.declared.Verdict.{Verdict}
 use Rattle.dirtab_add.specs.declared.Verdict.the-variants.{Refuse, Take}
 use Rattle.dirtab_add.specs.Judging.{Checked, Taking, Refusing, Judged}
 use Rattle.dirtab_add.proofs.Room.{Roomy, room-of}
-use Rattle.dirtab_add.proofs.Checks.{Fine, fine-of, tree-passed, held}
+use Rattle.dirtab_arena.proofs.Fine.{Fine, fine-of}
+use Rattle.dirtab_arena.proofs.Passed.{tree-passed}
 use Rattle.dirtab_add.proofs.Growing.{placed, placed-tree}
 
 -- ---- refusals

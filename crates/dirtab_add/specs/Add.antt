@@ -1,7 +1,7 @@
 -- Adding an entry to an arena: 12, then 1, 2, 3, 5, 4, 6; on a refusal all is unchanged. Assumes nothing.
 use Prim.Native.Nat.{ℕ, _+_}
 use mathlib.Core.Bool.{Bool, _&&_}
-use mathlib.Core.List.{List, []}
+use mathlib.Core.List.{[]}
 use lib.Dec.{ltb}
 use lib.ListN.{length, set}
 use Rattle.units.specs.Told.{Told, gives, refuses, pick}
@@ -30,10 +30,14 @@ orderTo A e i = toName (namesOf A) (nameIn (A .bytes) e) i
 abbrev pub grownTree : Arena → given.Entry → Tree
 grownTree A e = ins (λ i. isLess (orderTo A e i)) (A .count) (treeOf A)
 
+-- with so many entries an arena is full
+abbrev pub most : ℕ
+most = 16384
+
 -- there is a place more in every column, and fewer than 16,384 entries are held
 unfoldable pub hasRoom : ℕ → Columns → Bool
 hasRoom n c =
-    ltb n 16384
+    ltb n most
     && (ltb n (length (c .left)) && (ltb n (length (c .right)) && (ltb n (length (c .parent)) && (ltb n (length (c .height))
     && (ltb n (length (c .start)) && (ltb n (length (c .len)) && (ltb n (length (c .size)) && ltb n (length (c .kind)))))))))
 

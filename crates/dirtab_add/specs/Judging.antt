@@ -3,7 +3,7 @@ use Prim.Native.Nat.{ℕ}
 use mathlib.Core.Path.{_≡_}
 use mathlib.Core.Bool.{true}
 use mathlib.Core.List.{[]}
-use Rattle.units.specs.Told.{Told, gives, refuses}
+use Rattle.units.specs.Told.{gives, refuses}
 use Rattle.dirtab_entry.specs.declared.Entry as given
 use Rattle.dirtab_entry.specs.Entry.{checkOf}
 use Rattle.avl_model.specs.declared.Place.{Place}
@@ -33,6 +33,7 @@ pub record Refusing (A : Arena) (e : given.Entry) (a : Added) : Type 0 where
   pub told-is : told a ≡ refuses number []
   pub answer : addOf A e ≡ refuses number []
 
+-- what the checks found
 abbrev pub Judged : Verdict → Arena → given.Entry → Type 0
 Judged (Refuse a) A e = Refusing A e a
 Judged (Take q) A e = Taking A e q

@@ -6,7 +6,7 @@ ghost use lib.ListN.{length, set, take};
 ghost use Rattle.dirtab_entry.specs.Entry.{isDirectory, storedSize, nameIn};
 ghost use Rattle.avl_model.specs.declared.Place.the-variants.{Root};
 ghost use Rattle.avl_model.specs.Lists.{lists};
-ghost use Rattle.avl_model.specs.Names.{names as named, toName, isLess};
+ghost use Rattle.avl_model.specs.Names.{names, toName, isLess};
 ghost use Rattle.avl_model.specs.Seek.{spotIn, Sought};
 ghost use Rattle.avl_model.specs.Tree.{ins};
 ghost use Rattle.avl_model.specs.Insert.{Placed};
@@ -112,13 +112,13 @@ fn find_place(
     right: &[u16],
     start: &[u32],
     len: &[u32],
-    names: &[u8],
+    bytes: &[u8],
     entry: Entry,
 ) -> Spot
-    requires { ⌜ (tree .count ≤ length (now left)) × (tree .count ≤ length (now right)) × (entry .start + entry .len ≤ length (now names)) × (entry .len ≤ 255) ⌝ }
-    requires { ⌜ Sought (take (tree .count) (now left)) (take (tree .count) (now right)) (tree .root) (named (now names) (now start) (now len)) ⌝ }
-    ensures { λ s. ⌜ ((w : Sought (take (tree .count) (now (left .entry))) (take (tree .count) (now (right .entry))) (tree .root) (named (now (names .entry)) (now (start .entry)) (now (len .entry)))) →
-        s ≡ spotIn (toName (named (now (names .entry)) (now (start .entry)) (now (len .entry))) (nameIn (now (names .entry)) entry)) (w .linked .t) Root) ⌝ }
+    requires { ⌜ (tree .count ≤ length (now left)) × (tree .count ≤ length (now right)) × (entry .start + entry .len ≤ length (now bytes)) × (entry .len ≤ 255) ⌝ }
+    requires { ⌜ Sought (take (tree .count) (now left)) (take (tree .count) (now right)) (tree .root) (names (now bytes) (now start) (now len)) ⌝ }
+    ensures { λ s. ⌜ ((w : Sought (take (tree .count) (now (left .entry))) (take (tree .count) (now (right .entry))) (tree .root) (names (now (bytes .entry)) (now (start .entry)) (now (len .entry)))) →
+        s ≡ spotIn (toName (names (now (bytes .entry)) (now (start .entry)) (now (len .entry))) (nameIn (now (bytes .entry)) entry)) (w .linked .t) Root) ⌝ }
 {
     let n = widen(tree.count);
     let from = widen_place(entry.start);
@@ -126,11 +126,19 @@ fn find_place(
     find_spot(
         &left[..n],
         &right[..n],
+<<<<<<< HEAD
         names,
         start,
         len,
         tree.root,
         &names[from..to],
+=======
+        bytes,
+        start,
+        len,
+        tree.root,
+        &bytes[from..to],
+>>>>>>> f881827330b9a574ac48dd1f594278b9030ab6db
     )
 }
 

@@ -5,10 +5,6 @@ use Rattle.avl_model.proofs.Adding.{sought, out-same, free-is, out-free}
 use borrow.Author.Needs.{needs}
 use Rattle.avl_insert.proofs.insert.Statement.{statement}
 use Rattle.avl_insert.proofs.insert.Tie as tie
-use Rattle.avl_insert.proofs.insert.Reads as reads
-use Rattle.avl_insert.proofs.insert.Lts as lts
-use Rattle.avl_insert.proofs.find_spot.Reads as find-spot-reads
-use Rattle.avl_insert.proofs.put_in.Reads as put-in-reads
 
 find-spot-requires : tie.Need-find-spot-requires
 find-spot-requires c κs = let s = c .before .before .before .before .before .before .before .before .before .before .before in

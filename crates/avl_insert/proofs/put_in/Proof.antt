@@ -6,10 +6,6 @@ use Rattle.avl_model.proofs.Adding.{new-ready, inserted}
 use borrow.Author.Needs.{needs}
 use Rattle.avl_insert.proofs.put_in.Statement.{statement}
 use Rattle.avl_insert.proofs.put_in.Tie as tie
-use Rattle.avl_insert.proofs.put_in.Reads as reads
-use Rattle.avl_insert.proofs.put_in.Lts as lts
-use Rattle.avl_insert.proofs.attach.Reads as attach-reads
-use Rattle.avl_insert.proofs.rebalance.Reads as rebalance-reads
 
 attach-requires : tie.Need-attach-requires
 attach-requires c κs = search needs

@@ -5,12 +5,6 @@ use Rattle.dirtab_add.proofs.Ways.{refused, roomy, fine, goes, added-is
 use borrow.Author.Needs.{needs}
 use Rattle.dirtab_add.proofs.add.Statement.{statement}
 use Rattle.dirtab_add.proofs.add.Tie as tie
-use Rattle.dirtab_add.proofs.add.Reads as reads
-use Rattle.dirtab_add.proofs.add.Lts as lts
-use Rattle.dirtab_add.proofs.grow.Reads as grow-reads
-use Rattle.dirtab_add.proofs.judge.Reads as judge-reads
-use Rattle.dirtab_add.proofs.store_entry.Reads as store-entry-reads
-use Rattle.dirtab_add.proofs.widen.Reads as widen-reads
 
 judge-requires : tie.Need-judge-requires
 judge-requires c κs = search needs

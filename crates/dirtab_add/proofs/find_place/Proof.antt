@@ -7,11 +7,6 @@ use Rattle.dirtab_add.proofs.Ways.{sought-at, name-short, found-at}
 use borrow.Author.Needs.{needs}
 use Rattle.dirtab_add.proofs.find_place.Statement.{statement}
 use Rattle.dirtab_add.proofs.find_place.Tie as tie
-use Rattle.dirtab_add.proofs.find_place.Reads as reads
-use Rattle.dirtab_add.proofs.find_place.Lts as lts
-use Rattle.avl_insert.proofs.find_spot.Reads as find-spot-reads
-use Rattle.dirtab_add.proofs.widen.Reads as widen-reads
-use Rattle.dirtab_add.proofs.widen_place.Reads as widen-place-reads
 
 widen-requires : tie.Need-widen-requires
 widen-requires c κs = search needs
@@ -43,13 +38,13 @@ part-find-spot-end c = search needs
 find-spot-requires : tie.Need-find-spot-requires
 find-spot-requires c κs = let s = c .before .before .before .before .before .before .before .before .before .before .before in
     let a = s .args in (
-      sought-at (a .left .now) (a .right .now) (a .tree .root) (a .tree .count) (c .before .before .before .before .before .widen .result) (names (a .names .now) (a .start .now) (a .len .now)) (c .before .before .before .before .before .widen .ensures) (s .pre .1),
-      name-short (a .left .now) (a .right .now) (a .tree .root) (a .tree .count) (c .before .before .before .before .before .widen .result) (names (a .names .now) (a .start .now) (a .len .now)) (c .before .before .before .before .before .widen .ensures) (a .names .now) (a .entry) (c .before .before .before .before .widen-place .result) (c .before .before .before .widen-place2 .result) (c .before .before .before .before .widen-place .ensures) (c .before .before .before .widen-place2 .ensures) (s .pre .0 .3),
+      sought-at (a .left .now) (a .right .now) (a .tree .root) (a .tree .count) (c .before .before .before .before .before .widen .result) (names (a .bytes .now) (a .start .now) (a .len .now)) (c .before .before .before .before .before .widen .ensures) (s .pre .1),
+      name-short (a .left .now) (a .right .now) (a .tree .root) (a .tree .count) (c .before .before .before .before .before .widen .result) (names (a .bytes .now) (a .start .now) (a .len .now)) (c .before .before .before .before .before .widen .ensures) (a .bytes .now) (a .entry) (c .before .before .before .before .widen-place .result) (c .before .before .before .widen-place2 .result) (c .before .before .before .before .widen-place .ensures) (c .before .before .before .widen-place2 .ensures) (s .pre .0 .3),
     )
 
 returns : tie.Need-returns
 returns c = let a = c .before .before .before .before .before .before .before .before .before .before .before .before .args in
-    found-at (a .left .now) (a .right .now) (a .tree .root) (a .tree .count) (c .before .before .before .before .before .before .widen .result) (names (a .names .now) (a .start .now) (a .len .now)) (c .before .before .before .before .before .before .widen .ensures) (a .names .now) (a .entry) (c .before .before .before .before .before .widen-place .result) (c .before .before .before .before .widen-place2 .result) (c .before .before .before .before .before .widen-place .ensures) (c .before .before .before .before .widen-place2 .ensures) (c .find-spot .ensures)
+    found-at (a .left .now) (a .right .now) (a .tree .root) (a .tree .count) (c .before .before .before .before .before .before .widen .result) (names (a .bytes .now) (a .start .now) (a .len .now)) (c .before .before .before .before .before .before .widen .ensures) (a .bytes .now) (a .entry) (c .before .before .before .before .before .widen-place .result) (c .before .before .before .before .widen-place2 .result) (c .before .before .before .before .before .widen-place .ensures) (c .before .before .before .before .widen-place2 .ensures) (c .find-spot .ensures)
 
 pub find-place-spec : {M : Type 1} → statement M
 find-place-spec =

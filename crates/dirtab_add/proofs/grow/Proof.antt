@@ -8,10 +8,6 @@ use Rattle.dirtab_add.proofs.Growing.{placed-at, grown-at}
 use borrow.Author.Needs.{needs}
 use Rattle.dirtab_add.proofs.grow.Statement.{statement}
 use Rattle.dirtab_add.proofs.grow.Tie as tie
-use Rattle.dirtab_add.proofs.grow.Reads as reads
-use Rattle.dirtab_add.proofs.grow.Lts as lts
-use Rattle.avl_insert.proofs.put_in.Reads as put-in-reads
-use Rattle.dirtab_add.proofs.widen.Reads as widen-reads
 
 widen-requires : tie.Need-widen-requires
 widen-requires c κs = search needs

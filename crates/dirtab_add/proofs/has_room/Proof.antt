@@ -1,10 +1,8 @@
 -- `has_room` meets its contract: at each return the tests that led there say which case holds.
-use Rattle.dirtab_arena.specs.Arena.{Columns, columns}
+use Rattle.dirtab_arena.specs.Arena.{columns}
 use Rattle.dirtab_add.proofs.Room.{full-count, full-left, full-right, full-parent, full-height, full-start, full-len, full-size, last-kind}
 use Rattle.dirtab_add.proofs.has_room.Statement.{statement}
 use Rattle.dirtab_add.proofs.has_room.Tie as tie
-use Rattle.dirtab_add.proofs.has_room.Reads as reads
-use Rattle.dirtab_add.proofs.has_room.Lts as lts
 
 returns : tie.Need-returns
 returns c = let a = c .before .args in full-count (a .n) (columns (a .left .now) (a .right .now) (a .parent .now) (a .height .now) (a .start .now) (a .len .now) (a .size .now) (a .kind .now)) (c .if1 .taken)

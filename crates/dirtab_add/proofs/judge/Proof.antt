@@ -6,11 +6,6 @@ use Rattle.dirtab_add.proofs.Ways.{bad-arena, bad-entry, good-entry}
 use borrow.Author.Needs.{needs}
 use Rattle.dirtab_add.proofs.judge.Statement.{statement}
 use Rattle.dirtab_add.proofs.judge.Tie as tie
-use Rattle.dirtab_add.proofs.judge.Reads as reads
-use Rattle.dirtab_add.proofs.judge.Lts as lts
-use Rattle.dirtab_add.proofs.judge_name.Reads as judge-name-reads
-use Rattle.dirtab_arena.proofs.is_arena.Reads as is-arena-reads
-use Rattle.dirtab_entry.proofs.check_entry.Reads as check-entry-reads
 
 is-arena-requires : tie.Need-is-arena-requires
 is-arena-requires c κs = search needs

@@ -3,16 +3,12 @@ use native.Mathlib.Omega.{arith}
 use Rattle.avl_model.specs.Names.{names, toName}
 use Rattle.dirtab_entry.specs.Entry.{nameIn}
 use Rattle.dirtab_arena.specs.Arena.{columns, arena}
-use Rattle.dirtab_add.proofs.Checks.{fine-of, held, sought, spot-is}
+use Rattle.dirtab_arena.proofs.Fine.{fine-of}
+use Rattle.dirtab_arena.proofs.Passed.{held, sought, spot-is}
 use Rattle.dirtab_add.proofs.Ways.{same-name, no-room, with-room}
 use borrow.Author.Needs.{needs}
 use Rattle.dirtab_add.proofs.judge_name.Statement.{statement}
 use Rattle.dirtab_add.proofs.judge_name.Tie as tie
-use Rattle.dirtab_add.proofs.judge_name.Reads as reads
-use Rattle.dirtab_add.proofs.judge_name.Lts as lts
-use Rattle.dirtab_add.proofs.find_place.Reads as find-place-reads
-use Rattle.dirtab_add.proofs.has_room.Reads as has-room-reads
-use Rattle.dirtab_add.proofs.widen.Reads as widen-reads
 
 find-place-requires : tie.Need-find-place-requires
 find-place-requires c κs = let s = c .before .before .before .before .before .before .before .before .before .before in

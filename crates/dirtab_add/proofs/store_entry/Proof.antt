@@ -5,10 +5,6 @@ use lib.ListN.{set}
 use borrow.Author.Needs.{needs}
 use Rattle.dirtab_add.proofs.store_entry.Statement.{statement}
 use Rattle.dirtab_add.proofs.store_entry.Tie as tie
-use Rattle.dirtab_add.proofs.store_entry.Reads as reads
-use Rattle.dirtab_add.proofs.store_entry.Lts as lts
-use Rattle.dirtab_add.proofs.number_of.Reads as number-of-reads
-use Rattle.dirtab_entry.proofs.stored_size.Reads as stored-size-reads
 
 mul-start : tie.Need-mul-start
 mul-start c = search needs

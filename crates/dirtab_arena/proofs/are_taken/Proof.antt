@@ -10,10 +10,6 @@ use Rattle.dirtab_arena.specs.Arena.{columns, arena, isTaken}
 use Rattle.dirtab_arena.proofs.Ways.{one-not, one-more, all-were}
 use Rattle.dirtab_arena.proofs.are_taken.Statement.{statement}
 use Rattle.dirtab_arena.proofs.are_taken.Tie as tie
-use Rattle.dirtab_arena.proofs.are_taken.Reads as reads
-use Rattle.dirtab_arena.proofs.are_taken.Lts as lts
-use Rattle.dirtab_arena.proofs.is_taken.Reads as is-taken-reads
-use Rattle.dirtab_entry.proofs.kind_of.Reads as kind-of-reads
 
 abbrev Inv-loop : tie.InvT-loop
 Inv-loop start len size kind names n i₀ i = (i ≤ n) × (every (isTaken (arena 0 0 (columns [] [] [] [] start len size kind) names)) i ≡ true)

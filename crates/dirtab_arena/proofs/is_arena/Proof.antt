@@ -1,14 +1,8 @@
 -- `is_arena` meets its contract: at each return the tests that led there say which case holds.
-use native.Mathlib.Omega.{arith}
 use Rattle.dirtab_arena.proofs.Ways.{short-size, short-kind, no-tree, lengths, by-entries}
 use borrow.Author.Needs.{needs}
 use Rattle.dirtab_arena.proofs.is_arena.Statement.{statement}
 use Rattle.dirtab_arena.proofs.is_arena.Tie as tie
-use Rattle.dirtab_arena.proofs.is_arena.Reads as reads
-use Rattle.dirtab_arena.proofs.is_arena.Lts as lts
-use Rattle.avl_arena.proofs.is_tree.Reads as is-tree-reads
-use Rattle.dirtab_arena.proofs.are_taken.Reads as are-taken-reads
-use Rattle.dirtab_arena.proofs.widen.Reads as widen-reads
 
 widen-requires : tie.Need-widen-requires
 widen-requires c κs = search needs

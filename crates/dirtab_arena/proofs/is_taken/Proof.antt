@@ -4,9 +4,6 @@ use Rattle.dirtab_arena.proofs.Ways.{is-told}
 use borrow.Author.Needs.{needs}
 use Rattle.dirtab_arena.proofs.is_taken.Statement.{statement}
 use Rattle.dirtab_arena.proofs.is_taken.Tie as tie
-use Rattle.dirtab_arena.proofs.is_taken.Reads as reads
-use Rattle.dirtab_arena.proofs.is_taken.Lts as lts
-use Rattle.dirtab_entry.proofs.check_entry.Reads as check-entry-reads
 
 check-entry-requires : tie.Need-check-entry-requires
 check-entry-requires c κs = search needs

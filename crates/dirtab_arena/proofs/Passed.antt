@@ -1,70 +1,35 @@
--- What is known of an entry that the check took, and of an arena that passed.
-use Prim.Native.Nat.{ℕ, _+_, _≤_, _<_}
+-- What an arena that passed the check is: a held tree, and entries that adding takes.
+use Prim.Native.Nat.{ℕ, _≤_, _<_}
 use native.Mathlib.Omega.{arith}
-use mathlib.Core.Path.{_≡_, refl, sym, ap, subst, _∙_}
-use mathlib.Core.Bool.{Bool, true, false, _&&_}
-use mathlib.Core.List.{List, []}
-use lib.ListN.{length, getD, take}
+use mathlib.Core.Path.{_≡_, refl, sym, _∙_}
+use mathlib.Core.Bool.{true, _&&_}
+use lib.ListN.{length, take}
 use lib.Seq.{length-take-le}
-use lib.Dec.{leb, ltb, eqb}
-use borrow.Author.Tests.{leb-true, ltb-false, eqb-false}
-use Rattle.units.specs.Told.{Told, gives, refuses, pick}
+use lib.Dec.{leb}
+use borrow.Author.Tests.{leb-true}
+use Rattle.units.specs.Told.{Told, gives, refuses}
 use Rattle.layout_name.specs.declared.Order.{Order}
 use Rattle.dirtab_entry.specs.declared.Entry as given
-use Rattle.dirtab_entry.specs.Entry.{isDirectory, anyBad, nameIn, checkOf}
+use Rattle.dirtab_entry.specs.Entry.{checkOf}
 use Rattle.avl_model.specs.declared.Place.the-variants.{Root}
 use Rattle.avl_model.specs.declared.Spot.{Spot}
-use Rattle.avl_model.specs.Lists.{Lists}
-use Rattle.avl_model.specs.Names.{Names, Inside}
-use Rattle.avl_model.specs.Tree.{Tree, none}
-use Rattle.avl_model.specs.Laws.{All}
-use Rattle.avl_model.specs.Seek.{spotIn, Linked, Sought}
+use Rattle.avl_model.specs.Names.{Inside}
+use Rattle.avl_model.specs.Tree.{none}
+use Rattle.avl_model.specs.Seek.{spotIn, Sought}
 use Rattle.avl_model.specs.Held.{arrOf}
 use Rattle.avl_model.proofs.Avl.{all-map}
 use Rattle.avl_model.proofs.Counted.{rep-below}
-use Rattle.avl_arena.specs.Test.{every, holdsTree, decoded}
+use Rattle.avl_arena.specs.Test.{every, holdsTree}
 use Rattle.avl_arena.specs.HeldTree.{HeldTree}
-use Rattle.avl_arena.proofs.Tested.{and-l, and-r}
+use Rattle.avl_arena.proofs.Tested.{and-l, and-r, every-at}
 use Rattle.avl_arena.proofs.Sound.{sound}
 use Rattle.avl_arena.proofs.Complete.{links-part, held-low}
-use Rattle.dirtab_arena.specs.Arena.{Arena, listsOf, namesOf, isTaken, isArena, treeOf}
+use Rattle.dirtab_arena.specs.Arena.{Arena, listsOf, namesOf, givenAt, isGiven, isTaken, isArena, treeOf}
+use Rattle.dirtab_arena.proofs.Fine.{Fine, fine-of}
 
--- ---- the entry
-
-went-on : (b : Bool) (k : ℕ) (x : Told (Unit {0})) → pick b (refuses k []) x ≡ gives tt → (b ≡ false) × (x ≡ gives tt)
-went-on true k x e = let z : _≡_ {A = ℕ} 0 1 = cc in absurd (omega arith)
-went-on false k x e = (refl, e)
-
--- what the check of an entry says where it takes it
-pub record Fine (B : List ℕ) (e : given.Entry) : Type 0 where
-  pub some : e .len ≡ 0 → ⊥
-  pub inside : e .start + e .len ≤ length B
-  pub good : anyBad (nameIn B e) ≡ false
-  pub short : e .len ≤ 255
-  pub small : isDirectory (e .kind) ≡ true → e .size ≤ 4294965248
-
-module _ (B : List ℕ) (e : given.Entry) where
-  small-of : (d : Bool) → pick d (ltb 4294965248 (e .size)) false ≡ false → d ≡ true → e .size ≤ 4294965248
-  small-of true h q = ltb-false 4294965248 (e .size) h
-  small-of false h q = let z : _≡_ {A = ℕ} 0 1 = cc in absurd (omega arith)
-
-  pub fine-of : checkOf B e ≡ gives tt → Fine B e
-  unfolding checkOf
-  fine-of h0 =
-      let h1 = went-on (eqb (e .len) 0) 1 _ h0 in
-      let h2 = went-on (ltb (length B) (e .start + e .len)) 2 _ (h1 .1) in
-      let h3 = went-on (anyBad (nameIn B e)) 2 _ (h2 .1) in
-      let h4 = went-on (ltb 255 (e .len)) 3 _ (h3 .1) in
-      let h5 = went-on (pick (isDirectory (e .kind)) (ltb 4294965248 (e .size)) false) 5 _ (h4 .1) in
-      record {
-        some = eqb-false (e .len) 0 (h1 .0);
-        inside = ltb-false (length B) (e .start + e .len) (h2 .0);
-        good = h3 .0;
-        short = ltb-false 255 (e .len) (h4 .0);
-        small = small-of (isDirectory (e .kind)) (h5 .0);
-      }
-
--- ---- the arena
+given-of : (t : Told (Unit {0})) → isGiven t ≡ true → t ≡ gives tt
+given-of (gives u) e = refl
+given-of (refuses k vs) e = let z : _≡_ {A = ℕ} 0 1 = cc in absurd (omega arith)
 
 module _ (A : Arena) (p : isArena A ≡ true) where
   abbrev n : ℕ
@@ -93,6 +58,11 @@ module _ (A : Arena) (p : isArena A ≡ true) where
 
   pub held : HeldTree (listsOf A) (namesOf A) n (treeOf A)
   held = sound (listsOf A) (namesOf A) n tree-passed
+
+  -- each held entry is one that adding takes
+  pub each-fine : (j : ℕ) → j < n → Fine (A .bytes) (givenAt A j)
+  unfolding isTaken
+  each-fine j h = fine-of (A .bytes) (givenAt A j) (given-of (checkOf (A .bytes) (givenAt A j)) (every-at (isTaken A) n entries-passed j h))
 
   inside-at : (j : ℕ) → j < n → Inside (namesOf A) j
   inside-at j h = record { starts = omega (arith, held .places .start); ends = omega (arith, held .places .len); fits = held .named j h }
