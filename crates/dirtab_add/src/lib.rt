@@ -126,19 +126,11 @@ fn find_place(
     find_spot(
         &left[..n],
         &right[..n],
-<<<<<<< HEAD
-        names,
-        start,
-        len,
-        tree.root,
-        &names[from..to],
-=======
         bytes,
         start,
         len,
         tree.root,
         &bytes[from..to],
->>>>>>> f881827330b9a574ac48dd1f594278b9030ab6db
     )
 }
 
