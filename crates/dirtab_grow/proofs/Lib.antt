@@ -1,5 +1,4 @@
 -- Laws of growing a tree, and what the proofs of the code are made of.
-pub mod Good
 pub mod Checked
 pub mod Columns
 pub mod Hung

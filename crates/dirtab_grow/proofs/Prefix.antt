@@ -14,6 +14,7 @@ use Rattle.avl_model.specs.Lists.{Lists, lists}
 use Rattle.avl_model.specs.Names.{Names, names, byName, isLess, Inside}
 use Rattle.avl_model.specs.Held.{Long, arrOf}
 use Rattle.avl_model.specs.Seek.{spotIn}
+use Rattle.dirtab_arena.proofs.Fine.{fine-of}
 use Rattle.avl_model.proofs.Adding.{below}
 use Rattle.avl_model.proofs.Counted.{all-at}
 use Rattle.avl_model.proofs.Frame.{Agree, frame}
@@ -21,7 +22,6 @@ use Rattle.dirtab_grow.specs.declared.Step.{Step}
 use Rattle.dirtab_grow.specs.declared.Step.the-variants as step
 use Rattle.dirtab_grow.specs.Listing.{Listing, givenIn}
 use Rattle.dirtab_grow.specs.Growing.{stepOf, Grown, Growing, Hangable, Lent, Wide, Stepped}
-use Rattle.dirtab_grow.proofs.Good.{good}
 
 -- columns that agree on the first n places hold the same tree of n numbers
 pub frame-grown : (S T : Lists) (N : Names) (n : ℕ) (t : Tree) → T .root ≡ S .root → ((j : ℕ) → j < n → Agree (arrOf S) (arrOf T) j) → Grown S N n t → Grown T N n t
@@ -70,7 +70,7 @@ module _ (S : Lists) (K : List ℕ) (L : Listing) (i end : ℕ) (end-is : end �
 
   -- an entry that passed its checks may be put in there
   pub hangable : Lent L i → checkOf (L .bytes) (givenIn L i) ≡ gives tt → Growing S K N i → Hangable front K N i
-  hangable lent e w = let g = good (L .bytes) (givenIn L i) e in record {
+  hangable lent e w = let g = fine-of (L .bytes) (givenIn L i) e in record {
     growing = growing-front w;
     long = long-front;
     has = wide .k;

@@ -22,11 +22,11 @@ use Rattle.avl_model.specs.Tree.{Tree, none, ins, cnt}
 use Rattle.avl_model.proofs.Adding.{links-of, below}
 use Rattle.avl_model.proofs.Avl.{at-most-22}
 use Rattle.avl_model.proofs.Counted.{all-at, each-size}
+use Rattle.dirtab_arena.proofs.Fine.{Fine, fine-of}
 use Rattle.dirtab.specs.Steps.{Rooted}
 use Rattle.dirtab_grow.specs.Listing.{Listing, givenIn}
 use Rattle.dirtab_grow.specs.Grow.{ifTaken, ifFree, growFrom, orderIn, grow}
 use Rattle.dirtab_grow.specs.Growing.{Grown, Holding}
-use Rattle.dirtab_grow.proofs.Good.{Good, good}
 
 never : {X : Type 0} {t : Tree} {k : ℕ} {vs : List ℕ} → _≡_ {A = Told Tree} (refuses k vs) (gives t) → X
 never e = let z : _≡_ {A = ℕ} 0 1 = cc in absurd (omega arith)
@@ -56,8 +56,8 @@ module _ (L : Listing) (S : Lists) (w : Holding (grow (L .bytes) (givenIn L) (L 
   abbrev n : ℕ
   n = L .count
 
-  each-good : (j : ℕ) → j < n → Good (L .bytes) (givenIn L j)
-  each-good j h = good (L .bytes) (givenIn L j) (all-passed (λ i. checkOf (L .bytes) (givenIn L i)) (orderIn (L .bytes) (givenIn L)) n 0 _ (w .told) j (omega arith) (omega arith))
+  each-fine : (j : ℕ) → j < n → Fine (L .bytes) (givenIn L j)
+  each-fine j h = fine-of (L .bytes) (givenIn L j) (all-passed (λ i. checkOf (L .bytes) (givenIn L i)) (orderIn (L .bytes) (givenIn L)) n 0 _ (w .told) j (omega arith) (omega arith))
 
   pub rooted-of : ((j : ℕ) → getD (L .size) j 0 ≤ 4294967295) → n ≤ length (L .size) → n ≤ length (L .kind) → n ≤ length (S .L) → n ≤ length (S .R)
       → Rooted (S .L) (S .R) (L .start) (L .len) (L .size) (L .kind) (L .bytes) (S .root) n (w .t)
@@ -72,8 +72,8 @@ module _ (L : Listing) (S : Lists) (w : Holding (grow (L .bytes) (givenIn L) (L 
           in-left = in-left;
           in-right = in-right;
           inside = λ j h. all-at _ (w .t) j (g .named) (g .full j h);
-          short = λ j h. each-good j h .short;
-          sized = λ j h. record { in-size = omega arith; in-kind = omega arith; low = each-good j h .low };
+          short = λ j h. each-fine j h .short;
+          sized = λ j h. record { in-size = omega arith; in-kind = omega arith; low = each-fine j h .small };
           fits = fits;
         };
         root-is = g .held .link;

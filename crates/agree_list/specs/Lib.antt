@@ -1,0 +1,2 @@
+-- What adding in turn is.
+pub mod InTurn
