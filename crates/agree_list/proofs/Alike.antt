@@ -1,17 +1,17 @@
 -- What a table is depends on the entries of the tree's own numbers alone. Assumes nothing.
 use Prim.Native.Nat.{ℕ, _+_, _-_, _/_}
-use mathlib.Core.Path.{_≡_, refl, sym, ap, ap₂, _∙_}
-use mathlib.Core.List.{List, [], _∷_, _++_}
+use mathlib.Core.Path.{_≡_, refl, ap, _∙_}
+use mathlib.Core.List.{[], _∷_, _++_}
 use lib.Dec.{ltb}
 use lib.ListN.{replicate}
-use Rattle.units.specs.Told.{Told, gives, refuses, pick}
+use Rattle.units.specs.Told.{gives, refuses, pick}
 use Rattle.layout_sector.specs.Counter.{sectorsFor, alignedUp}
 use Rattle.dirtab_entry.specs.Entry.{rounded}
 use Rattle.avl_model.specs.Tree.{Tree, leaf, node}
 use Rattle.avl_model.specs.Laws.{All}
-use Rattle.table_model.specs.Entry.{Entry, Item, lengthOf}
-use Rattle.table_model.specs.Place.{startAfter, startOf, stopOf, endOf, linkTo, freeAfter, freeOf, itemOf, items}
-use Rattle.table_model.specs.Table.{bytesFrom, anyFar, Placing, sizeOf, tableBytes, placeOf}
+use Rattle.table_model.specs.Entry.{Entry, lengthOf}
+use Rattle.table_model.specs.Place.{startAfter, stopOf, endOf, linkTo, freeAfter, freeOf, itemOf, items}
+use Rattle.table_model.specs.Table.{bytesFrom, anyFar, sizeOf, tableBytes, placeOf}
 
 module _ (f g : ℕ → Entry) where
   abbrev Alike : Tree → Type 0

@@ -3,9 +3,8 @@
 use Prim.Native.Nat.{ℕ, _≤_, _<_}
 use native.Mathlib.Omega.{arith}
 use mathlib.Core.Path.{_≡_, refl, sym, ap, subst, _∙_}
-use mathlib.Core.Bool.{Bool, true, _&&_}
+use mathlib.Core.Bool.{Bool, true}
 use mathlib.Core.List.{List, []}
-use lib.Dec.{leb}
 use lib.ListN.{length}
 use borrow.Author.Tests.{le-leb}
 use Rattle.units.specs.Told.{Told, gives, refuses, pick}
@@ -15,9 +14,8 @@ use Rattle.avl_model.specs.Tree.{Tree, none}
 use Rattle.avl_model.proofs.Avl.{all-map}
 use Rattle.avl_model.proofs.Counted.{rep-below}
 use Rattle.avl_arena.proofs.Tested.{and-both}
-use Rattle.table_model.specs.Entry.{Entry}
-use Rattle.table_model.specs.Table.{Placing, placeOf, tableBytes}
-use Rattle.dirtab_arena.specs.Arena.{Columns, Arena, listsOf, entryAt, isArena, treeOf}
+use Rattle.table_model.specs.Table.{placeOf, tableBytes}
+use Rattle.dirtab_arena.specs.Arena.{Columns, Arena, listsOf, entryAt, treeOf}
 use Rattle.dirtab_arena.proofs.Passed.{held}
 use Rattle.dirtab.specs.Serialise as serialise
 use Rattle.dirtab.specs.Serialise.{ifFits, ifWritten, serialiseOf, scratchFits}
@@ -26,7 +24,7 @@ use Rattle.dirtab_grow.specs.Grow.{grow}
 use Rattle.dirtab_list.specs.Whole.{entryIn, hasPlaces, ifGrown, wholeOf, tableFor, outAfter}
 use Rattle.agree_list.specs.InTurn.{addAll, emptyIn, thenAnswer, thenOutput, Wide}
 use Rattle.agree_list.proofs.Alike.{place-alike, bytes-alike}
-use Rattle.agree_list.proofs.InTurn.{After, Ended, Agrees, from-empty}
+use Rattle.agree_list.proofs.InTurn.{Ended, Agrees, from-empty}
 
 module _ (L : Listing) (m p : ℕ) (hm : L .count ≤ m) (hp : L .count ≤ p) (s : ℕ) where
   -- an arena that holds the grown tree

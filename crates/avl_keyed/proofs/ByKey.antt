@@ -5,11 +5,11 @@ use native.Mathlib.Nat.{mul-suc, mul-zero, mul-le-mul-left}
 use mathlib.Core.Path.{_≡_, refl, sym, ap, ap₂, subst, _∙_}
 use mathlib.Core.Bool.{Bool, true, false}
 use mathlib.Core.List.{List, [], _∷_, _++_, map}
-use lib.Dec.{ltb, leb}
+use lib.Dec.{leb}
 use lib.ListN.{length, getD, replicate, List·getD-map}
 use Rattle.units.specs.Told.{pick}
 use Rattle.layout_name.specs.declared.Order.{Order}
-use Rattle.layout_name.specs.declared.Order.the-variants.{Less, Equal, Greater}
+use Rattle.layout_name.specs.declared.Order.the-variants.{Less, Greater}
 use Rattle.layout_name.specs.Order.{raised, numberOrder, andThen, listOrder, orderBy, nameOrder, raisedCopy, opposite}
 use Rattle.layout_name.proofs.Laws.{Three, less, equal, greater, three, number-less, number-equal, name-opposite}
 use Rattle.avl_keyed.specs.Key.{keyOf, keyFor}

@@ -1,24 +1,23 @@
 -- One turn of the search: the child that is chosen, and the place that it hangs at. Assumes nothing.
 use Prim.Native.Nat.{ℕ, _+_, _≤_, _<_}
 use native.Mathlib.Omega.{arith}
-use mathlib.Core.Path.{_≡_, refl, sym, ap, subst, _∙_}
+use mathlib.Core.Path.{_≡_, refl, sym, ap, subst}
 use mathlib.Core.Bool.{Bool, true, false}
 use mathlib.Core.List.{List}
-use lib.Dec.{ltb, eqb}
+use lib.Dec.{ltb}
 use lib.ListN.{length, getD, take, drop, length-take}
 use lib.Seq.{getD-take, getD-drop}
 use borrow.Author.Tests.{ne-eqb, ltb-true, ltb-false}
 use Rattle.units.specs.Told.{pick}
 use Rattle.layout_name.specs.declared.Order.{Order}
-use Rattle.layout_name.specs.declared.Order.the-variants.{Less, Equal, Greater}
-use Rattle.layout_name.specs.Order.{nameOrder}
+use Rattle.layout_name.specs.declared.Order.the-variants.{Less, Greater}
 use Rattle.avl_model.specs.declared.Place.{Place}
 use Rattle.avl_model.specs.declared.Place.the-variants.{Root, Left, Right}
 use Rattle.avl_model.specs.declared.Spot.{Spot}
 use Rattle.avl_model.specs.Tree.{none}
 use Rattle.avl_model.specs.Names.{Names, nameAt, toName}
 use Rattle.avl_model.proofs.Seeking.{Seeking, depth, go-left, go-right, less-left, less-right}
-use Rattle.avl_keyed.specs.Key.{keyFor, Keyed, placeFrom}
+use Rattle.avl_keyed.specs.Key.{keyFor, placeFrom}
 use Rattle.avl_keyed.proofs.ByKey.{Bytes, key-less, key-greater}
 
 -- no test is true and false

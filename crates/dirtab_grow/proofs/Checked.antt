@@ -2,10 +2,10 @@
 use Prim.Native.Nat.{ℕ, _≤_, _<_}
 use native.Mathlib.Omega.{arith}
 use mathlib.Core.Path.{_≡_, refl, sym, ap, subst, _∙_}
-use mathlib.Core.Bool.{Bool, true, false}
+use mathlib.Core.Bool.{Bool}
 use mathlib.Core.List.{List, [], _∷_}
 use lib.Dec.{ltb}
-use lib.ListN.{length, getD, take, drop, length-take}
+use lib.ListN.{length, getD, drop, length-take}
 use borrow.Author.Tests.{lt-ltb, le-ltb}
 use Rattle.units.specs.Told.{Told, gives, refuses, pick}
 use Rattle.dirtab_entry.specs.declared.Kind.{Kind}
@@ -17,7 +17,7 @@ use Rattle.avl_model.specs.declared.Place.the-variants.{Root}
 use Rattle.avl_model.specs.declared.Spot.{Spot}
 use Rattle.avl_model.specs.declared.Spot.the-variants.{Same, Free}
 use Rattle.avl_model.specs.Tree.{Tree, leaf}
-use Rattle.avl_model.specs.Names.{Names, nameAt, toName, byName, Inside}
+use Rattle.avl_model.specs.Names.{Names, nameAt, toName, byName}
 use Rattle.avl_model.specs.Seek.{spotIn}
 use Rattle.layout_name.specs.Order.{raisedCopy}
 use Rattle.avl_keyed.specs.Key.{keyOf, keyFor}

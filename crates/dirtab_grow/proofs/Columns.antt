@@ -1,19 +1,18 @@
 -- Columns that hold a tree of the first n numbers, as the search and the insertion ask for it, and with one number more. Assumes nothing.
-use Prim.Native.Nat.{ℕ, suc, _+_, _≤_, _<_}
+use Prim.Native.Nat.{ℕ, _+_, _≤_, _<_}
 use native.Mathlib.Omega.{arith}
 use native.Mathlib.Decide.{ℕ-discrete}
-use mathlib.Core.Path.{_≡_, refl, sym, ap, subst, _∙_}
+use mathlib.Core.Path.{_≡_, refl, sym, subst, _∙_}
 use mathlib.Core.Bool.{Bool}
 use mathlib.Core.List.{List}
 use lib.ListN.{length, set, length-set}
 use lib.Seq.{getD-set-same, getD-set-other}
-use Rattle.avl_model.specs.Tree.{Tree, leaf, node, none, ht, δ, cnt, ins}
-use Rattle.avl_model.specs.Laws.{Avl, All}
+use Rattle.avl_model.specs.Tree.{Tree, leaf, node, none, ht, δ, ins}
+use Rattle.avl_model.specs.Laws.{All}
 use Rattle.avl_model.specs.Lists.{Lists}
 use Rattle.avl_model.specs.Names.{Names, nameAt, Inside}
 use Rattle.avl_model.specs.Rep.{Arr, Rep, hole}
 use Rattle.avl_model.specs.Held.{Long, arrOf, Held, Arena, Whole}
-use Rattle.avl_model.specs.Seek.{Linked}
 use Rattle.avl_keyed.specs.Key.{Keyed, KeySought, keyFor}
 use Rattle.avl_model.proofs.Adding.{links-of, below}
 use Rattle.avl_model.proofs.Avl.{at-most-22, ins-avl, all-ins}

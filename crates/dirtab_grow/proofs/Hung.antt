@@ -8,7 +8,6 @@ use Rattle.units.specs.Told.{Told, gives, refuses}
 use Rattle.avl_model.specs.declared.Place.{Place}
 use Rattle.avl_model.specs.declared.Place.the-variants.{Root}
 use Rattle.avl_model.specs.declared.Spot.{Spot}
-use Rattle.avl_model.specs.declared.Spot.the-variants.{Free}
 use Rattle.avl_model.specs.Tree.{Tree, ins}
 use Rattle.avl_model.specs.Laws.{All}
 use Rattle.avl_model.specs.Lists.{Lists}
@@ -20,9 +19,8 @@ use Rattle.avl_model.specs.Insert.{Placed}
 use Rattle.dirtab_grow.specs.declared.Cause.{Cause}
 use Rattle.dirtab_grow.specs.declared.Seat.{Seat}
 use Rattle.dirtab_grow.specs.declared.Seat.the-variants as seat
-use Rattle.dirtab_grow.specs.declared.Step.{Step}
 use Rattle.dirtab_grow.specs.declared.Step.the-variants as step
-use Rattle.dirtab_grow.specs.Growing.{numberOf, stepOf, Grown, Growing, Seated, Stepped}
+use Rattle.dirtab_grow.specs.Growing.{numberOf, stepOf, Growing, Seated, Stepped}
 use Rattle.dirtab_grow.proofs.Checked.{seat-free}
 use Rattle.dirtab_grow.proofs.Columns.{sought-in, arena-in, grown-more, keyed-more}
 

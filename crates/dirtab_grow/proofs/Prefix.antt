@@ -1,9 +1,9 @@
 -- The first places of columns hold a tree of the first numbers exactly where the whole columns do. Assumes nothing.
-use Prim.Native.Nat.{ℕ, _+_, _≤_, _<_}
+use Prim.Native.Nat.{ℕ, _+_, _<_}
 use native.Mathlib.Omega.{arith}
-use mathlib.Core.Path.{_≡_, refl, sym, ap, subst, _∙_}
+use mathlib.Core.Path.{_≡_, refl, sym, ap, _∙_}
 use mathlib.Core.List.{List, _++_}
-use lib.ListN.{length, getD, take, drop, List·getD-append}
+use lib.ListN.{length, take, drop, List·getD-append}
 use lib.Seq.{length-take-le, getD-take}
 use Rattle.units.specs.Told.{Told, gives}
 use Rattle.dirtab_entry.specs.Entry.{checkOf}
@@ -11,7 +11,7 @@ use Rattle.avl_model.specs.declared.Place.the-variants.{Root}
 use Rattle.avl_model.specs.declared.Spot.{Spot}
 use Rattle.avl_model.specs.Tree.{Tree, none, ins}
 use Rattle.avl_model.specs.Lists.{Lists, lists}
-use Rattle.avl_model.specs.Names.{Names, names, byName, isLess, Inside}
+use Rattle.avl_model.specs.Names.{Names, names, byName, isLess}
 use Rattle.avl_model.specs.Held.{Long, arrOf}
 use Rattle.avl_model.specs.Seek.{spotIn}
 use Rattle.dirtab_arena.proofs.Fine.{fine-of}
@@ -19,7 +19,6 @@ use Rattle.avl_model.proofs.Adding.{below}
 use Rattle.avl_model.proofs.Counted.{all-at}
 use Rattle.avl_model.proofs.Frame.{Agree, frame}
 use Rattle.dirtab_grow.specs.declared.Step.{Step}
-use Rattle.dirtab_grow.specs.declared.Step.the-variants as step
 use Rattle.dirtab_grow.specs.Listing.{Listing, givenIn}
 use Rattle.dirtab_grow.specs.Growing.{stepOf, Grown, Growing, Hangable, Lent, Wide, Stepped}
 

@@ -4,7 +4,7 @@ use native.Mathlib.Omega.{arith}
 use mathlib.Core.Path.{_≡_, refl, sym, ap, subst, _∙_}
 use mathlib.Core.List.{List, [], _∷_}
 use lib.ListN.{length}
-use Rattle.units.specs.Told.{Told, gives, refuses}
+use Rattle.units.specs.Told.{Told, refuses}
 use Rattle.dirtab_entry.specs.Entry.{checkOf}
 use Rattle.avl_model.specs.declared.Place.the-variants.{Root}
 use Rattle.avl_model.specs.Tree.{Tree, leaf, ins}

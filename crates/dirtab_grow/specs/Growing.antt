@@ -7,7 +7,7 @@ use lib.ListN.{length, getD}
 use Rattle.units.specs.Told.{Told, gives, refuses, pick}
 use Rattle.avl_model.specs.declared.Spot.{Spot}
 use Rattle.avl_model.specs.declared.Spot.the-variants.{Free}
-use Rattle.avl_model.specs.Tree.{Tree, leaf, cnt}
+use Rattle.avl_model.specs.Tree.{Tree, cnt}
 use Rattle.avl_model.specs.Laws.{Avl, All}
 use Rattle.avl_model.specs.Rep.{hole}
 use Rattle.avl_model.specs.Lists.{Lists}

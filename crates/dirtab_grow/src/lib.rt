@@ -1,7 +1,7 @@
 // A list's entries are put one after another into a tree that lent columns hold, without a check of what the columns held before.
 ghost use mathlib.Core.Path.{_≡_};
 ghost use Prim.Native.Nat.{_≤_, _<_};
-ghost use lib.ListN.{length, getD};
+ghost use lib.ListN.{getD};
 ghost use Rattle.units.specs.Told.{Told, gives};
 ghost use Rattle.dirtab_entry.specs.Entry.{checkOf};
 ghost use Rattle.avl_model.specs.declared.Place.the-variants.{Root};

@@ -1,11 +1,9 @@
 -- Answers at small lists, so that no writer that always refuses, or always writes the empty table, has these answers. Assumes nothing.
-use Prim.Native.Nat.{ℕ}
 use mathlib.Core.Path.{_≡_, refl}
-use mathlib.Core.List.{List, [], _∷_}
-use lib.ListN.{length}
-use Rattle.units.specs.Told.{Told, gives, refuses}
+use mathlib.Core.List.{[], _∷_}
+use Rattle.units.specs.Told.{gives, refuses}
 use Rattle.table_model.specs.Place.{items, endOf, freeOf, startAfter}
-use Rattle.table_model.specs.Table.{Placing, anyFar, placeOf}
+use Rattle.table_model.specs.Table.{anyFar, placeOf}
 use Rattle.layout_name.specs.Order.{nameOrder, orderBy, listOrder, numberOrder, raised}
 use Rattle.layout_sector.specs.Counter.{sectorsFor}
 use Rattle.dirtab_entry.specs.Entry.{anyBad, checkOf}

@@ -2,7 +2,7 @@
 use Prim.Native.Nat.{ℕ, zero, suc, _+_, _≤_, _<_}
 use native.Mathlib.Omega.{arith}
 use native.Mathlib.Decide.{ℕ-discrete}
-use mathlib.Core.Path.{_≡_, refl, sym, ap, subst, _∙_}
+use mathlib.Core.Path.{_≡_, refl, subst}
 use mathlib.Core.Bool.{Bool, true, false}
 use mathlib.Core.List.{List, [], _∷_}
 use lib.Dec.{ltb}
@@ -17,8 +17,7 @@ use Rattle.avl_model.specs.Names.{names, isLess}
 use Rattle.avl_model.specs.Seek.{spotIn}
 use Rattle.avl_model.specs.Lists.{Lists}
 use Rattle.avl_model.specs.Held.{arrOf}
-use Rattle.avl_model.specs.Laws as laws
-use Rattle.avl_model.specs.Tree.{Tree, none, ins, cnt}
+use Rattle.avl_model.specs.Tree.{Tree, none, ins}
 use Rattle.avl_model.proofs.Adding.{links-of, below}
 use Rattle.avl_model.proofs.Avl.{at-most-22}
 use Rattle.avl_model.proofs.Counted.{all-at, each-size}
@@ -26,7 +25,7 @@ use Rattle.dirtab_arena.proofs.Fine.{Fine, fine-of}
 use Rattle.dirtab.specs.Steps.{Rooted}
 use Rattle.dirtab_grow.specs.Listing.{Listing, givenIn}
 use Rattle.dirtab_grow.specs.Grow.{ifTaken, ifFree, growFrom, orderIn, grow}
-use Rattle.dirtab_grow.specs.Growing.{Grown, Holding}
+use Rattle.dirtab_grow.specs.Growing.{Holding}
 
 never : {X : Type 0} {t : Tree} {k : ℕ} {vs : List ℕ} → _≡_ {A = Told Tree} (refuses k vs) (gives t) → X
 never e = let z : _≡_ {A = ℕ} 0 1 = cc in absurd (omega arith)

@@ -16,12 +16,10 @@ ghost use lib.ListN.{length, replicate};
 ghost use Rattle.units.specs.Told.{refuses};
 ghost use Rattle.avl_model.specs.Tree.{Tree};
 ghost use Rattle.avl_model.specs.Lists.{lists};
-ghost use Rattle.avl_model.specs.Names.{names};
 ghost use Rattle.dirtab.specs.Serialise as serialise;
 ghost use Rattle.dirtab.specs.Steps.{Rooted, writingOf, writingOut};
-ghost use Rattle.dirtab_grow.specs.Listing.{listing, givenIn};
-ghost use Rattle.dirtab_grow.specs.Grow.{grow};
-ghost use Rattle.dirtab_grow.specs.Growing.{numberOf, Roomy, Holding};
+ghost use Rattle.dirtab_grow.specs.Listing.{listing};
+ghost use Rattle.dirtab_grow.specs.Growing.{numberOf, Roomy};
 ghost use Rattle.dirtab_list.specs.Whole.{told, entryIn, shortest, wholeOf, outAfter, scratchAfter};
 ghost use Rattle.dirtab_list.specs.Steps.{answerOf, outputOf};
 

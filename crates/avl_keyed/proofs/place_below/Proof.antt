@@ -3,8 +3,6 @@ use mathlib.Core.Path.{sym}
 use borrow.Author.Tests.{eq-eqb, ne-eqb}
 use Rattle.avl_keyed.proofs.place_below.Statement.{statement}
 use Rattle.avl_keyed.proofs.place_below.Tie as tie
-use Rattle.avl_keyed.proofs.place_below.Reads as reads
-use Rattle.avl_keyed.proofs.place_below.Lts as lts
 
 returns : tie.Need-returns
 returns c = sym (simp (eq-eqb _ _ (c .if1 .taken)))

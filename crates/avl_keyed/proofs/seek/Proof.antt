@@ -6,7 +6,7 @@ use mathlib.Core.Path.{refl, ap, _∙_}
 use lib.ListN.{getD}
 use mathlib.Core.Bool.{true, false}
 use lib.Dec.{ltb}
-use borrow.Author.Tests.{ltb-true, ltb-false, lt-ltb, le-ltb}
+use borrow.Author.Tests.{ltb-true, ltb-false}
 use borrow.Author.Needs.{needs}
 use Rattle.avl_model.specs.declared.Place.the-variants.{Root}
 use Rattle.avl_model.specs.Names.{names, toName}
@@ -16,13 +16,6 @@ use Rattle.avl_keyed.specs.Key.{Keyed, KeySought, placeFrom}
 use Rattle.avl_keyed.proofs.Turn.{chosen, lower, never-both, by-less, by-greater}
 use Rattle.avl_keyed.proofs.seek.Statement.{statement}
 use Rattle.avl_keyed.proofs.seek.Tie as tie
-use Rattle.avl_keyed.proofs.seek.Reads as reads
-use Rattle.avl_keyed.proofs.seek.Lts as lts
-use Rattle.avl_insert.proofs.name_of.Reads as name-of-reads
-use Rattle.avl_keyed.proofs.choose.Reads as choose-reads
-use Rattle.avl_keyed.proofs.place_below.Reads as place-below-reads
-use Rattle.avl_turn.proofs.index.Reads as index-reads
-use Rattle.layout_name.proofs.compare_raised.Reads as compare-raised-reads
 
 abbrev Inv-loop : tie.InvT-loop
 Inv-loop left right key bytes start len root copy name k at₀ above₀ less₀ at above less = (w : KeySought left right key root (names bytes start len))

@@ -15,11 +15,6 @@ use Rattle.dirtab_grow.proofs.Prefix.{hangable, out-hung}
 use borrow.Author.Needs.{needs}
 use Rattle.dirtab_grow.proofs.add_entry.Statement.{statement}
 use Rattle.dirtab_grow.proofs.add_entry.Tie as tie
-use Rattle.dirtab_grow.proofs.add_entry.Reads as reads
-use Rattle.dirtab_grow.proofs.add_entry.Lts as lts
-use Rattle.avl_turn.proofs.index.Reads as index-reads
-use Rattle.dirtab_grow.proofs.check_at.Reads as check-at-reads
-use Rattle.dirtab_grow.proofs.hang_entry.Reads as hang-entry-reads
 
 check-at-requires : tie.Need-check-at-requires
 check-at-requires c κs = search needs

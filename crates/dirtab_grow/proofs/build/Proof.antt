@@ -10,10 +10,6 @@ use Rattle.dirtab_grow.specs.Listing.{listing}
 use Rattle.dirtab_grow.proofs.Turn.{Building, none-yet, growing, low-number, one-more, stops, all-in, lent-at, wide-at}
 use Rattle.dirtab_grow.proofs.build.Statement.{statement}
 use Rattle.dirtab_grow.proofs.build.Tie as tie
-use Rattle.dirtab_grow.proofs.build.Reads as reads
-use Rattle.dirtab_grow.proofs.build.Lts as lts
-use Rattle.dirtab_grow.proofs.add_entry.Reads as add-entry-reads
-use Rattle.dirtab_grow.proofs.narrow.Reads as narrow-reads
 
 abbrev Inv-loop : tie.InvT-loop
 Inv-loop count bytes start len size kind root₀ left₀ right₀ parent₀ height₀ key₀ i₀ root left right parent height key i =

@@ -5,11 +5,6 @@ use Rattle.dirtab_grow.proofs.Checked.{judged}
 use borrow.Author.Needs.{needs}
 use Rattle.dirtab_grow.proofs.check_at.Statement.{statement}
 use Rattle.dirtab_grow.proofs.check_at.Tie as tie
-use Rattle.dirtab_grow.proofs.check_at.Reads as reads
-use Rattle.dirtab_grow.proofs.check_at.Lts as lts
-use Rattle.avl_turn.proofs.index.Reads as index-reads
-use Rattle.dirtab_entry.proofs.check_entry.Reads as check-entry-reads
-use Rattle.dirtab_entry.proofs.kind_of.Reads as kind-of-reads
 
 index-requires : tie.Need-index-requires
 index-requires c κs = search needs

@@ -4,12 +4,6 @@ use Rattle.dirtab_grow.proofs.Checked.{short-name, key-of-name, found, 
 use borrow.Author.Needs.{needs}
 use Rattle.dirtab_grow.proofs.find_seat.Statement.{statement}
 use Rattle.dirtab_grow.proofs.find_seat.Tie as tie
-use Rattle.dirtab_grow.proofs.find_seat.Reads as reads
-use Rattle.dirtab_grow.proofs.find_seat.Lts as lts
-use Rattle.avl_insert.proofs.name_of.Reads as name-of-reads
-use Rattle.avl_keyed.proofs.key_of.Reads as key-of-reads
-use Rattle.avl_keyed.proofs.seek.Reads as seek-reads
-use Rattle.layout_name.proofs.raise_name.Reads as raise-name-reads
 
 name-of-requires : tie.Need-name-of-requires
 name-of-requires c κs = search needs

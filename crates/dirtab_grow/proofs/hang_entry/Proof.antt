@@ -6,11 +6,6 @@ use Rattle.dirtab_grow.proofs.Hung.{out-refused, placed, out-taken}
 use borrow.Author.Needs.{needs}
 use Rattle.dirtab_grow.proofs.hang_entry.Statement.{statement}
 use Rattle.dirtab_grow.proofs.hang_entry.Tie as tie
-use Rattle.dirtab_grow.proofs.hang_entry.Reads as reads
-use Rattle.dirtab_grow.proofs.hang_entry.Lts as lts
-use Rattle.avl_insert.proofs.put_in.Reads as put-in-reads
-use Rattle.avl_turn.proofs.index.Reads as index-reads
-use Rattle.dirtab_grow.proofs.find_seat.Reads as find-seat-reads
 
 find-seat-requires : tie.Need-find-seat-requires
 find-seat-requires c κs = let s = c .before .before .before .before .before .before .before .before .before .before .before .before in let a = s .args in

@@ -1,15 +1,13 @@
 -- `clear_bytes` meets its contract. The loop's invariant: zeros up to i, then what was there. The measure is what is left of the column.
 use borrow.Author.Needs.{needs}
-use Prim.Native.Nat.{ℕ, _-_, _≤_}
-use mathlib.Core.Path.{_≡_, refl, sym, _∙_}
+use Prim.Native.Nat.{_-_, _≤_}
+use mathlib.Core.Path.{_≡_, refl}
 use mathlib.Core.List.{_++_}
 use native.Mathlib.Omega.{arith}
 use lib.ListN.{length, drop, replicate, length-set}
 use Rattle.dirtab.proofs.Zeros.{one-more, all-zero}
 use Rattle.dirtab_list.proofs.clear_bytes.Statement.{statement}
 use Rattle.dirtab_list.proofs.clear_bytes.Tie as tie
-use Rattle.dirtab_list.proofs.clear_bytes.Reads as reads
-use Rattle.dirtab_list.proofs.clear_bytes.Lts as lts
 
 abbrev Inv-loop : tie.InvT-loop
 Inv-loop s₀ i₀ s i = (i ≤ length s₀) × (length s ≡ length s₀) × (s ≡ replicate i 0 ++ drop i s₀)

@@ -3,8 +3,6 @@ use mathlib.Core.Path.{sym}
 use borrow.Author.Tests.{le-leb, lt-leb}
 use Rattle.dirtab_list.proofs.have_places.Statement.{statement}
 use Rattle.dirtab_list.proofs.have_places.Tie as tie
-use Rattle.dirtab_list.proofs.have_places.Reads as reads
-use Rattle.dirtab_list.proofs.have_places.Lts as lts
 
 returns : tie.Need-returns
 returns c = sym (simp (lt-leb _ _ (c .if1 .taken)))

@@ -5,9 +5,6 @@ use lib.ListN.{length}
 use borrow.Author.Needs.{needs}
 use Rattle.dirtab_list.proofs.measure.Statement.{statement}
 use Rattle.dirtab_list.proofs.measure.Tie as tie
-use Rattle.dirtab_list.proofs.measure.Reads as reads
-use Rattle.dirtab_list.proofs.measure.Lts as lts
-use Rattle.dirtab_list.proofs.least.Reads as least-reads
 
 least-requires : tie.Need-least-requires
 least-requires c κs = search needs

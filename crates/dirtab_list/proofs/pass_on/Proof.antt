@@ -4,8 +4,6 @@ use Rattle.dirtab.specs.Serialise as serialise
 use borrow.Author.Needs.{needs}
 use Rattle.dirtab_list.proofs.pass_on.Statement.{statement}
 use Rattle.dirtab_list.proofs.pass_on.Tie as tie
-use Rattle.dirtab_list.proofs.pass_on.Reads as reads
-use Rattle.dirtab_list.proofs.pass_on.Lts as lts
 
 enum-known-r : tie.Need-enum-known-r
 enum-known-r c = search needs

@@ -7,8 +7,6 @@ use Rattle.dirtab_grow.specs.Growing.{numberOf}
 use borrow.Author.Needs.{needs}
 use Rattle.dirtab_list.proofs.refuse.Statement.{statement}
 use Rattle.dirtab_list.proofs.refuse.Tie as tie
-use Rattle.dirtab_list.proofs.refuse.Reads as reads
-use Rattle.dirtab_list.proofs.refuse.Lts as lts
 
 enum-told : tie.Need-enum-told
 enum-told c = search needs

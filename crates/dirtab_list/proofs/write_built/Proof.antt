@@ -6,11 +6,6 @@ use Rattle.dirtab_list.proofs.Ends.{writing-12, rooted-at}
 use borrow.Author.Needs.{needs}
 use Rattle.dirtab_list.proofs.write_built.Statement.{statement}
 use Rattle.dirtab_list.proofs.write_built.Tie as tie
-use Rattle.dirtab_list.proofs.write_built.Reads as reads
-use Rattle.dirtab_list.proofs.write_built.Lts as lts
-use Rattle.dirtab.proofs.write_held.Reads as write-held-reads
-use Rattle.dirtab_list.proofs.narrow.Reads as narrow-reads
-use Rattle.dirtab_list.proofs.pass_on.Reads as pass-on-reads
 
 narrow-requires : tie.Need-narrow-requires
 narrow-requires c κs = search needs

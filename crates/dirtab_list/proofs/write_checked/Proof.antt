@@ -10,11 +10,6 @@ use Rattle.dirtab_list.proofs.Ends.{was-done, was-refused, refused-answ
 use borrow.Author.Needs.{needs}
 use Rattle.dirtab_list.proofs.write_checked.Statement.{statement}
 use Rattle.dirtab_list.proofs.write_checked.Tie as tie
-use Rattle.dirtab_list.proofs.write_checked.Reads as reads
-use Rattle.dirtab_list.proofs.write_checked.Lts as lts
-use Rattle.dirtab_grow.proofs.build.Reads as build-reads
-use Rattle.dirtab_list.proofs.refuse.Reads as refuse-reads
-use Rattle.dirtab_list.proofs.write_built.Reads as write-built-reads
 
 build-requires : tie.Need-build-requires
 build-requires c κs = search needs

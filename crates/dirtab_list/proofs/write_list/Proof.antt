@@ -6,14 +6,6 @@ use Rattle.dirtab_list.proofs.Room.{places-are, roomy-of, whole-answer,
 use borrow.Author.Needs.{needs}
 use Rattle.dirtab_list.proofs.write_list.Statement.{statement}
 use Rattle.dirtab_list.proofs.write_list.Tie as tie
-use Rattle.dirtab_list.proofs.write_list.Reads as reads
-use Rattle.dirtab_list.proofs.write_list.Lts as lts
-use Rattle.dirtab_list.proofs.clear_four.Reads as clear-four-reads
-use Rattle.dirtab_list.proofs.clear_three.Reads as clear-three-reads
-use Rattle.dirtab_list.proofs.have_places.Reads as have-places-reads
-use Rattle.dirtab_list.proofs.measure.Reads as measure-reads
-use Rattle.dirtab_list.proofs.widen.Reads as widen-reads
-use Rattle.dirtab_list.proofs.write_checked.Reads as write-checked-reads
 
 measure-requires : tie.Need-measure-requires
 measure-requires c κs = search needs
