@@ -1,0 +1,3 @@
+-- What the cells of an answer hold, case by case; where a name stands in a window.
+pub mod Cells
+pub mod Name
