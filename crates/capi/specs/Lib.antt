@@ -1,3 +1,2 @@
--- What a call from C leaves in the cells that are lent to it, and the arguments that numbers stand for.
-pub mod Cells
+-- The arguments that numbers stand for.
 pub mod Given

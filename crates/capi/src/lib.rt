@@ -1,29 +1,28 @@
 // The operations of `xdvdfs` for C, and for any language that calls as C does: on numbers, slices (a pointer and a length) and cells (a pointer). include/xdvdfs.h declares them.
 //
 // What a function returns is document 01's number, 0 where nothing is refused. The values of the answer go into lent cells, and a cell for which the answer has no value is
-// unchanged (specs/Cells.antt). Each contract says so by the definition that the like-named operation of `xdvdfs` has: the number, each cell and each lent slice is an equation.
+// unchanged (capi_cells/specs/Cells.antt). Each contract says so by the definition that the like-named operation of `xdvdfs` has: the number, each cell and each lent slice is an equation.
 // No function asks anything of its caller beyond what every call from C does: pointers to as many elements as the length says, and no two that overlap.
 //
-// Each function makes the call, and a `store_` function puts the answer where it belongs.
-use xdvdfs::Added;
-use xdvdfs::Checked;
+// Each function makes the call, and a `store_` function of `capi_cells` puts the answer where it belongs.
+use capi_cells::number_of_written;
+use capi_cells::store_added;
+use capi_cells::store_checked;
+use capi_cells::store_descriptor;
+use capi_cells::store_entry;
+use capi_cells::store_looked;
+use capi_cells::store_path;
+use capi_cells::store_serialised;
+use capi_cells::store_taken;
+use capi_cells::store_walked;
+use capi_cells::store_written;
 use xdvdfs::Descriptor;
-use xdvdfs::DescriptorRead;
-use xdvdfs::DescriptorWritten;
 use xdvdfs::Entry;
-use xdvdfs::Header;
 use xdvdfs::Held;
-use xdvdfs::ListWritten;
-use xdvdfs::Looked;
 use xdvdfs::Offset;
-use xdvdfs::PathFound;
-use xdvdfs::Read;
 use xdvdfs::Region;
 use xdvdfs::Sector;
 use xdvdfs::SectorCounter;
-use xdvdfs::Serialised;
-use xdvdfs::Taken;
-use xdvdfs::Walked;
 ghost use mathlib.Core.Path.{_≡_};
 ghost use Prim.Native.Nat.{min, _+_};
 ghost use lib.ListN.{length, take, drop};
@@ -39,8 +38,9 @@ ghost use Rattle.read_lookup.specs.Lookup as lookup;
 ghost use Rattle.read_path.specs.Path as following;
 ghost use Rattle.read_walk.specs.Walk as walking;
 ghost use Rattle.strict.specs.Strict as checking;
-ghost use Rattle.capi.specs.Cells.{ofGiven, ofSome, isSome, ofRefusal, atOffset, atFault, afterHeaders, ofEntry};
-ghost use Rattle.capi.specs.Given.{sectorOf, regionOf, descriptorOf, entryOf, fieldsOf, placedFields, placedAt, foundFields, foundPlace, foundOffset, foundHeaders, rootSector, rootSize, itself, grownRoot, grownCount, tableSize, nextFree, runStart, runFree, nameStart};
+ghost use Rattle.capi_cells.specs.Cells.{ofGiven, ofSome, isSome, ofRefusal, atOffset, atFault, afterHeaders, ofEntry};
+ghost use Rattle.capi_cells.specs.Parts.{placedFields, placedAt, foundFields, foundPlace, foundOffset, foundHeaders, rootSector, rootSize, itself, grownRoot, grownCount, tableSize, nextFree, runStart, runFree};
+ghost use Rattle.capi.specs.Given.{sectorOf, regionOf, descriptorOf, entryOf, nameStart};
 
 // The sector, and the table, that numbers stand for.
 fn sector_of(n: u32) -> Sector
@@ -58,53 +58,7 @@ fn region_of(sector: u32, size: u32) -> Region
     }
 }
 
-fn widen_byte(x: u8) -> u32
-    ensures { λ r. ⌜ r ≡ x ⌝ }
-{
-    x as u32
-}
-
-fn widen_link(x: u16) -> u32
-    ensures { λ r. ⌜ r ≡ x ⌝ }
-{
-    x as u32
-}
-
 // READING
-
-// The six numbers of a header.
-fn store_fields(h: Header, fields: &mut [u32; 6])
-    ensures { λ _. ⌜ now (fields .exit) ≡ fieldsOf h ⌝ }
-{
-    let left = h.left;
-    let right = h.right;
-    let sector = h.sector;
-    *fields = [
-        widen_link(left.number()),
-        widen_link(right.number()),
-        sector.number(),
-        h.size,
-        widen_byte(h.attributes),
-        widen_byte(h.name_len),
-    ];
-}
-
-fn store_descriptor(r: DescriptorRead, sector: &mut u32, size: &mut u32) -> u32
-    ensures { λ n. ⌜ n ≡ numberOf (volume.readTold r) ⌝ }
-    ensures { λ _. ⌜ now (sector .exit) ≡ ofGiven rootSector (volume.readTold r) (now (sector .entry)) ⌝ }
-    ensures { λ _. ⌜ now (size .exit) ≡ ofGiven rootSize (volume.readTold r) (now (size .entry)) ⌝ }
-{
-    match r {
-        DescriptorRead::Volume(d) => {
-            let root = d.root;
-            let start = root.sector;
-            *sector = start.number();
-            *size = root.size;
-            0
-        }
-        DescriptorRead::NoVolume => 20,
-    }
-}
 
 // Reads the volume descriptor that the bytes start with: sector and size of the root table. 20.
 #[no_mangle]
@@ -114,28 +68,6 @@ pub extern "C" fn xdvdfs_read_descriptor(s: &[u8], sector: &mut u32, size: &mut 
     ensures { λ _. ⌜ now (size .exit) ≡ ofGiven rootSize (volume.readOf (now (s .entry))) (now (size .entry)) ⌝ }
 {
     store_descriptor(xdvdfs::read_descriptor(s), sector, size)
-}
-
-fn store_entry(r: Read, found: &mut u32, fields: &mut [u32; 6], place: &mut usize) -> u32
-    ensures { λ n. ⌜ n ≡ numberOf (entry.told r) ⌝ }
-    ensures { λ _. ⌜ now (found .exit) ≡ ofGiven isSome (entry.told r) (now (found .entry)) ⌝ }
-    ensures { λ _. ⌜ now (fields .exit) ≡ ofSome placedFields (entry.told r) (now (fields .entry)) ⌝ }
-    ensures { λ _. ⌜ now (place .exit) ≡ ofSome placedAt (entry.told r) (now (place .entry)) ⌝ }
-{
-    match r {
-        Read::Entry(h, p) => {
-            *found = 1;
-            store_fields(h, fields);
-            *place = p;
-            0
-        }
-        Read::Nothing => {
-            *found = 0;
-            0
-        }
-        Read::OutOfBounds(_) => 23,
-        Read::Truncated(_) => 24,
-    }
 }
 
 // Reads the entry at an offset of a table: whether one is there, its six fields and its place in the window. 23, 24, both of the offset given.
@@ -195,45 +127,6 @@ pub extern "C" fn xdvdfs_entry_name(
     *len = name.len();
 }
 
-fn store_looked(
-    r: Looked,
-    fields: &mut [u32; 6],
-    place: &mut usize,
-    offset: &mut u32,
-    headers: &mut u32,
-) -> u32
-    ensures { λ n. ⌜ n ≡ numberOf (lookup.told r) ⌝ }
-    ensures { λ _. ⌜ now (fields .exit) ≡ ofGiven foundFields (lookup.told r) (now (fields .entry)) ⌝ }
-    ensures { λ _. ⌜ now (place .exit) ≡ ofGiven foundPlace (lookup.told r) (now (place .entry)) ⌝ }
-    ensures { λ _. ⌜ now (offset .exit) ≡ ofRefusal atOffset (lookup.told r) (ofGiven foundOffset (lookup.told r) (now (offset .entry))) ⌝ }
-    ensures { λ _. ⌜ now (headers .exit) ≡ ofRefusal afterHeaders (lookup.told r) (ofGiven foundHeaders (lookup.told r) (now (headers .entry))) ⌝ }
-{
-    match r {
-        Looked::Found(h, p, o, n) => {
-            store_fields(h, fields);
-            *place = p;
-            *offset = o.number();
-            *headers = n;
-            0
-        }
-        Looked::BadByte => 2,
-        Looked::DirectoryEmpty => 21,
-        Looked::DoesNotExist(n) => {
-            *headers = n;
-            22
-        }
-        Looked::OutOfBounds(o) => {
-            *offset = o.number();
-            23
-        }
-        Looked::Truncated(o) => {
-            *offset = o.number();
-            24
-        }
-        Looked::Looped => 25,
-    }
-}
-
 // Looks a name up in a table: the entry's fields, its place in the window and its offset in the table, and the number of headers read. 2, 21, then 22 with the
 // number of headers, 23, 24 with the offset, 25.
 #[no_mangle]
@@ -258,35 +151,6 @@ pub extern "C" fn xdvdfs_look_up(
     store_looked(r, fields, place, offset, headers)
 }
 
-fn store_path(r: PathFound, fields: &mut [u32; 6], place: &mut usize, offset: &mut u32) -> u32
-    ensures { λ n. ⌜ n ≡ numberOf (following.told r) ⌝ }
-    ensures { λ _. ⌜ now (fields .exit) ≡ ofGiven placedFields (following.told r) (now (fields .entry)) ⌝ }
-    ensures { λ _. ⌜ now (place .exit) ≡ ofGiven placedAt (following.told r) (now (place .entry)) ⌝ }
-    ensures { λ _. ⌜ now (offset .exit) ≡ ofRefusal atOffset (following.told r) (now (offset .entry)) ⌝ }
-{
-    match r {
-        PathFound::Entry(h, p) => {
-            store_fields(h, fields);
-            *place = p;
-            0
-        }
-        PathFound::BadByte => 2,
-        PathFound::DirectoryEmpty => 21,
-        PathFound::DoesNotExist => 22,
-        PathFound::OutOfBounds(o) => {
-            *offset = o.number();
-            23
-        }
-        PathFound::Truncated(o) => {
-            *offset = o.number();
-            24
-        }
-        PathFound::Looped => 25,
-        PathFound::IsNotDirectory => 27,
-        PathFound::NoDirent => 28,
-    }
-}
-
 // Follows a path from a table: the entry's fields and its place in the window. 2, 28, then as the lookup of each part, 22 without its count, and 27.
 #[no_mangle]
 pub extern "C" fn xdvdfs_find_path(
@@ -306,29 +170,6 @@ pub extern "C" fn xdvdfs_find_path(
 {
     let r = xdvdfs::find_path(w, sector_of(first), region_of(sector, size), path);
     store_path(r, fields, place, offset)
-}
-
-fn store_walked(r: Walked, count: &mut usize, offset: &mut u32) -> u32
-    ensures { λ n. ⌜ n ≡ numberOf (walking.told r) ⌝ }
-    ensures { λ _. ⌜ now (count .exit) ≡ ofGiven itself (walking.told r) (now (count .entry)) ⌝ }
-    ensures { λ _. ⌜ now (offset .exit) ≡ ofRefusal atOffset (walking.told r) (now (offset .entry)) ⌝ }
-{
-    match r {
-        Walked::Done(n) => {
-            *count = n;
-            0
-        }
-        Walked::Room => 6,
-        Walked::OutOfBounds(o) => {
-            *offset = o.number();
-            23
-        }
-        Walked::Truncated(o) => {
-            *offset = o.number();
-            24
-        }
-        Walked::WalkFull => 26,
-    }
 }
 
 // Lists the offsets of a table's entries in preorder, and says how many they are. 6, then 23, 24 with the offset, 26.
@@ -351,41 +192,6 @@ pub extern "C" fn xdvdfs_walk(
 {
     let r = xdvdfs::walk(w, sector_of(first), region_of(sector, size), list, scratch);
     store_walked(r, count, offset)
-}
-
-fn store_checked(r: Checked, count: &mut usize, offset: &mut u32) -> u32
-    ensures { λ n. ⌜ n ≡ numberOf (checking.told r) ⌝ }
-    ensures { λ _. ⌜ now (count .exit) ≡ ofGiven itself (checking.told r) (now (count .entry)) ⌝ }
-    ensures { λ _. ⌜ now (offset .exit) ≡ ofRefusal atFault (checking.told r) (now (offset .entry)) ⌝ }
-{
-    match r {
-        Checked::Done(n) => {
-            *count = n;
-            0
-        }
-        Checked::Room => 6,
-        Checked::OutOfBounds(o) => {
-            *offset = o.number();
-            23
-        }
-        Checked::Truncated(o) => {
-            *offset = o.number();
-            24
-        }
-        Checked::WalkFull => 26,
-        Checked::Shared(o) => {
-            *offset = o.number();
-            30
-        }
-        Checked::OutOfOrder(o) => {
-            *offset = o.number();
-            31
-        }
-        Checked::BadPlace(o) => {
-            *offset = o.number();
-            32
-        }
-    }
 }
 
 // Checks that a table is of the form on which the readers agree, and lists it. 6, then 23, 24, 30, 26, 32, 31, all but 6 and 26 with the offset.
@@ -411,15 +217,6 @@ pub extern "C" fn xdvdfs_check_table(
 }
 
 // WRITING
-
-fn number_of_written(r: DescriptorWritten) -> u32
-    ensures { λ n. ⌜ n ≡ numberOf (volume.writeTold r) ⌝ }
-{
-    match r {
-        DescriptorWritten::Done => 0,
-        DescriptorWritten::BufferTooSmall => 9,
-    }
-}
 
 // Writes a volume descriptor into the first 2,048 bytes of the output. 9.
 #[no_mangle]
@@ -449,22 +246,6 @@ pub extern "C" fn xdvdfs_required_sectors(length: u64) -> u64
     xdvdfs::required_sectors(length)
 }
 
-fn store_taken(r: Taken, next: &mut u32, start: &mut u32) -> u32
-    ensures { λ n. ⌜ n ≡ numberOf (sectors.told r) ⌝ }
-    ensures { λ _. ⌜ now (next .exit) ≡ ofGiven runFree (sectors.told r) (now (next .entry)) ⌝ }
-    ensures { λ _. ⌜ now (start .exit) ≡ ofGiven runStart (sectors.told r) (now (start .entry)) ⌝ }
-{
-    match r {
-        Taken::Start(s, c) => {
-            let free = c.next_free();
-            *next = free.number();
-            *start = s.number();
-            0
-        }
-        Taken::SectorOverflow => 8,
-    }
-}
-
 // Takes the sectors of a length from the next free one on: the first of them, and the next free one after them. 8.
 #[no_mangle]
 pub extern "C" fn xdvdfs_take_sectors(next: &mut u32, length: u64, start: &mut u32) -> u32
@@ -474,27 +255,6 @@ pub extern "C" fn xdvdfs_take_sectors(next: &mut u32, length: u64, start: &mut u
 {
     let counter = SectorCounter::starting_at(sector_of(*next));
     store_taken(counter.take(length), next, start)
-}
-
-fn store_added(r: Added, root: &mut u16, count: &mut u16) -> u32
-    ensures { λ n. ⌜ n ≡ numberOf (adding.told r) ⌝ }
-    ensures { λ _. ⌜ now (root .exit) ≡ ofGiven grownRoot (adding.told r) (now (root .entry)) ⌝ }
-    ensures { λ _. ⌜ now (count .exit) ≡ ofGiven grownCount (adding.told r) (now (count .entry)) ⌝ }
-{
-    match r {
-        Added::Done(tree) => {
-            *root = tree.root;
-            *count = tree.count;
-            0
-        }
-        Added::BadArena => 12,
-        Added::EmptyName => 1,
-        Added::BadByte => 2,
-        Added::NameTooLong => 3,
-        Added::SizeOverflow => 5,
-        Added::DuplicateFileName => 4,
-        Added::Room => 6,
-    }
 }
 
 // Adds an entry to the table that an arena holds; root and count of the held tree are cells. 12, then 1, 2, 3, 5, 4, 6.
@@ -548,25 +308,6 @@ pub extern "C" fn xdvdfs_add(
     store_added(r, root, count)
 }
 
-fn store_serialised(r: Serialised, table_size: &mut u32, free: &mut u32) -> u32
-    ensures { λ n. ⌜ n ≡ numberOf (serialising.told r) ⌝ }
-    ensures { λ _. ⌜ now («table_size» .exit) ≡ ofGiven tableSize (serialising.told r) (now («table_size» .entry)) ⌝ }
-    ensures { λ _. ⌜ now (free .exit) ≡ ofGiven nextFree (serialising.told r) (now (free .entry)) ⌝ }
-{
-    match r {
-        Serialised::Done(z, f) => {
-            *table_size = z;
-            *free = f.number();
-            0
-        }
-        Serialised::BadArena => 12,
-        Serialised::Room => 6,
-        Serialised::TooManyDirectoryEntries => 7,
-        Serialised::SectorOverflow => 8,
-        Serialised::BufferTooSmall => 9,
-    }
-}
-
 // Writes the table that an arena holds, with sectors from `first` on: the reported size, and the next free sector. `order` and `place` are scratch. 12, then 6, 7, 8, 9.
 #[no_mangle]
 pub extern "C" fn xdvdfs_serialise(
@@ -616,49 +357,6 @@ pub extern "C" fn xdvdfs_serialise(
         out,
     );
     store_serialised(r, table_size, free)
-}
-
-fn store_written(r: ListWritten, table_size: &mut u32, free: &mut u32, entry: &mut u32) -> u32
-    ensures { λ n. ⌜ n ≡ numberOf (whole.told r) ⌝ }
-    ensures { λ _. ⌜ now («table_size» .exit) ≡ ofGiven tableSize (whole.told r) (now («table_size» .entry)) ⌝ }
-    ensures { λ _. ⌜ now (free .exit) ≡ ofGiven nextFree (whole.told r) (now (free .entry)) ⌝ }
-    ensures { λ _. ⌜ now (entry .exit) ≡ ofRefusal ofEntry (whole.told r) (now (entry .entry)) ⌝ }
-{
-    match r {
-        ListWritten::Done(z, f) => {
-            *table_size = z;
-            *free = f.number();
-            0
-        }
-        ListWritten::Room => 6,
-        ListWritten::EmptyName(i) => {
-            *entry = i;
-            1
-        }
-        ListWritten::BadByte(i) => {
-            *entry = i;
-            2
-        }
-        ListWritten::NameTooLong(i) => {
-            *entry = i;
-            3
-        }
-        ListWritten::SizeOverflow(i) => {
-            *entry = i;
-            5
-        }
-        ListWritten::DuplicateFileName(i) => {
-            *entry = i;
-            4
-        }
-        ListWritten::EntryRoom(i) => {
-            *entry = i;
-            6
-        }
-        ListWritten::TooManyDirectoryEntries => 7,
-        ListWritten::SectorOverflow => 8,
-        ListWritten::BufferTooSmall => 9,
-    }
 }
 
 // Writes the table of the first `count` entries of a list in one call, with sectors from `first` on: the reported size, and the next free sector. The columns from `left` to

@@ -1,9 +1,9 @@
 -- `xdvdfs_find_path` meets its contract: the answer is what `find_path` gives, and is stored as it is told.
 use mathlib.Core.Path.{_∙_}
 use Rattle.read_path.specs.Path as following
-use Rattle.capi.specs.Cells.{atOffset}
-use Rattle.capi.specs.Given.{placedFields, placedAt}
-use Rattle.capi.proofs.Cells.{at-table, given-by, number-by, refusal-by}
+use Rattle.capi_cells.specs.Cells.{atOffset}
+use Rattle.capi_cells.specs.Parts.{placedFields, placedAt}
+use Rattle.capi_cells.proofs.Cells.{at-table, given-by, number-by, refusal-by}
 use Rattle.units.specs.declared.Sector.{Sector}
 use Rattle.units.specs.declared.Region.{Region}
 use borrow.Author.Needs.{needs}

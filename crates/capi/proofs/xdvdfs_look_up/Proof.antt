@@ -1,9 +1,9 @@
 -- `xdvdfs_look_up` meets its contract: the answer is what `look_up` gives, and is stored as it is told.
 use mathlib.Core.Path.{_∙_}
 use Rattle.read_lookup.specs.Lookup as lookup
-use Rattle.capi.specs.Cells.{atOffset, afterHeaders}
-use Rattle.capi.specs.Given.{foundFields, foundPlace, foundOffset, foundHeaders}
-use Rattle.capi.proofs.Cells.{at-table, both-by, given-by, number-by}
+use Rattle.capi_cells.specs.Cells.{atOffset, afterHeaders}
+use Rattle.capi_cells.specs.Parts.{foundFields, foundPlace, foundOffset, foundHeaders}
+use Rattle.capi_cells.proofs.Cells.{at-table, both-by, given-by, number-by}
 use Rattle.units.specs.declared.Sector.{Sector}
 use Rattle.units.specs.declared.Region.{Region}
 use borrow.Author.Needs.{needs}

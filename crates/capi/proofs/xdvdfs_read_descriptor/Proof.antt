@@ -1,6 +1,6 @@
 -- `xdvdfs_read_descriptor` meets its contract: the answer is what `read_descriptor` gives, and is stored as it is told.
-use Rattle.capi.specs.Given.{rootSector, rootSize}
-use Rattle.capi.proofs.Cells.{given-by, number-by}
+use Rattle.capi_cells.specs.Parts.{rootSector, rootSize}
+use Rattle.capi_cells.proofs.Cells.{given-by, number-by}
 use borrow.Author.Needs.{needs}
 use Rattle.capi.proofs.xdvdfs_read_descriptor.Statement.{statement}
 use Rattle.capi.proofs.xdvdfs_read_descriptor.Tie as tie

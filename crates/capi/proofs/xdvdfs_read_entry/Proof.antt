@@ -1,9 +1,10 @@
 -- `xdvdfs_read_entry` meets its contract: the answer is what `read_entry` gives, and is stored as it is told.
 use mathlib.Core.Path.{ap, _∙_}
 use Rattle.read_entry.specs.Entry as entry
-use Rattle.capi.specs.Cells.{isSome}
-use Rattle.capi.specs.Given.{sectorOf, regionOf, placedFields, placedAt}
-use Rattle.capi.proofs.Cells.{at-table, given-by, number-by, some-by}
+use Rattle.capi_cells.specs.Cells.{isSome}
+use Rattle.capi_cells.specs.Parts.{placedFields, placedAt}
+use Rattle.capi.specs.Given.{sectorOf, regionOf}
+use Rattle.capi_cells.proofs.Cells.{at-table, given-by, number-by, some-by}
 use Prim.Native.Nat.{ℕ}
 use Rattle.units.specs.declared.Sector.{Sector}
 use Rattle.units.specs.declared.Region.{Region}

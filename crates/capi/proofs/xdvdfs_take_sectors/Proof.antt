@@ -1,8 +1,8 @@
 -- `xdvdfs_take_sectors` meets its contract: the answer is what `SectorCounter::take` gives, and is stored as it is told.
 use mathlib.Core.Path.{ap, _∙_}
 use Rattle.layout_sector.specs.Counter as sectors
-use Rattle.capi.specs.Given.{runStart, runFree}
-use Rattle.capi.proofs.Cells.{given-by, number-by}
+use Rattle.capi_cells.specs.Parts.{runStart, runFree}
+use Rattle.capi_cells.proofs.Cells.{given-by, number-by}
 use Prim.Native.Nat.{ℕ}
 use Rattle.units.specs.declared.Sector.{Sector}
 use borrow.Author.Needs.{needs}

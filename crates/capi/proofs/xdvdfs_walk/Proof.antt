@@ -1,9 +1,9 @@
 -- `xdvdfs_walk` meets its contract: the answer is what `walk` gives, and is stored as it is told.
 use mathlib.Core.Path.{_∙_}
 use Rattle.read_walk.specs.Walk as walking
-use Rattle.capi.specs.Cells.{atOffset}
-use Rattle.capi.specs.Given.{itself}
-use Rattle.capi.proofs.Cells.{at-table, given-by, number-by, refusal-by}
+use Rattle.capi_cells.specs.Cells.{atOffset}
+use Rattle.capi_cells.specs.Parts.{itself}
+use Rattle.capi_cells.proofs.Cells.{at-table, given-by, number-by, refusal-by}
 use lib.ListN.{length}
 use Rattle.units.specs.declared.Sector.{Sector}
 use Rattle.units.specs.declared.Region.{Region}

@@ -1,7 +1,7 @@
 -- `xdvdfs_write_descriptor` meets its contract: the answer is what `write_descriptor` gives, and is stored as it is told.
 use mathlib.Core.Path.{ap, _∙_}
 use Rattle.layout_volume.specs.Descriptor as volume
-use Rattle.capi.proofs.Cells.{number-by}
+use Rattle.capi_cells.proofs.Cells.{number-by}
 use Rattle.units.specs.declared.Region.{Region}
 use borrow.Author.Needs.{needs}
 use Rattle.capi.proofs.xdvdfs_write_descriptor.Statement.{statement}

@@ -2,12 +2,12 @@
 use mathlib.Core.Path.{refl, ap}
 use Rattle.read_entry.specs.Links.{isIn}
 use Rattle.read_path.specs.Path as following
-use Rattle.capi.specs.Cells.{atOffset}
-use Rattle.capi.specs.Given.{placedFields, placedAt}
-use Rattle.capi.proofs.Cells.{given-cell, given-kept, given-number, refused-bare, refused-cell, refused-number, refused-value}
+use Rattle.capi_cells.specs.Cells.{atOffset}
+use Rattle.capi_cells.specs.Parts.{placedFields, placedAt}
+use Rattle.capi_cells.proofs.Cells.{given-cell, given-kept, given-number, refused-bare, refused-cell, refused-number, refused-value}
 use borrow.Author.Needs.{needs}
-use Rattle.capi.proofs.store_path.Statement.{statement}
-use Rattle.capi.proofs.store_path.Tie as tie
+use Rattle.capi_cells.proofs.store_path.Statement.{statement}
+use Rattle.capi_cells.proofs.store_path.Tie as tie
 
 enum-known-r : tie.Need-enum-known-r
 enum-known-r c = search needs

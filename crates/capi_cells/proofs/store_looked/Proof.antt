@@ -2,12 +2,12 @@
 use mathlib.Core.Path.{refl, ap, _∙_}
 use Rattle.read_entry.specs.Links.{isIn}
 use Rattle.read_lookup.specs.Lookup as lookup
-use Rattle.capi.specs.Cells.{atOffset, afterHeaders}
-use Rattle.capi.specs.Given.{foundFields, foundPlace, foundOffset, foundHeaders}
-use Rattle.capi.proofs.Cells.{given-both, given-cell, given-number, refused-cell, refused-number, refused-other, refused-value}
+use Rattle.capi_cells.specs.Cells.{atOffset, afterHeaders}
+use Rattle.capi_cells.specs.Parts.{foundFields, foundPlace, foundOffset, foundHeaders}
+use Rattle.capi_cells.proofs.Cells.{given-both, given-cell, given-number, refused-cell, refused-number, refused-other, refused-value}
 use borrow.Author.Needs.{needs}
-use Rattle.capi.proofs.store_looked.Statement.{statement}
-use Rattle.capi.proofs.store_looked.Tie as tie
+use Rattle.capi_cells.proofs.store_looked.Statement.{statement}
+use Rattle.capi_cells.proofs.store_looked.Tie as tie
 
 enum-known-r : tie.Need-enum-known-r
 enum-known-r c = search needs

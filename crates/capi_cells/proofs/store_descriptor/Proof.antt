@@ -1,11 +1,11 @@
 -- `store_descriptor` meets its contract: the number and the cells of each case.
 use mathlib.Core.Path.{refl, ap}
 use Rattle.layout_volume.specs.Descriptor as volume
-use Rattle.capi.specs.Given.{rootSector, rootSize}
-use Rattle.capi.proofs.Cells.{given-cell, given-number, refused-cell, refused-number}
+use Rattle.capi_cells.specs.Parts.{rootSector, rootSize}
+use Rattle.capi_cells.proofs.Cells.{given-cell, given-number, refused-cell, refused-number}
 use borrow.Author.Needs.{needs}
-use Rattle.capi.proofs.store_descriptor.Statement.{statement}
-use Rattle.capi.proofs.store_descriptor.Tie as tie
+use Rattle.capi_cells.proofs.store_descriptor.Statement.{statement}
+use Rattle.capi_cells.proofs.store_descriptor.Tie as tie
 
 enum-known-r : tie.Need-enum-known-r
 enum-known-r c = search needs

@@ -8,7 +8,7 @@ use Rattle.units.specs.Told.{Told, gives, refuses, numberOf, pick}
 use Rattle.units.specs.declared.Sector.{Sector}
 use Rattle.units.specs.declared.Region.{Region}
 use Rattle.read_entry.specs.Links.{isIn}
-use Rattle.capi.specs.Cells.{ofGiven, ofSome, ofRefusal, firstOr}
+use Rattle.capi_cells.specs.Cells.{ofGiven, ofSome, ofRefusal, firstOr}
 
 -- an answer that gives x
 pub given-number : {A : Type 0} {t : Told A} {x : A} → t ≡ gives x → 0 ≡ numberOf t

@@ -2,12 +2,12 @@
 use mathlib.Core.Path.{refl, ap}
 use Rattle.read_entry.specs.Links.{isIn}
 use Rattle.read_walk.specs.Walk as walking
-use Rattle.capi.specs.Cells.{atOffset}
-use Rattle.capi.specs.Given.{itself}
-use Rattle.capi.proofs.Cells.{given-cell, given-kept, given-number, refused-bare, refused-cell, refused-number, refused-value}
+use Rattle.capi_cells.specs.Cells.{atOffset}
+use Rattle.capi_cells.specs.Parts.{itself}
+use Rattle.capi_cells.proofs.Cells.{given-cell, given-kept, given-number, refused-bare, refused-cell, refused-number, refused-value}
 use borrow.Author.Needs.{needs}
-use Rattle.capi.proofs.store_walked.Statement.{statement}
-use Rattle.capi.proofs.store_walked.Tie as tie
+use Rattle.capi_cells.proofs.store_walked.Statement.{statement}
+use Rattle.capi_cells.proofs.store_walked.Tie as tie
 
 enum-known-r : tie.Need-enum-known-r
 enum-known-r c = search needs

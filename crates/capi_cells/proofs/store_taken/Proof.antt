@@ -1,11 +1,11 @@
 -- `store_taken` meets its contract: the number and the cells of each case.
 use mathlib.Core.Path.{ap, _∙_}
 use Rattle.layout_sector.specs.Counter as sectors
-use Rattle.capi.specs.Given.{runStart, runFree}
-use Rattle.capi.proofs.Cells.{given-cell, given-number, refused-cell, refused-number}
+use Rattle.capi_cells.specs.Parts.{runStart, runFree}
+use Rattle.capi_cells.proofs.Cells.{given-cell, given-number, refused-cell, refused-number}
 use borrow.Author.Needs.{needs}
-use Rattle.capi.proofs.store_taken.Statement.{statement}
-use Rattle.capi.proofs.store_taken.Tie as tie
+use Rattle.capi_cells.proofs.store_taken.Statement.{statement}
+use Rattle.capi_cells.proofs.store_taken.Tie as tie
 
 enum-known-r : tie.Need-enum-known-r
 enum-known-r c = search needs

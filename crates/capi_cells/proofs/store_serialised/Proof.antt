@@ -1,11 +1,11 @@
 -- `store_serialised` meets its contract: the number and the cells of each case.
 use mathlib.Core.Path.{refl, ap}
 use Rattle.dirtab.specs.Serialise as serialising
-use Rattle.capi.specs.Given.{tableSize, nextFree}
-use Rattle.capi.proofs.Cells.{given-cell, given-number, refused-cell, refused-number}
+use Rattle.capi_cells.specs.Parts.{tableSize, nextFree}
+use Rattle.capi_cells.proofs.Cells.{given-cell, given-number, refused-cell, refused-number}
 use borrow.Author.Needs.{needs}
-use Rattle.capi.proofs.store_serialised.Statement.{statement}
-use Rattle.capi.proofs.store_serialised.Tie as tie
+use Rattle.capi_cells.proofs.store_serialised.Statement.{statement}
+use Rattle.capi_cells.proofs.store_serialised.Tie as tie
 
 enum-known-r : tie.Need-enum-known-r
 enum-known-r c = search needs

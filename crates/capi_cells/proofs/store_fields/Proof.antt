@@ -1,9 +1,9 @@
 -- `store_fields` meets its contract: six numbers, each as its field says.
 use mathlib.Core.Path.{refl, _∙_}
-use Rattle.capi.proofs.Cells.{six}
+use Rattle.capi_cells.proofs.Cells.{six}
 use borrow.Author.Needs.{needs}
-use Rattle.capi.proofs.store_fields.Statement.{statement}
-use Rattle.capi.proofs.store_fields.Tie as tie
+use Rattle.capi_cells.proofs.store_fields.Statement.{statement}
+use Rattle.capi_cells.proofs.store_fields.Tie as tie
 
 number-requires : tie.Need-number-requires
 number-requires c κs = search needs

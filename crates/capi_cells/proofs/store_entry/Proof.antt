@@ -1,12 +1,12 @@
 -- `store_entry` meets its contract: the number and the cells of each case.
 use mathlib.Core.Path.{refl, ap}
 use Rattle.read_entry.specs.Entry as entry
-use Rattle.capi.specs.Cells.{isSome}
-use Rattle.capi.specs.Given.{placedFields, placedAt}
-use Rattle.capi.proofs.Cells.{given-cell, given-none, given-number, given-some, refused-cell, refused-number, refused-some}
+use Rattle.capi_cells.specs.Cells.{isSome}
+use Rattle.capi_cells.specs.Parts.{placedFields, placedAt}
+use Rattle.capi_cells.proofs.Cells.{given-cell, given-none, given-number, given-some, refused-cell, refused-number, refused-some}
 use borrow.Author.Needs.{needs}
-use Rattle.capi.proofs.store_entry.Statement.{statement}
-use Rattle.capi.proofs.store_entry.Tie as tie
+use Rattle.capi_cells.proofs.store_entry.Statement.{statement}
+use Rattle.capi_cells.proofs.store_entry.Tie as tie
 
 enum-known-r : tie.Need-enum-known-r
 enum-known-r c = search needs
