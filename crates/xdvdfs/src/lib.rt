@@ -102,6 +102,10 @@ pub fn check_table(
 }
 
 // WRITING
+//
+// Sectors are handed out by a counter: `SectorCounter::new()` stands at the first, 33 (`SectorCounter::FIRST`), `SectorCounter::starting_at` at a given one. `take` gives the first
+// of the sectors that a length takes (`required_sectors`) and the counter past the last of them, or 8 (`Taken`); `next_free` is where it stands. Their contracts are in
+// `layout_sector`.
 
 // Writes a volume descriptor into the first 2,048 bytes of the output. 9 where it is shorter.
 pub fn write_descriptor(out: &mut [u8], d: Descriptor) -> DescriptorWritten

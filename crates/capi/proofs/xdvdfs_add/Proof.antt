@@ -43,7 +43,14 @@ same-length-8 : tie.Need-same-length-8
 same-length-8 c = search needs
 
 returns : tie.Need-returns
-returns c = let a = c .before .before .before .before .before .before .before .before .before .before .before .before .before .before .before .before .before .before .before .before .before .before .before .before .before .before .before .before .before .before .before .before .before .before .before .before .before .before .before .before .args in let A = arena (a .root .now) (a .count .now) (columns (a .left .now) (a .right .now) (a .parent .now) (a .height .now) (a .start .now) (a .len .now) (a .size .now) (a .kind .now)) (a .names .now) in let k = c .before .before .before .before .before .before .before .before .before .before .before .before .before .before .before .before .before .before .before .add .ensures in let q = c .before .before .before .before .before .before .before .before .before .before .before .before .before .before .before .before .before .before .before .before .before .before .before .before .before .before .before .before .kind-of .ensures in let e = k .0 ∙ ap (λ (d : Kind). adding.addOf A (record { start = a .name-start; len = a .name-len; kind = d; size = a .entry-size })) q in let s = c .store-added .ensures in (number-by e (s .0), (given-by grownRoot _ e (s .1 .0), (given-by grownCount _ e (s .1 .1), k .1 ∙ ap (λ (d : Kind). adding.columnsAfter A (record { start = a .name-start; len = a .name-len; kind = d; size = a .entry-size })) q)))
+returns c =
+    let a = c .before .before .before .before .before .before .before .before .before .before .before .before .before .before .before .before .before .before .before .before .before .before .before .before .before .before .before .before .before .before .before .before .before .before .before .before .before .before .before .before .args in
+    let A = arena (a .root .now) (a .count .now) (columns (a .left .now) (a .right .now) (a .parent .now) (a .height .now) (a .start .now) (a .len .now) (a .size .now) (a .kind .now)) (a .names .now) in
+    let k = c .before .before .before .before .before .before .before .before .before .before .before .before .before .before .before .before .before .before .before .add .ensures in
+    let q = c .before .before .before .before .before .before .before .before .before .before .before .before .before .before .before .before .before .before .before .before .before .before .before .before .before .before .before .before .kind-of .ensures in
+    let e = k .0 ∙ ap (λ (d : Kind). adding.addOf A (record { start = a .name-start; len = a .name-len; kind = d; size = a .entry-size })) q in
+    let s = c .store-added .ensures in
+    (number-by e (s .0), (given-by grownRoot _ e (s .1 .0), (given-by grownCount _ e (s .1 .1), k .1 ∙ ap (λ (d : Kind). adding.columnsAfter A (record { start = a .name-start; len = a .name-len; kind = d; size = a .entry-size })) q)))
 
 pub xdvdfs-add-spec : {M : Type 1} → statement M
 xdvdfs-add-spec =

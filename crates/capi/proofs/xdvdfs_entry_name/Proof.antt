@@ -15,7 +15,9 @@ entry-name-requires : tie.Need-entry-name-requires
 entry-name-requires c κs = search needs
 
 returns : tie.Need-returns
-returns c = let a = c .before .before .before .args in (c .before .name-start .ensures, (ap (λ (r : List ℕ). length r) (c .entry-name .ensures), name-is (a .w .now) (a .place) (a .n) _ _ (c .entry-name .ensures) (c .before .name-start .ensures)))
+returns c =
+    let a = c .before .before .before .args in
+    (c .before .name-start .ensures, (ap (λ (r : List ℕ). length r) (c .entry-name .ensures), name-is (a .w .now) (a .place) (a .n) _ _ (c .entry-name .ensures) (c .before .name-start .ensures)))
 
 pub xdvdfs-entry-name-spec : {M : Type 1} → statement M
 xdvdfs-entry-name-spec = tie.close (tie.spec name-start-requires entry-name-requires returns)

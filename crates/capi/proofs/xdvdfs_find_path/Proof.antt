@@ -23,7 +23,11 @@ store-path-requires : tie.Need-store-path-requires
 store-path-requires c κs = search needs
 
 returns : tie.Need-returns
-returns c = let a = c .before .before .before .before .before .before .before .before .before .args in let e = c .before .before .before .before .find-path .ensures ∙ at-table (λ (s : Sector) (t : Region). following.pathOf (a .w .now) s t (a .path .now)) (c .before .before .before .before .before .before .sector-of .ensures) (c .before .before .before .before .before .region-of .ensures) in let s = c .store-path .ensures in (number-by e (s .0), (given-by placedFields _ e (s .1 .0), (given-by placedAt _ e (s .1 .1 .0), refusal-by atOffset _ e (s .1 .1 .1))))
+returns c =
+    let a = c .before .before .before .before .before .before .before .before .before .args in
+    let e = c .before .before .before .before .find-path .ensures ∙ at-table (λ (s : Sector) (t : Region). following.pathOf (a .w .now) s t (a .path .now)) (c .before .before .before .before .before .before .sector-of .ensures) (c .before .before .before .before .before .region-of .ensures) in
+    let s = c .store-path .ensures in
+    (number-by e (s .0), (given-by placedFields _ e (s .1 .0), (given-by placedAt _ e (s .1 .1 .0), refusal-by atOffset _ e (s .1 .1 .1))))
 
 pub xdvdfs-find-path-spec : {M : Type 1} → statement M
 xdvdfs-find-path-spec =

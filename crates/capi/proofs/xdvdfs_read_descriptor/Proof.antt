@@ -12,7 +12,10 @@ store-descriptor-requires : tie.Need-store-descriptor-requires
 store-descriptor-requires c κs = search needs
 
 returns : tie.Need-returns
-returns c = let e = c .before .before .before .read-descriptor .ensures in let s = c .store-descriptor .ensures in (number-by e (s .0), (given-by rootSector _ e (s .1 .0), given-by rootSize _ e (s .1 .1)))
+returns c =
+    let e = c .before .before .before .read-descriptor .ensures in
+    let s = c .store-descriptor .ensures in
+    (number-by e (s .0), (given-by rootSector _ e (s .1 .0), given-by rootSize _ e (s .1 .1)))
 
 pub xdvdfs-read-descriptor-spec : {M : Type 1} → statement M
 xdvdfs-read-descriptor-spec =

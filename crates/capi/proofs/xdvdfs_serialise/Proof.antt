@@ -30,7 +30,14 @@ same-length-3 : tie.Need-same-length-3
 same-length-3 c = search needs
 
 returns : tie.Need-returns
-returns c = let a = c .before .before .before .before .before .before .before .before .before .before .before .before .before .before .before .before .before .before .before .before .before .before .before .before .before .before .args in let A = arena (a .root) (a .count) (columns (a .left .now) (a .right .now) (a .parent .now) (a .height .now) (a .start .now) (a .len .now) (a .size .now) (a .kind .now)) (a .names .now) in let k = c .before .before .before .before .before .before .before .before .before .serialise .ensures in let f = ap (λ (x : Sector). x .0) (c .before .before .before .before .before .before .before .before .before .before .before .before .before .sector-of .ensures) in let e = k .0 ∙ ap (λ (n : ℕ). serialising.serialiseOf A n (length (a .order .now)) (length (a .place .now)) (length (a .out .now))) f in let s = c .store-serialised .ensures in (number-by e (s .0), (given-by tableSize _ e (s .1 .0), (given-by nextFree _ e (s .1 .1), (k .1 .0 ∙ ap (λ (n : ℕ). serialising.outAfter A n (length (a .order .now)) (length (a .place .now)) (a .out .now)) f, (k .1 .1 .0, k .1 .1 .1)))))
+returns c =
+    let a = c .before .before .before .before .before .before .before .before .before .before .before .before .before .before .before .before .before .before .before .before .before .before .before .before .before .before .args in
+    let A = arena (a .root) (a .count) (columns (a .left .now) (a .right .now) (a .parent .now) (a .height .now) (a .start .now) (a .len .now) (a .size .now) (a .kind .now)) (a .names .now) in
+    let k = c .before .before .before .before .before .before .before .before .before .serialise .ensures in
+    let f = ap (λ (x : Sector). x .0) (c .before .before .before .before .before .before .before .before .before .before .before .before .before .sector-of .ensures) in
+    let e = k .0 ∙ ap (λ (n : ℕ). serialising.serialiseOf A n (length (a .order .now)) (length (a .place .now)) (length (a .out .now))) f in
+    let s = c .store-serialised .ensures in
+    (number-by e (s .0), (given-by tableSize _ e (s .1 .0), (given-by nextFree _ e (s .1 .1), (k .1 .0 ∙ ap (λ (n : ℕ). serialising.outAfter A n (length (a .order .now)) (length (a .place .now)) (a .out .now)) f, (k .1 .1 .0, k .1 .1 .1)))))
 
 pub xdvdfs-serialise-spec : {M : Type 1} → statement M
 xdvdfs-serialise-spec =

@@ -22,7 +22,11 @@ store-taken-requires : tie.Need-store-taken-requires
 store-taken-requires c κs = search needs
 
 returns : tie.Need-returns
-returns c = let a = c .before .before .before .before .before .before .before .args in let e = c .before .before .before .take .ensures ∙ ap (λ (n : ℕ). sectors.takeOf 1 n (a .length)) (c .before .before .before .before .starting-at .ensures ∙ ap (λ (s : Sector). s .0) (c .before .before .before .before .before .sector-of .ensures)) in let s = c .store-taken .ensures in (number-by e (s .0), (given-by runFree _ e (s .1 .0), given-by runStart _ e (s .1 .1)))
+returns c =
+    let a = c .before .before .before .before .before .before .before .args in
+    let e = c .before .before .before .take .ensures ∙ ap (λ (n : ℕ). sectors.takeOf 1 n (a .length)) (c .before .before .before .before .starting-at .ensures ∙ ap (λ (s : Sector). s .0) (c .before .before .before .before .before .sector-of .ensures)) in
+    let s = c .store-taken .ensures in
+    (number-by e (s .0), (given-by runFree _ e (s .1 .0), given-by runStart _ e (s .1 .1)))
 
 pub xdvdfs-take-sectors-spec : {M : Type 1} → statement M
 xdvdfs-take-sectors-spec =

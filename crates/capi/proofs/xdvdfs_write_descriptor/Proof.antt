@@ -20,7 +20,10 @@ same-length : tie.Need-same-length
 same-length c = search needs
 
 returns : tie.Need-returns
-returns c = let a = c .before .before .before .before .before .before .before .args in let k = c .before .before .before .write-descriptor .ensures in (number-by (k .0) (c .number-of-written .ensures), k .1 ∙ ap (λ (r : Region). volume.bytesAfter (a .out .now) (record { root = r })) (c .before .before .before .before .before .region-of .ensures))
+returns c =
+    let a = c .before .before .before .before .before .before .before .args in
+    let k = c .before .before .before .write-descriptor .ensures in
+    (number-by (k .0) (c .number-of-written .ensures), k .1 ∙ ap (λ (r : Region). volume.bytesAfter (a .out .now) (record { root = r })) (c .before .before .before .before .before .region-of .ensures))
 
 pub xdvdfs-write-descriptor-spec : {M : Type 1} → statement M
 xdvdfs-write-descriptor-spec =

@@ -45,7 +45,15 @@ same-length-8 : tie.Need-same-length-8
 same-length-8 c = search needs
 
 returns : tie.Need-returns
-returns c = let a = c .before .before .before .before .before .before .before .before .before .before .before .before .before .before .before .before .before .before .before .before .before .before .before .before .before .before .before .before .before .before .before .before .before .before .before .before .before .before .before .before .before .before .before .args in let L = whole.listing (a .count) (a .start .now) (a .len .now) (a .size .now) (a .kind .now) (a .names .now) in let m = whole.shortest (a .left .now) (a .right .now) (a .parent .now) (a .height .now) (a .key .now) (a .order .now) (a .place .now) in let k = c .before .before .before .before .before .before .before .before .before .before .before .before .before .before .before .before .before .before .before .before .write-list .ensures in let f = ap (λ (x : Sector). x .0) (c .before .before .before .before .before .before .before .before .before .before .before .before .before .before .before .before .before .before .before .before .before .before .before .before .before .before .before .before .before .sector-of .ensures) in let e = k .0 ∙ ap (λ (n : ℕ). whole.wholeOf L m n (length (a .out .now))) f in let s = c .store-written .ensures in (number-by e (s .0), (given-by tableSize _ e (s .1 .0), (given-by nextFree _ e (s .1 .1 .0), (refusal-by ofEntry _ e (s .1 .1 .1), (k .1 .0 ∙ ap (λ (n : ℕ). whole.outAfter L m n (a .out .now)) f, k .1 .1)))))
+returns c =
+    let a = c .before .before .before .before .before .before .before .before .before .before .before .before .before .before .before .before .before .before .before .before .before .before .before .before .before .before .before .before .before .before .before .before .before .before .before .before .before .before .before .before .before .before .before .args in
+    let L = whole.listing (a .count) (a .start .now) (a .len .now) (a .size .now) (a .kind .now) (a .names .now) in
+    let m = whole.shortest (a .left .now) (a .right .now) (a .parent .now) (a .height .now) (a .key .now) (a .order .now) (a .place .now) in
+    let k = c .before .before .before .before .before .before .before .before .before .before .before .before .before .before .before .before .before .before .before .before .write-list .ensures in
+    let f = ap (λ (x : Sector). x .0) (c .before .before .before .before .before .before .before .before .before .before .before .before .before .before .before .before .before .before .before .before .before .before .before .before .before .before .before .before .before .sector-of .ensures) in
+    let e = k .0 ∙ ap (λ (n : ℕ). whole.wholeOf L m n (length (a .out .now))) f in
+    let s = c .store-written .ensures in
+    (number-by e (s .0), (given-by tableSize _ e (s .1 .0), (given-by nextFree _ e (s .1 .1 .0), (refusal-by ofEntry _ e (s .1 .1 .1), (k .1 .0 ∙ ap (λ (n : ℕ). whole.outAfter L m n (a .out .now)) f, k .1 .1)))))
 
 pub xdvdfs-write-list-spec : {M : Type 1} → statement M
 xdvdfs-write-list-spec =
