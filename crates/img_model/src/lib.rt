@@ -1,13 +1,11 @@
-// An image is planned over its directories: the size and the sector of each table, and the sector of each entry.
+// The words that planning an image and its definitions share. No code: the definitions are in specs/, their laws in proofs/.
 use units::Sector;
-ghost use mathlib.Core.Path.{_≡_};
-ghost use Rattle.img.specs.Plan.{told};
 
 // What planning answers.
 pub enum Planned {
     // The next free sector.
     Done(Sector),
-    // 6: a lent column is shorter than the entry or directory count, or the arena than the largest share.
+    // 6: a lent column is shorter than the entry or directory count, or the arena than a directory's share.
     Room,
     // 11: no directory, a share past the entries, or a directory that is not named once, by an earlier one.
     BadTree,
