@@ -27,7 +27,7 @@ shared-slice-read-if1 : tie.Need-shared-slice-read-if1 Inv-loop μ-loop
 shared-slice-read-if1 c = search needs
 
 returns : tie.Need-returns Inv-loop μ-loop
-returns c = search unnamed
+returns c = let k = c .before .before .before in unnamed (k .before .args .named .now) (k .loop .x) (omega arith) (search needs) (λ e. omega arith)
 
 add-x : tie.Need-add-x Inv-loop μ-loop
 add-x c = search needs

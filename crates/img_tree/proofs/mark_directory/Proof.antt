@@ -1,6 +1,7 @@
 -- `img_tree::mark_directory` meets its contract.
 use Rattle.img_tree.proofs.Reach.{past-list, in-list, marked-in-list}
 use Rattle.img_tree.proofs.Turn.{never}
+use native.Mathlib.Omega.{arith}
 use borrow.Author.Needs.{needs}
 use Rattle.img_tree.proofs.mark_directory.Statement.{statement}
 use Rattle.img_tree.proofs.mark_directory.Tie as tie
@@ -9,7 +10,7 @@ add-to : tie.Need-add-to
 add-to c = search needs
 
 returns : tie.Need-returns
-returns c = (search past-list, never)
+returns c = (past-list _ _ _ _ _ _ (omega arith), never)
 
 sub-mark-share : tie.Need-sub-mark-share
 sub-mark-share c = search needs
