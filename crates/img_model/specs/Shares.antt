@@ -18,17 +18,14 @@ pub record Request : Type 0 where
   pub value : List ℕ
   pub bytes : List ℕ
 
+abbrev pub columns : List ℕ → List ℕ → List ℕ → List ℕ → List ℕ → List ℕ → List ℕ → Request
+columns first share start len kind value bytes =
+    record { first = first; share = share; start = start; len = len; kind = kind; value = value; bytes = bytes }
+
 -- the columns that are lent, as far as the two counts go
 abbrev pub request : ℕ → ℕ → List ℕ → List ℕ → List ℕ → List ℕ → List ℕ → List ℕ → List ℕ → Request
-request directories entries first share start len kind value bytes = record {
-  first = take directories first;
-  share = take directories share;
-  start = take entries start;
-  len = take entries len;
-  kind = take entries kind;
-  value = take entries value;
-  bytes = bytes;
-}
+request directories entries first share start len kind value bytes =
+    columns (take directories first) (take directories share) (take entries start) (take entries len) (take entries kind) (take entries value) bytes
 
 -- how many directories and entries there are
 abbrev pub directoriesOf : Request → ℕ
