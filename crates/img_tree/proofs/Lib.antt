@@ -5,3 +5,4 @@ pub mod Turn
 pub mod Reach
 pub mod Named
 pub mod Whole
+pub mod Columns
