@@ -7,7 +7,11 @@ use layout_node::entry_length;
 ghost use mathlib.Core.Path.{_≡_};
 ghost use mathlib.Core.List.{[]};
 ghost use Prim.Native.Nat.{ℕ, _+_, _≤_, _<_};
+ghost use mathlib.Core.Bool.{true};
+ghost use lib.Dec.{eqb};
 ghost use lib.ListN.{length, getD};
+ghost use Rattle.units.specs.Told.{pick};
+ghost use Rattle.layout_node.specs.Header.{entryLength};
 ghost use Rattle.table_model.specs.Place.{startAfter};
 ghost use Rattle.img_model.specs.Plan.{tableIn, sizeAt, treeIn};
 ghost use Rattle.img_table.specs.Arranging.{shareBy, fitting, sizeAlong, Fillable, Arrangeable, Measurable, Arrangement, Sizing};
@@ -28,10 +32,26 @@ pub enum TableSized {
     FileTooLarge(u32),
 }
 
+// A number as an index.
+fn index_of(n: u64) -> usize
+    ensures { λ r. ⌜ r ≡ n ⌝ }
+{
+    n as usize
+}
+
+fn widen(n: u32) -> u64
+    ensures { λ r. ⌜ r ≡ n ⌝ }
+{
+    n as u64
+}
+
 // The size of an entry: a directory's is its table's.
-fn size_for(kind: u8, value: u64, sized: &[u32]) -> u64 {
+fn size_for(kind: u8, value: u64, sized: &[u32]) -> u64
+    requires { ⌜ (eqb kind 1 ≡ true → value < length (now sized)) ⌝ }
+    ensures { λ r. ⌜ r ≡ pick (eqb kind 1) (tableIn (now (sized .entry)) value) value ⌝ }
+{
     if kind == 1 {
-        return sized[value as usize] as u64;
+        return widen(sized[index_of(value)]);
     }
     value
 }
@@ -112,6 +132,21 @@ fn stop_after(e: u32, n: u32) -> u32
     (e + 2047) / 2048 * 2048 + n
 }
 
+// An entry's number as an index.
+fn index_in(i: u16) -> usize
+    ensures { λ r. ⌜ (r ≡ i) × (r < 65536) ⌝ }
+{
+    i as usize
+}
+
+// The length of an entry whose name has so many bytes.
+fn length_for(n: u32) -> u32
+    requires { ⌜ n ≤ 255 ⌝ }
+    ensures { λ r. ⌜ (r ≡ entryLength n) × (r ≤ 272) ⌝ }
+{
+    entry_length(n as u8)
+}
+
 // The reported size of a table with entries in this order: the last end, or 2,048 for an empty one.
 fn measure(order: &[u16], len: &[u32]) -> u32
     requires { ⌜ Measurable (now order) (now len) ⌝ }
@@ -123,7 +158,9 @@ fn measure(order: &[u16], len: &[u32]) -> u32
     let mut e: u32 = 0;
     let mut k: usize = 0;
     while k < order.len() {
-        e = stop_after(e, entry_length(len[order[k] as usize] as u8));
+        let i = index_in(order[k]);
+        let n = length_for(len[i]);
+        e = stop_after(e, n);
         k += 1;
     }
     e
