@@ -1,0 +1,2 @@
+-- What the reader's functions make of it.
+pub mod Reader
