@@ -1,4 +1,20 @@
-// A reader: it holds a window of image bytes, the number of the window's first sector, a directory table, and a position in it.
+// A small reader for a loader: it holds a window of image bytes, the number of the window's first sector, a directory table, and a position, which is an
+// offset in the table. It is plain data with a borrowed slice and is passed by value; a copy of it keeps its own position. No function asks anything of its caller.
+//
+// To load `media/default.xbe` out of a window w that starts with sector 32 (`root` is the region that `xdvdfs::read_descriptor` gives):
+//
+//     let r = Reader::new(w, Sector::new(32), root);
+//     match r.look_up(b"media") {
+//         Looked::Found(_, _, at, _) => match r.placed(at).enter() {
+//             Entered::Into(table) => match r.within(table).look_up(b"default.xbe") {
+//                 Looked::Found(h, _, _, _) => (h.sector and h.size say where its bytes stand)
+//                 ..
+//
+// To go through a table, keep the offsets to come on a stack of your own, 0 at first: take one off, use `entry` and `name` of the reader placed there, and put on
+// what `right` and then `left` lead to. That lists what the walk lists (proofs/Walk.antt, `walks-by-links`). The position alone does not say what is next in a
+// walk: where two links name one entry, the walk lists it twice (there, `no-next`).
+//
+// An answer holds no reader, since an enum holds no reference: `look_up`, `left` and `right` answer an offset, for `placed`, and `enter` a table, for `within`.
 use read_entry::Read;
 use read_lookup::Looked;
 use read_place::Entered;
@@ -21,7 +37,7 @@ pub struct Reader<'a> {
 }
 
 impl<'a> Reader<'a> {
-    // A reader of a table, at offset 0.
+    // A reader of a table of a window, at offset 0.
     pub fn new(window: &'a [u8], first: Sector, table: Region) -> Reader<'a>
         ensures { λ r. ⌜ r ≡ opened (window .entry) first table ⌝ }
     {
@@ -33,7 +49,7 @@ impl<'a> Reader<'a> {
         }
     }
 
-    // The same at another offset of the table.
+    // The same reader at another offset of the table: any offset; `entry` answers 23 at one that is not below the table's size.
     pub fn placed(self, at: Offset) -> Reader<'a>
         ensures { λ r. ⌜ r ≡ placedAt (self .entry) at ⌝ }
     {
@@ -45,49 +61,49 @@ impl<'a> Reader<'a> {
         }
     }
 
-    // A reader of another table of the same window, at offset 0.
+    // A reader of another table in the same window, at offset 0.
     pub fn within(self, table: Region) -> Reader<'a>
         ensures { λ r. ⌜ r ≡ opened (self .entry .window) (self .entry .first) table ⌝ }
     {
         Reader::new(self.window, self.first, table)
     }
 
-    // Looks a name up in the table, from offset 0 on.
+    // Looks a name up in the table, from offset 0 on, wherever the position is. 2, 21, then 22 with the number of headers read, 23, 24, 25.
     pub fn look_up(self, name: &[u8]) -> Looked
         ensures { λ r. ⌜ lookup.told r ≡ lookup.lookupOf (now (self .entry .window)) (self .entry .first) (self .entry .table) (now (name .entry)) ⌝ }
     {
         xdvdfs::look_up(self.window, self.first, self.table, name)
     }
 
-    // The entry at the position.
+    // The entry at the position: its header and place in the window, or that there is none. 23, 24 with the offset.
     pub fn entry(self) -> Read
         ensures { λ r. ⌜ reading.told r ≡ reading.readAt (now (self .entry .window)) (self .entry .first) (self .entry .table) (self .entry .at .0) ⌝ }
     {
         xdvdfs::read_entry(self.window, self.first, self.table, self.at)
     }
 
-    // The name at the position.
+    // The name of the entry at the position, as that part of the window itself; an empty part where there is no entry.
     pub fn name(self) -> &'a [u8]
         ensures { λ r. ⌜ now r ≡ place.nameAt (now (self .entry .window)) (self .entry .first) (self .entry .table) (self .entry .at .0) ⌝ }
     {
         read_place::name_at(self.window, self.first, self.table, self.at)
     }
 
-    // The table of the directory at the position.
+    // The table of the directory at the position. 22 where there is no entry, 23, 24 with the offset, 27 where the entry is no directory.
     pub fn enter(self) -> Entered
         ensures { λ r. ⌜ place.entered r ≡ place.tableAt (now (self .entry .window)) (self .entry .first) (self .entry .table) (self .entry .at .0) ⌝ }
     {
         read_place::table_at(self.window, self.first, self.table, self.at)
     }
 
-    // Where the left link leads.
+    // Where the left link of the entry at the position leads, or that it is absent: 0 and 0xffff are, as for the walk. 23, 24 with the position.
     pub fn left(self) -> Linked
         ensures { λ r. ⌜ place.linked r ≡ place.leftAt (now (self .entry .window)) (self .entry .first) (self .entry .table) (self .entry .at .0) ⌝ }
     {
         read_place::left_at(self.window, self.first, self.table, self.at)
     }
 
-    // Where the right link leads.
+    // The same of the right link.
     pub fn right(self) -> Linked
         ensures { λ r. ⌜ place.linked r ≡ place.rightAt (now (self .entry .window)) (self .entry .first) (self .entry .table) (self .entry .at .0) ⌝ }
     {
