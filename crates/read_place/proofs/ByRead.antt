@@ -1,7 +1,7 @@
 -- What stands at a place, by the cases of what is read there. Assumes nothing.
 use Prim.Native.Nat.{ℕ}
-use mathlib.Core.Path.{_≡_, refl}
-use mathlib.Core.List.{List, []}
+use mathlib.Core.Path.{_≡_}
+use mathlib.Core.List.{List}
 use lib.ListN.{take}
 use Rattle.units.specs.declared.Sector.{Sector}
 use Rattle.units.specs.declared.Offset.{Offset}

@@ -7,7 +7,6 @@ use units::Region;
 use units::Sector;
 ghost use mathlib.Core.Path.{_≡_};
 ghost use Rattle.read_entry.specs.Links.{walkAbsent};
-ghost use Rattle.read_entry.specs.Entry as reading;
 ghost use Rattle.read_place.specs.Place.{entered, headerEntered, tableAt, linked, byLink, leftAt, rightAt, nameAt};
 
 // What going into the entry at a place answers.

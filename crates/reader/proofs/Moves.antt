@@ -3,7 +3,7 @@ use Prim.Native.Nat.{ℕ}
 use mathlib.Core.Path.{_≡_, refl}
 use mathlib.Core.Bool.{Bool, true, false}
 use mathlib.Core.List.{List, []}
-use mathlib.Core.Option.{Option, some, none}
+use mathlib.Core.Option.{Option, some}
 use denote.Ref.{now}
 use Rattle.units.specs.Told.{Told, gives, refuses, pick}
 use Rattle.units.specs.declared.Region.{Region}

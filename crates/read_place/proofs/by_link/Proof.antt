@@ -10,10 +10,6 @@ use Rattle.read_place.specs.declared.Linked.the-variants.{Absent, To}
 use Rattle.read_place.specs.Place.{byLink, linked}
 use Rattle.read_place.proofs.by_link.Statement.{statement}
 use Rattle.read_place.proofs.by_link.Tie as tie
-use Rattle.read_place.proofs.by_link.Reads as reads
-use Rattle.read_place.proofs.by_link.Lts as lts
-use Rattle.units.proofs.Link.number.Reads as number-reads
-use Rattle.units.proofs.Link.offset.Reads as offset-reads
 
 module _ (l : Link) (n : ℕ) (is : n ≡ l .0) where
   zero-link : n ≡ 0 → linked Absent ≡ byLink walkAbsent (l .0)

@@ -8,9 +8,6 @@ use Rattle.read_place.specs.Place.{entered, headerEntered}
 use borrow.Author.Needs.{needs}
 use Rattle.read_place.proofs.enter_header.Statement.{statement}
 use Rattle.read_place.proofs.enter_header.Tie as tie
-use Rattle.read_place.proofs.enter_header.Reads as reads
-use Rattle.read_place.proofs.enter_header.Lts as lts
-use Rattle.layout_node.proofs.Header.is_directory.Reads as is-directory-reads
 
 module _ (h : Header) (b : Bool) (kind : b ≡ isDirectory h) where
   directory : b ≡ true → entered (Into (record { sector = h .sector; size = h .size })) ≡ headerEntered h

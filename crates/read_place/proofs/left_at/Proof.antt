@@ -3,10 +3,6 @@ use borrow.Author.Needs.{needs}
 use Rattle.read_place.proofs.ByRead.{left-entry, left-nothing, left-outside, left-truncated}
 use Rattle.read_place.proofs.left_at.Statement.{statement}
 use Rattle.read_place.proofs.left_at.Tie as tie
-use Rattle.read_place.proofs.left_at.Reads as reads
-use Rattle.read_place.proofs.left_at.Lts as lts
-use Rattle.read_entry.proofs.read_at.Reads as read-at-reads
-use Rattle.read_place.proofs.by_link.Reads as by-link-reads
 
 read-at-requires : tie.Need-read-at-requires
 read-at-requires c κs = search needs

@@ -3,10 +3,6 @@ use borrow.Author.Needs.{needs}
 use Rattle.read_place.proofs.ByRead.{name-entry, name-nothing, name-outside, name-truncated}
 use Rattle.read_place.proofs.name_at.Statement.{statement}
 use Rattle.read_place.proofs.name_at.Tie as tie
-use Rattle.read_place.proofs.name_at.Reads as reads
-use Rattle.read_place.proofs.name_at.Lts as lts
-use Rattle.read_entry.proofs.name_of.Reads as name-of-reads
-use Rattle.read_entry.proofs.read_at.Reads as read-at-reads
 
 read-at-requires : tie.Need-read-at-requires
 read-at-requires c κs = search needs

@@ -3,10 +3,6 @@ use borrow.Author.Needs.{needs}
 use Rattle.read_place.proofs.ByRead.{right-entry, right-nothing, right-outside, right-truncated}
 use Rattle.read_place.proofs.right_at.Statement.{statement}
 use Rattle.read_place.proofs.right_at.Tie as tie
-use Rattle.read_place.proofs.right_at.Reads as reads
-use Rattle.read_place.proofs.right_at.Lts as lts
-use Rattle.read_entry.proofs.read_at.Reads as read-at-reads
-use Rattle.read_place.proofs.by_link.Reads as by-link-reads
 
 read-at-requires : tie.Need-read-at-requires
 read-at-requires c κs = search needs

@@ -3,10 +3,6 @@ use borrow.Author.Needs.{needs}
 use Rattle.read_place.proofs.ByRead.{table-entry, table-nothing, table-outside, table-truncated}
 use Rattle.read_place.proofs.table_at.Statement.{statement}
 use Rattle.read_place.proofs.table_at.Tie as tie
-use Rattle.read_place.proofs.table_at.Reads as reads
-use Rattle.read_place.proofs.table_at.Lts as lts
-use Rattle.read_entry.proofs.read_at.Reads as read-at-reads
-use Rattle.read_place.proofs.enter_header.Reads as enter-header-reads
 
 read-at-requires : tie.Need-read-at-requires
 read-at-requires c κs = search needs

@@ -163,7 +163,7 @@ module _ {M : Type 1} (𝓤 : URA M) (H : Heap 𝓤) (A : Atoms 𝓤) (W : Given
       qed W (‵ (Held .own r (u ∷ [])) ∷ (‵ (flft κ q) ⊛ ‵ ftrue) ∷ ((‵ (flft κ′ q′) ⊛ ‵ ftrue) ⊛ ‵ Kept) ∷ []) ∵ move ! (2 ∷ []) $ split ! $ move ! (1 ∷ []) $
       -- [what the parameters own; the name's token; what the reader owns; the window's token]: what the name owns is had twice
       fsplit ! $ move ! (1 ∷ []) $ fsplit ! $ move ! (1 ∷ []) $ fsplit ! $ move ! (1 ∷ []) $ fsplit ! $ move ! (1 ∷ []) $ fsplit ! $ use1 W (‵ Named ⊛ ‵ Named) (shr-slice-copy 𝓤 H A W (named 1) κ′ u8 .twice name (x ∷ [])) $ split ! $ move ! (1 ∷ 2 ∷ []) $ fjoin ! $
-      move ! (2 ∷ 0 ∷ []) $ fjoin ! $ move ! (2 ∷ 0 ∷ []) $ fjoin ! $ move ! (2 ∷ 0 ∷ []) $ fjoin ! $ move ! (2 ∷ 0 ∷ []) $ fjoin ! $ 
+      move ! (2 ∷ 0 ∷ []) $ fjoin ! $ move ! (2 ∷ 0 ∷ []) $ fjoin ! $ move ! (2 ∷ 0 ∷ []) $ fjoin ! $ move ! (2 ∷ 0 ∷ []) $ fjoin ! $
       -- [what the parameters own; what the name owns; the name's token; what the reader owns; the window's token]
       nothing ! $ move ! (2 ∷ 0 ∷ []) $ fjoin ! $ move ! (3 ∷ 0 ∷ []) $ fjoin ! $
       -- [what the callee's arguments own; what the parameters own; the name's token; the window's]
