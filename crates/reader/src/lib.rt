@@ -1,27 +1,29 @@
 // A small reader for a loader: it holds a window of image bytes, the number of the window's first sector, a directory table, and a position, which is an
 // offset in the table. It is plain data with a borrowed slice and is passed by value; a copy of it keeps its own position. No function asks anything of its caller.
 //
-// To load `media/default.xbe` out of a window w that starts with sector 32 (`root` is the region that `xdvdfs::read_descriptor` gives):
+// To load `media/default.xbe` out of a window w that starts with sector 32, where `root` is the region that `xdvdfs::read_descriptor` gives:
 //
 //     let r = Reader::new(w, Sector::new(32), root);
-//     match r.look_up(b"media") {
-//         Looked::Found(_, _, at, _) => match r.placed(at).enter() {
-//             Entered::Into(table) => match r.within(table).look_up(b"default.xbe") {
-//                 Looked::Found(h, _, _, _) => (h.sector and h.size say where its bytes stand)
-//                 ..
-//
-// To go through a table, keep the offsets to come on a stack of your own, 0 at first: take one off, use `entry` and `name` of the reader placed there, and put on
-// what `right` and then `left` lead to. That lists what the walk lists (proofs/Walk.antt, `walks-by-links`). The position alone does not say what is next in a
-// walk: where two links name one entry, the walk lists it twice (there, `no-next`).
+//     r.look_up(b"media")                          answers Looked::Found(_, _, at, _)
+//     r.placed(at).enter()                         answers Entered::Into(table)
+//     r.within(table).look_up(b"default.xbe")      answers Looked::Found(h, _, _, _), of which h.sector and h.size say where the bytes stand
 //
 // An answer holds no reader, since an enum holds no reference: `look_up`, `left` and `right` answer an offset, for `placed`, and `enter` a table, for `within`.
-use read_entry::Read;
-use read_lookup::Looked;
-use read_place::Entered;
-use read_place::Linked;
-use units::Offset;
-use units::Region;
-use units::Sector;
+//
+// To go through a table of a size other than 0, keep the offsets to come on a stack of your own, 0 at first: take one off, ask the reader placed there for `entry` and
+// `name`, and put on what `right` and then `left` lead to. That lists what the walk lists (specs/Through.antt, and `walks-by-links` in proofs/Walk.antt). The position
+// alone does not say what is next in a walk: where two links name one entry, the walk lists it twice, and what follows differs (there, `no-next`).
+//
+// A function that takes, makes or holds a reader is proved by hand, and without a branch in it. So each function here takes the reader apart and calls one that is not;
+// crate reader_cases shows how a program that uses a reader is cut.
+pub use layout_node::Header;
+pub use read_entry::Read;
+pub use read_lookup::Looked;
+pub use read_place::Entered;
+pub use read_place::Linked;
+pub use units::Offset;
+pub use units::Region;
+pub use units::Sector;
 ghost use mathlib.Core.Path.{_≡_};
 ghost use Rattle.read_entry.specs.Entry as reading;
 ghost use Rattle.read_lookup.specs.Lookup as lookup;
