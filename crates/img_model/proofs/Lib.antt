@@ -1,0 +1,3 @@
+-- Laws of the definitions of planning.
+pub mod Every
+pub mod Rule
