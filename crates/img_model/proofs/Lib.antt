@@ -1,3 +1,5 @@
 -- Laws of the definitions of planning.
 pub mod Every
 pub mod Rule
+pub mod Trees
+pub mod Sizes
