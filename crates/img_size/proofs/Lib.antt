@@ -1,0 +1,2 @@
+-- Laws that sizing an image's tables goes by.
+pub mod Cut
