@@ -6,9 +6,9 @@ use mathlib.Core.List.{List, _++_}
 use lib.ListN.{length, take, drop, length-drop}
 use lib.Seq.{length-take-le, take-at, drop-at}
 use Rattle.img_model.specs.Shares.{Request, Share, shareOf, directoriesOf, firstOf, countOf, entriesOf, part}
-use Rattle.img_size.specs.declared.TableSized.{TableSized}
-use Rattle.img_size.specs.Sizing.{shareBy, Fillable, Arrangeable, Sizing, Sizeable, Roomy}
-
+use Rattle.img_table.specs.declared.TableSized.{TableSized}
+use Rattle.img_table.specs.Arranging.{shareBy, Fillable, Arrangeable, Sizing}
+use Rattle.img_size.specs.Sizing.{Sizeable, Roomy}
 
 length-part : (f n : ℕ) (xs : List ℕ) → f + n ≤ length xs → length (part f n xs) ≡ n
 length-part f n xs h = length-take-le n (drop f xs) (let e : length (drop f xs) ≡ length xs - f = length-drop f xs in omega arith)
@@ -44,10 +44,10 @@ module _ (R : Request) (s : Sizeable R) (d : ℕ) (h : d < directoriesOf R) wher
   -- the slices make up the share
   pub cut-share :
       shareBy (take (firstOf R d + countOf R d - firstOf R d) (drop (firstOf R d) (R .start)))
-          (take (firstOf R d + countOf R d - firstOf R d) (drop (firstOf R d) (R .len)))
-          (take (firstOf R d + countOf R d - firstOf R d) (drop (firstOf R d) (R .kind)))
-          (take (firstOf R d + countOf R d - firstOf R d) (drop (firstOf R d) (R .value)))
-          (R .bytes) ≡ shareOf R d
+      (take (firstOf R d + countOf R d - firstOf R d) (drop (firstOf R d) (R .len)))
+      (take (firstOf R d + countOf R d - firstOf R d) (drop (firstOf R d) (R .kind)))
+      (take (firstOf R d + countOf R d - firstOf R d) (drop (firstOf R d) (R .value)))
+      (R .bytes) ≡ shareOf R d
   cut-share =
       ap (λ (n : ℕ). shareBy (part (firstOf R d) n (R .start)) (part (firstOf R d) n (R .len)) (part (firstOf R d) n (R .kind)) (part (firstOf R d) n (R .value)) (R .bytes)) (back-to (firstOf R d) (countOf R d)) ∙
       ap counted (length-part (firstOf R d) (countOf R d) (R .kind) (inside-of (R .kind) (omega arith)))
@@ -76,27 +76,27 @@ module _ (R : Request) (s : Sizeable R) (d : ℕ) (h : d < directoriesOf R) wher
   pub cut-arrangeable : (sizes left right parent height key size at : ℕ) (orders : List ℕ) →
       Roomy R sizes left right parent height key size (length orders) → at + countOf R d ≤ length orders →
       Arrangeable
-          (shareBy (take (firstOf R d + countOf R d - firstOf R d) (drop (firstOf R d) (R .start)))
-              (take (firstOf R d + countOf R d - firstOf R d) (drop (firstOf R d) (R .len)))
-              (take (firstOf R d + countOf R d - firstOf R d) (drop (firstOf R d) (R .kind)))
-              (take (firstOf R d + countOf R d - firstOf R d) (drop (firstOf R d) (R .value)))
-              (R .bytes))
-          sizes left right parent height key size (length (take (at + countOf R d - at) (drop at orders)))
+      (shareBy (take (firstOf R d + countOf R d - firstOf R d) (drop (firstOf R d) (R .start)))
+      (take (firstOf R d + countOf R d - firstOf R d) (drop (firstOf R d) (R .len)))
+      (take (firstOf R d + countOf R d - firstOf R d) (drop (firstOf R d) (R .kind)))
+      (take (firstOf R d + countOf R d - firstOf R d) (drop (firstOf R d) (R .value)))
+      (R .bytes))
+      sizes left right parent height key size (length (take (at + countOf R d - at) (drop at orders)))
   cut-arrangeable sizes left right parent height key size at orders y q =
       subst (λ (S : Share). Arrangeable S sizes left right parent height key size (length (take (at + countOf R d - at) (drop at orders)))) (sym cut-share)
-        (share-arrangeable sizes left right parent height key size (length orders) (length (take (at + countOf R d - at) (drop at orders))) y (cut-length at (countOf R d) orders q))
+      (share-arrangeable sizes left right parent height key size (length orders) (length (take (at + countOf R d - at) (drop at orders))) y (cut-length at (countOf R d) orders q))
 
   -- what is said of the slices is said of the share, and of its places of the orders
   pub cut-sized : (r : TableSized) (tab : ℕ → ℕ) (at : ℕ) (orders ys : List ℕ) →
       at + countOf R d ≤ length orders → length ys ≡ length (take (at + countOf R d - at) (drop at orders)) →
       Sizing r
-          (shareBy (take (firstOf R d + countOf R d - firstOf R d) (drop (firstOf R d) (R .start)))
-              (take (firstOf R d + countOf R d - firstOf R d) (drop (firstOf R d) (R .len)))
-              (take (firstOf R d + countOf R d - firstOf R d) (drop (firstOf R d) (R .kind)))
-              (take (firstOf R d + countOf R d - firstOf R d) (drop (firstOf R d) (R .value)))
-              (R .bytes))
-          tab ys →
+      (shareBy (take (firstOf R d + countOf R d - firstOf R d) (drop (firstOf R d) (R .start)))
+      (take (firstOf R d + countOf R d - firstOf R d) (drop (firstOf R d) (R .len)))
+      (take (firstOf R d + countOf R d - firstOf R d) (drop (firstOf R d) (R .kind)))
+      (take (firstOf R d + countOf R d - firstOf R d) (drop (firstOf R d) (R .value)))
+      (R .bytes))
+      tab ys →
       Sizing r (shareOf R d) tab (part at (countOf R d) (take at orders ++ (ys ++ drop (at + countOf R d - at) (drop at orders))))
   cut-sized r tab at orders ys q e w =
       subst (λ (l : List ℕ). Sizing r (shareOf R d) tab l) (sym (put-part at (countOf R d) orders ys _ (omega arith) (e ∙ cut-length at (countOf R d) orders q)))
-        (subst (λ (S : Share). Sizing r S tab ys) cut-share w)
+      (subst (λ (S : Share). Sizing r S tab ys) cut-share w)

@@ -16,11 +16,12 @@ use Rattle.img_model.specs.Shares.{Request, Share, shareOf, directoriesOf, firs
 use Rattle.img_model.specs.Plan.{tableIn, entryIn, treeIn, sizesDown, total}
 use Rattle.img_model.proofs.Trees.{refused-inside, tree-same, size-same}
 use Rattle.img_model.proofs.Sizes.{later-kept, down-given, down-refused}
-use Rattle.img_size.specs.declared.Arranged.{Arranged}
-use Rattle.img_size.specs.declared.Arranged.the-variants as arranged
-use Rattle.img_size.specs.declared.TableSized.{TableSized}
-use Rattle.img_size.specs.declared.TableSized.the-variants as sized
-use Rattle.img_size.specs.Sizing.{Measured, Sizing, orderFrom, TableIn, TablesIn, Sizeable, Roomy, toldSizes}
+use Rattle.img_table.specs.declared.Arranged.{Arranged}
+use Rattle.img_table.specs.declared.Arranged.the-variants as arranged
+use Rattle.img_table.specs.declared.TableSized.{TableSized}
+use Rattle.img_table.specs.declared.TableSized.the-variants as sized
+use Rattle.img_table.specs.Arranging.{Measured, Sizing}
+use Rattle.img_size.specs.Sizing.{orderFrom, TableIn, TablesIn, Sizeable, Roomy}
 use Rattle.img_size.proofs.Orders.{total-step, total-none, total-down, total-all, part-kept}
 
 -- ---- what the answers of one table say
@@ -125,7 +126,7 @@ module _ (R : Request) (s : Sizeable R) where
       tree-kept : (x : ℕ) → d - 1 ≤ x → x < directoriesOf R → treeIn (shareOf R x) (tableIn (set sizes (d - 1) z)) ≡ treeIn (shareOf R x) (tableIn sizes)
       tree-kept x p q =
           tree-same (shareOf R x) (tableIn (set sizes (d - 1) z)) (tableIn sizes)
-            (λ i k e. later-kept sizes (d - 1) z (valueOf (shareOf R x) i) (omega (arith, s .later x i q k e)))
+          (λ i k e. later-kept sizes (d - 1) z (valueOf (shareOf R x) i) (omega (arith, s .later x i q k e)))
 
       size-kept : (x : ℕ) (t : Tree) → sizeOf (entryIn (shareOf R x) (tableIn sizes)) t ≡ sizeOf (entryIn (shareOf R x) (tableIn (set sizes (d - 1) z))) t
       size-kept x t = size-same (shareOf R x) (tableIn sizes) (tableIn (set sizes (d - 1) z)) t
@@ -137,9 +138,9 @@ module _ (R : Request) (s : Sizeable R) where
           told = tree-kept x (omega arith) q ∙ w .told;
           listed-is =
               part-kept (orderFrom R x) (countOf R x) at orders after
-                (let e : total (drop x (R .share)) ≡ countOf R x + orderFrom R x = total-step (R .share) x (omega (arith, s .shared)) in
-                omega (arith, e, total-down (R .share) d x p, g .at-is))
-                kept ∙
+              (let e : total (drop x (R .share)) ≡ countOf R x + orderFrom R x = total-step (R .share) x (omega (arith, s .shared)) in
+              omega (arith, e, total-down (R .share) d x p, g .at-is))
+              kept ∙
               w .listed-is;
           size-is = later-kept sizes (d - 1) z x (omega arith) ∙ w .size-is ∙ size-kept x (w .t);
         }

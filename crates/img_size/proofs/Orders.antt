@@ -28,7 +28,7 @@ pub total-down : (l : List ℕ) (d x : ℕ) → d ≤ x → total (drop x l) ≤
 total-down l d x h =
     let k : d + (x - d) ≡ x = omega arith in
     subst (λ (y : ℕ). total (drop y l) ≤ total (drop d l)) k
-      (subst (λ (m : List ℕ). total m ≤ total (drop d l)) (drop-drop (x - d) d l) (less-in-all (drop d l) (x - d)))
+    (subst (λ (m : List ℕ). total m ≤ total (drop d l)) (drop-drop (x - d) d l) (less-in-all (drop d l) (x - d)))
 
 pub total-all : (l : List ℕ) (d : ℕ) → total (drop d l) ≤ total l
 total-all l d = less-in-all l d

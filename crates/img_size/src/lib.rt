@@ -1,51 +1,15 @@
 // The tables of an image are sized from the last directory back to the root, and each one's preorder is kept.
-use dirtab_grow::Cause;
+use img_table::Arranged;
+use img_table::TableSized;
+use img_table::size_table;
 ghost use mathlib.Core.Path.{_≡_};
-ghost use mathlib.Core.List.{[]};
-ghost use Prim.Native.Nat.{ℕ, _+_, _≤_, _<_};
-ghost use lib.ListN.{length, getD, take};
-ghost use Rattle.img_model.specs.Shares.{Request, columns, directoriesOf, countOf, shareOf, part};
-ghost use Rattle.img_model.specs.Plan.{tableIn, sizeAt, treeIn, sizesDown};
-ghost use Rattle.img_size.specs.declared.Arranged.the-variants.{Done};
-ghost use Rattle.img_size.specs.Sizing.{shareBy, fitting, sizeAlong, Fillable, Arrangeable, Measurable, Arrangement, Sizing, Sizeable, Roomy, TablesIn, toldSizes};
-
-// What arranging a directory's entries answers: their preorder is there, or one of them is refused, by its number.
-pub enum Arranged {
-    Done,
-    // 1, 2, 3, 5, 4, 6: as adding.
-    Refused(Cause, u32),
-    // 10: a file's length exceeds 4,294,967,295.
-    FileTooLarge(u32),
-}
-
-// What sizing a directory's table answers: its reported size, or an entry that is refused, by its number.
-pub enum TableSized {
-    Done(u32),
-    Refused(Cause, u32),
-    FileTooLarge(u32),
-}
-
-// The size of a directory's table, and its preorder into `order`.
-fn size_table(
-    names: &[u8],
-    start: &[u32],
-    len: &[u32],
-    kind: &[u8],
-    value: &[u64],
-    sized: &[u32],
-    left: &mut [u16],
-    right: &mut [u16],
-    parent: &mut [u16],
-    height: &mut [u8],
-    key: &mut [u32],
-    size: &mut [u32],
-    order: &mut [u16],
-) -> TableSized
-    requires { ⌜ Arrangeable (shareBy (now start) (now len) (now kind) (now value) (now names)) (length (now sized)) (length (now left)) (length (now right)) (length (now parent)) (length (now height)) (length (now key)) (length (now size)) (length (now order)) ⌝ }
-    ensures { λ r. ⌜ Sizing r (shareBy (now (start .entry)) (now (len .entry)) (now (kind .entry)) (now (value .entry)) (now (names .entry))) (tableIn (now (sized .entry))) (now (order .exit)) ⌝ }
-{
-    TableSized::Done(0)
-}
+ghost use Prim.Native.Nat.{_+_, _≤_, _<_};
+ghost use lib.ListN.{length, take};
+ghost use Rattle.img_model.specs.Shares.{columns, directoriesOf, countOf, shareOf, part};
+ghost use Rattle.img_model.specs.Plan.{tableIn, sizesDown};
+ghost use Rattle.img_table.specs.declared.Arranged.the-variants.{Done};
+ghost use Rattle.img_table.specs.Arranging.{Sizing};
+ghost use Rattle.img_size.specs.Sizing.{Sizeable, Roomy, TablesIn, toldSizes};
 
 // The size of directory d's table, and its preorder into its places of `order`, which are those from `at` on.
 fn size_directory(

@@ -6,9 +6,6 @@ use Rattle.img_size.proofs.Cut.{cut-arrangeable, cut-sized, put-front}
 use borrow.Author.Needs.{needs}
 use Rattle.img_size.proofs.size_directory.Statement.{statement}
 use Rattle.img_size.proofs.size_directory.Tie as tie
-use Rattle.img_size.proofs.size_directory.Reads as reads
-use Rattle.img_size.proofs.size_directory.Lts as lts
-use Rattle.img_size.proofs.size_table.Reads as size-table-reads
 
 mul-f : tie.Need-mul-f
 mul-f c = search needs

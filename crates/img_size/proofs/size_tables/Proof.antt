@@ -10,9 +10,6 @@ use Rattle.img_model.specs.Plan.{tableIn}
 use Rattle.img_size.proofs.Going.{Going, none-sized, all-sized, all-standing, below, has-room, refused-back, refused-low, one-sized, refusal-of, too-large-of, measured-of, not-done, large-not-done, roomy-kept}
 use Rattle.img_size.proofs.size_tables.Statement.{statement}
 use Rattle.img_size.proofs.size_tables.Tie as tie
-use Rattle.img_size.proofs.size_tables.Reads as reads
-use Rattle.img_size.proofs.size_tables.Lts as lts
-use Rattle.img_size.proofs.size_directory.Reads as size-directory-reads
 
 abbrev Inv-loop : tie.InvT-loop
 Inv-loop first share names start len kind value sized₀ left₀ right₀ parent₀ height₀ key₀ size₀ order₀ at₀ d₀ sized left right parent height key size order at d =
