@@ -1,5 +1,4 @@
 -- What the proofs of sizing one table stand on.
-pub mod Growth
 pub mod Sizes
 pub mod Fitting
 pub mod Lengths

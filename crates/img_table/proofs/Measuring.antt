@@ -25,7 +25,7 @@ use Rattle.img_model.specs.Plan.{sizeAt, givenAt, entryIn, checkIn, treeIn}
 use Rattle.img_table.specs.declared.Arranged.{Arranged}
 use Rattle.img_table.specs.declared.Arranged.the-variants as arranged
 use Rattle.img_table.specs.Arranging.{sizeAlong, Measurable, Ordered, Arrangement, Measured}
-use Rattle.img_table.proofs.Growth.{all-passed, few-grown, below-grown}
+use Rattle.dirtab_grow.proofs.Growth.{all-passed, few-grown, below-grown}
 use Rattle.img_table.proofs.Lengths.{size-along}
 
 -- what was arranged
