@@ -19,19 +19,9 @@ use Rattle.avl_model.specs.Tree.{Tree, leaf, node, ins}
 use Rattle.table_model.specs.Place.{endOf, stopOf}
 use Rattle.table_model.specs.Table.{sizeOf}
 use Rattle.dirtab_grow.specs.Grow.{ifTaken, ifFree, growFrom, orderIn}
+use Rattle.dirtab_grow.proofs.Growth.{same-checks}
 use Rattle.img_model.specs.Shares.{Share, isDirectory, valueOf}
 use Rattle.img_model.specs.Plan.{sizeAt, givenAt, entryIn, checkIn, treeIn}
-
--- ---- growing asks the checks of the numbers that it adds, and no others
-
-pub grow-same : (c c₁ : ℕ → Told (Unit {0})) (between : ℕ → ℕ → Order) (k i : ℕ) (t : Tree) →
-    ((j : ℕ) → i ≤ j → j < i + k → c j ≡ c₁ j) → growFrom c between k i t ≡ growFrom c₁ between k i t
-unfolding growFrom
-grow-same c c₁ between zero i t h = refl
-grow-same c c₁ between (suc k) i t h =
-    let u : Tree = ins (λ j. isLess (between i j)) i t in
-    ap (λ (v : Told (Unit {0})). ifTaken i v (ifFree i (spotIn (between i) t Root) (pick (ltb i 16384) (growFrom c between k (i + 1) u) (refuses 6 (i ∷ []))))) (h i (omega arith) (omega arith)) ∙
-    ap (λ (x : Told Tree). ifTaken i (c₁ i) (ifFree i (spotIn (between i) t Root) (pick (ltb i 16384) x (refuses 6 (i ∷ []))))) (grow-same c c₁ between k (i + 1) u (λ j p q. h j (omega arith) (omega arith)))
 
 -- ---- a refusal names one of the numbers that are added
 
@@ -88,7 +78,7 @@ module _ (S : Share) (tab : ℕ → ℕ) where
     -- two tables' sizes that agree on a share's directories give the same tree
     pub tree-same : ((i : ℕ) → i < S .count → isDirectory S i ≡ true → tab (valueOf S i) ≡ other (valueOf S i)) → treeIn S tab ≡ treeIn S other
     unfolding treeIn
-    tree-same h = grow-same (checkIn S tab) (checkIn S other) (orderIn (S .bytes) (givenAt S tab)) (S .count) 0 leaf (λ j p q. check-same j (h j (omega arith)))
+    tree-same h = same-checks (orderIn (S .bytes) (givenAt S tab)) (checkIn S tab) (checkIn S other) (S .count) 0 leaf (λ j p q. check-same j (h j (omega arith)))
 
     -- ---- where entries end depends on their names alone
 
