@@ -27,6 +27,13 @@ pub put-front : (a n : ℕ) (xs ys : List ℕ) → a + n ≤ length xs → take 
 put-front a n xs ys h = take-at (take a xs) (ys ++ drop (a + n - a) (drop a xs)) a (length-take-le a xs (omega arith))
 
 module _ (R : Request) (s : Sizeable R) (d : ℕ) (h : d < directoriesOf R) where
+  -- a column from the first entry of directory d to its last, and such slices as a share
+  abbrev pub sliceOf : List ℕ → List ℕ
+  sliceOf xs = take (firstOf R d + countOf R d - firstOf R d) (drop (firstOf R d) xs)
+
+  abbrev pub sliced : Share
+  sliced = shareBy (sliceOf (R .start)) (sliceOf (R .len)) (sliceOf (R .kind)) (sliceOf (R .value)) (R .bytes)
+
   -- the share, said to have n entries
   abbrev counted : ℕ → Share
   counted n = record {
@@ -42,12 +49,7 @@ module _ (R : Request) (s : Sizeable R) (d : ℕ) (h : d < directoriesOf R) wher
   inside-of xs e = omega (arith, s .inside d h)
 
   -- the slices make up the share
-  pub cut-share :
-      shareBy (take (firstOf R d + countOf R d - firstOf R d) (drop (firstOf R d) (R .start)))
-      (take (firstOf R d + countOf R d - firstOf R d) (drop (firstOf R d) (R .len)))
-      (take (firstOf R d + countOf R d - firstOf R d) (drop (firstOf R d) (R .kind)))
-      (take (firstOf R d + countOf R d - firstOf R d) (drop (firstOf R d) (R .value)))
-      (R .bytes) ≡ shareOf R d
+  pub cut-share : sliced ≡ shareOf R d
   cut-share =
       ap (λ (n : ℕ). shareBy (part (firstOf R d) n (R .start)) (part (firstOf R d) n (R .len)) (part (firstOf R d) n (R .kind)) (part (firstOf R d) n (R .value)) (R .bytes)) (back-to (firstOf R d) (countOf R d)) ∙
       ap counted (length-part (firstOf R d) (countOf R d) (R .kind) (inside-of (R .kind) (omega arith)))
@@ -75,13 +77,7 @@ module _ (R : Request) (s : Sizeable R) (d : ℕ) (h : d < directoriesOf R) wher
   -- and so have the slices, with so many places of the orders from `at` on
   pub cut-arrangeable : (sizes left right parent height key size at : ℕ) (orders : List ℕ) →
       Roomy R sizes left right parent height key size (length orders) → at + countOf R d ≤ length orders →
-      Arrangeable
-      (shareBy (take (firstOf R d + countOf R d - firstOf R d) (drop (firstOf R d) (R .start)))
-      (take (firstOf R d + countOf R d - firstOf R d) (drop (firstOf R d) (R .len)))
-      (take (firstOf R d + countOf R d - firstOf R d) (drop (firstOf R d) (R .kind)))
-      (take (firstOf R d + countOf R d - firstOf R d) (drop (firstOf R d) (R .value)))
-      (R .bytes))
-      sizes left right parent height key size (length (take (at + countOf R d - at) (drop at orders)))
+      Arrangeable sliced sizes left right parent height key size (length (take (at + countOf R d - at) (drop at orders)))
   cut-arrangeable sizes left right parent height key size at orders y q =
       subst (λ (S : Share). Arrangeable S sizes left right parent height key size (length (take (at + countOf R d - at) (drop at orders)))) (sym cut-share)
       (share-arrangeable sizes left right parent height key size (length orders) (length (take (at + countOf R d - at) (drop at orders))) y (cut-length at (countOf R d) orders q))
@@ -89,13 +85,7 @@ module _ (R : Request) (s : Sizeable R) (d : ℕ) (h : d < directoriesOf R) wher
   -- what is said of the slices is said of the share, and of its places of the orders
   pub cut-sized : (r : TableSized) (tab : ℕ → ℕ) (at : ℕ) (orders ys : List ℕ) →
       at + countOf R d ≤ length orders → length ys ≡ length (take (at + countOf R d - at) (drop at orders)) →
-      Sizing r
-      (shareBy (take (firstOf R d + countOf R d - firstOf R d) (drop (firstOf R d) (R .start)))
-      (take (firstOf R d + countOf R d - firstOf R d) (drop (firstOf R d) (R .len)))
-      (take (firstOf R d + countOf R d - firstOf R d) (drop (firstOf R d) (R .kind)))
-      (take (firstOf R d + countOf R d - firstOf R d) (drop (firstOf R d) (R .value)))
-      (R .bytes))
-      tab ys →
+      Sizing r sliced tab ys →
       Sizing r (shareOf R d) tab (part at (countOf R d) (take at orders ++ (ys ++ drop (at + countOf R d - at) (drop at orders))))
   cut-sized r tab at orders ys q e w =
       subst (λ (l : List ℕ). Sizing r (shareOf R d) tab l) (sym (put-part at (countOf R d) orders ys _ (omega arith) (e ∙ cut-length at (countOf R d) orders q)))

@@ -114,11 +114,12 @@ module _ (R : Request) (s : Sizeable R) where
     has-room places q = omega (arith, at-more, total-all (R .share) (d - 1))
 
     -- a refusal is told with the entry's place in the list, which four bytes hold
-    pub refused-back : (k i : ℕ) → treeIn (shareOf R (d - 1)) (tableIn sizes) ≡ refuses k (i ∷ []) → refuses k ((firstOf R (d - 1) + i) ∷ []) ≡ sizesDown R (directoriesOf R) first
-    refused-back k i e =
+    pub refused-back : (k i j : ℕ) → treeIn (shareOf R (d - 1)) (tableIn sizes) ≡ refuses k (i ∷ []) → j ≡ firstOf R (d - 1) + i → refuses k (j ∷ []) ≡ sizesDown R (directoriesOf R) first
+    refused-back k i j e q =
+        ap (λ (v : ℕ). refuses k (v ∷ [])) q ∙
         sym (down-refused R (d - 1) sizes k i e) ∙ ap (λ (n : ℕ). sizesDown R n sizes) (sym one-back) ∙ g .down
 
-    pub refused-low : (k i : ℕ) → treeIn (shareOf R (d - 1)) (tableIn sizes) ≡ refuses k (i ∷ []) → firstOf R (d - 1) + i < 4294967296
+    pub refused-low : (k i : ℕ) → treeIn (shareOf R (d - 1)) (tableIn sizes) ≡ refuses k (i ∷ []) → firstOf R (d - 1) + i ≤ 4294967295
     refused-low k i e = omega (arith, refused-inside (shareOf R (d - 1)) (tableIn sizes) k i e, s .inside (d - 1) below, s .low)
 
     -- the size of directory d - 1 is stored: the trees of no directory from there on change by it

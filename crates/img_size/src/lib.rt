@@ -58,6 +58,14 @@ fn size_directory(
     )
 }
 
+// The place in the list of entries of the i-th of a share that starts at f.
+fn place_in_list(f: u32, i: u32) -> u32
+    requires { ⌜ f + i ≤ 4294967295 ⌝ }
+    ensures { λ r. ⌜ r ≡ f + i ⌝ }
+{
+    f + i
+}
+
 // Every table's size into `sized`, from the last directory back; and every table's preorder into `order`, the last directory's first. An entry that is
 // refused is told by its place in the list.
 pub fn size_tables(
@@ -105,8 +113,14 @@ pub fn size_tables(
             size,
             order,
         ) {
-            TableSized::Refused(cause, i) => return Arranged::Refused(cause, first[d] + i),
-            TableSized::FileTooLarge(i) => return Arranged::FileTooLarge(first[d] + i),
+            TableSized::Refused(cause, i) => return Arranged::Refused(
+                cause,
+                place_in_list(first[d], i),
+            ),
+            TableSized::FileTooLarge(i) => return Arranged::FileTooLarge(place_in_list(
+                first[d],
+                i,
+            )),
             TableSized::Done(z) => {
                 sized[d] = z;
                 at += share[d] as usize;
