@@ -3,4 +3,5 @@ pub mod Checked
 pub mod Columns
 pub mod Hung
 pub mod Prefix
+pub mod Rightmost
 pub mod Turn
