@@ -182,4 +182,6 @@ fn main() {
         let list = names(&mut dice, count, "track_of_the_main_ring", 4..=4);
         both_orders(&format!("{count} names of 26 bytes, 22 of them common"), turns, &list);
     }
+    let (whole, word, long) = (ours::Lent::new(1).bytes(), std::mem::size_of::<u32>(), std::mem::size_of::<u64>());
+    println!("\nLent for an entry, besides the caller's own list: {whole} bytes for a whole table, {} for a walk, {} for a strict check.", 2 * word, word + long);
 }
