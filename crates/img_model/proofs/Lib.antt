@@ -1,0 +1,4 @@
+-- Laws of the definitions of planning.
+pub mod Every
+pub mod Rule
+pub mod Cases
