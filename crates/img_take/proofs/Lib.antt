@@ -1,0 +1,8 @@
+-- Laws that going forward over an image's directories goes by.
+pub mod Far
+pub mod Trees
+pub mod Counting
+pub mod Cut
+pub mod Steps
+pub mod Along
+pub mod Turns

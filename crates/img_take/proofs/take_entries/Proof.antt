@@ -1,0 +1,67 @@
+-- `take_entries` meets its contract. The loop's invariant: the rest of the order takes what the whole of it takes.
+use borrow.Author.Needs.{needs}
+use native.Mathlib.Omega.{arith}
+use mathlib.Core.Path.{_≡_, refl, sym, ap, _∙_}
+use Prim.Native.Nat.{ℕ, _-_}
+use lib.ListN.{length, drop}
+use Rattle.img_take.specs.Forward.{taking, takeAlong}
+use Rattle.img_take.proofs.Along.{along-asks, along-low, along-next, along-last}
+use Rattle.img_take.proofs.take_entries.Statement.{statement}
+use Rattle.img_take.proofs.take_entries.Tie as tie
+
+abbrev Inv-loop : tie.InvT-loop
+Inv-loop order kind value size f free tables₀ sectors₀ next₀ k₀ tables sectors next k = (takeAlong kind value size f (taking tables₀ sectors₀ free) order ≡ takeAlong kind value size f (taking tables sectors next) (drop k order)) × ((length tables ≡ length tables₀) × (length sectors ≡ length sectors₀))
+
+abbrev μ-loop : tie.MeasureT-loop
+μ-loop order kind value size f free tables₀ sectors₀ next₀ k₀ tables sectors next k = length order - k
+
+loop-holds : tie.Need-loop-holds Inv-loop μ-loop
+loop-holds c = (refl, (refl, refl))
+
+mul-index-of : tie.Need-mul-index-of Inv-loop μ-loop
+mul-index-of c = search needs
+
+shared-slice-read-index-of : tie.Need-shared-slice-read-index-of Inv-loop μ-loop
+shared-slice-read-index-of c = search needs
+
+index-of-requires : tie.Need-index-of-requires Inv-loop μ-loop
+index-of-requires c κs = search needs
+
+take-entry-requires : tie.Need-take-entry-requires Inv-loop μ-loop
+take-entry-requires c κs = (search along-asks, search along-low)
+
+add-k : tie.Need-add-k Inv-loop μ-loop
+add-k c = search needs
+
+loop-less : tie.Need-loop-less Inv-loop μ-loop
+loop-less c = search needs
+
+loop-again : tie.Need-loop-again Inv-loop μ-loop
+loop-again c = (search along-next, (search needs, search needs))
+
+same-length : tie.Need-same-length Inv-loop μ-loop
+same-length c = search needs
+
+same-length-2 : tie.Need-same-length-2 Inv-loop μ-loop
+same-length-2 c = search needs
+
+returns : tie.Need-returns Inv-loop μ-loop
+returns c = search along-last
+
+pub take-entries-spec : {M : Type 1} → statement M
+take-entries-spec =
+    tie.close
+    (tie.spec
+    Inv-loop
+    μ-loop
+    loop-holds
+    mul-index-of
+    shared-slice-read-index-of
+    index-of-requires
+    take-entry-requires
+    add-k
+    loop-less
+    loop-again
+    same-length
+    same-length-2
+    returns)
