@@ -55,9 +55,6 @@ module _ {first share kind value sizes orders : List ℕ} {places d to f n : ℕ
   pub cut-orders : to ≤ length orders
   cut-orders = omega (arith, T .to-is, total-all share d, w .long)
 
-  pub cut-room : n ≤ places
-  cut-room = omega (arith, w .wide d (T .is-one))
-
   -- and are the parts that the definitions take
   pub part-is : (xs : List ℕ) → take (f + n - f) (drop f xs) ≡ part (getD first d 0) (getD share d 0) xs
   part-is xs = let a : f + n - f ≡ getD share d 0 = omega arith in ap₂ (λ (a b : ℕ). take a (drop b xs)) a f-is
@@ -67,9 +64,6 @@ module _ {first share kind value sizes orders : List ℕ} {places d to f n : ℕ
       let a : to - (to - n) ≡ getD share d 0 = omega (arith, to-cut) in
       let b : to - n ≡ total (drop (suc d) share) = omega (arith, to-cut) in
       ap₂ (λ (a b : ℕ). take a (drop b orders)) a b
-
-  pub cut-length : (xs : List ℕ) → f + n ≤ length xs → length (part (getD first d 0) (getD share d 0) xs) ≡ getD share d 0
-  cut-length xs h = length-part (getD first d 0) (getD share d 0) xs (omega arith)
 
 -- the share of directory d, of slices of the columns
 module _ {first share kind value sizes orders : List ℕ} {places d : ℕ} (w : Sized first share kind value sizes orders places) (h : d < length first) where

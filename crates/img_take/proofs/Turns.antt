@@ -57,7 +57,7 @@ module _ {first share kind value sizes orders : List ℕ} {places d : ℕ} (w : 
   S-listed : o ≡ order t
   S-listed = o-is ∙ w .tables d h .listed-is
 
-  pub cut-fillable : Fillable S (length sizes) places
+  cut-fillable : Fillable S (length sizes) places
   cut-fillable =
       subst (λ (x : Share). Fillable x (length sizes) places) (sym S-is)
       (record {
@@ -67,7 +67,7 @@ module _ {first share kind value sizes orders : List ℕ} {places d : ℕ} (w : 
         few = omega (arith, w .sizeable .inside d h, w .sizeable .low);
       })
 
-  pub cut-treed : Treed o k v sizes places
+  cut-treed : Treed o k v sizes places
   cut-treed = record {
     start = mine w h (w .start);
     len = mine w h (w .len);
@@ -78,19 +78,15 @@ module _ {first share kind value sizes orders : List ℕ} {places d : ℕ} (w : 
     listed-is = S-listed;
   }
 
-  -- the entries' entry is the plan's
-  pub cut-entries : {A : Type 0} (F : Share → A) → F S ≡ F (shareOf R d)
-  cut-entries F = ap F S-is
-
-  pub S-size : getD sizes d 0 ≡ sizeOf (entriesAt R sizes d) t
+  S-size : getD sizes d 0 ≡ sizeOf (entriesAt R sizes d) t
   S-size = w .tables d h .size-is
 
   -- ---- checking: x is what counting answered
-  pub table-counts : (x : Told ℕ) (free : ℕ) → ((u : Treed o k v sizes places) → x ≡ limited (freeOf (entriesOf u) 1 free (u .t))) → getD sizes d 0 ≤ 262144
+  table-counts : (x : Told ℕ) (free : ℕ) → ((u : Treed o k v sizes places) → x ≡ limited (freeOf (entriesOf u) 1 free (u .t))) → getD sizes d 0 ≤ 262144
       → at d x ≡ freeTold (takingUp R sizes 1 d (taking [] [] free))
   unfolding cut-treed
   table-counts x free counts near =
-      ap (at d) (counts cut-treed ∙ cut-entries (λ (y : Share). limited (freeOf (entryIn y (tableIn sizes)) 1 free t)))
+      ap (at d) (counts cut-treed ∙ ap (λ (y : Share). limited (freeOf (entryIn y (tableIn sizes)) 1 free t)) S-is)
       ∙ sym (near-step R sizes d (taking [] [] free) (w .tables d h .told) (omega (arith, S-size)))
 
   -- ---- taking: `size` has the sizes that were filled in
@@ -99,7 +95,7 @@ module _ {first share kind value sizes orders : List ℕ} {places d : ℕ} (w : 
     each-filled : (i : ℕ) → i < S .count → getD size i 0 ≡ sizeAt S (tableIn sizes) i
     each-filled i g = filled i (omega (arith, all-filled S (tableIn sizes) S-told))
 
-    pub take-asks : (f tables sectors : ℕ) → f ≡ getD first d 0 → length size ≡ places → tables ≡ length first → sectors ≡ length kind → EntersAll o k v size f tables sectors
+    take-asks : (f tables sectors : ℕ) → f ≡ getD first d 0 → length size ≡ places → tables ≡ length first → sectors ≡ length kind → EntersAll o k v size f tables sectors
     take-asks f tables sectors ef es et ek =
         listed-at S (tableIn sizes) S-told o (λ i. Enters k v size f i tables sectors) S-listed
         (λ i g. record {
@@ -117,11 +113,11 @@ module _ {first share kind value sizes orders : List ℕ} {places d : ℕ} (w : 
         (listed-at S (tableIn sizes) S-told (order t) (λ i. SameSize (entriesAt R sizes d) size (shareOf R d .kind) i) refl
         (λ i g. subst (λ (y : Share). SameSize (entryIn y (tableIn sizes)) size (y .kind) i) S-is (same-at S (tableIn sizes) S-told size each-filled i g))))
 
-    pub take-low : (f : ℕ) (p q : Taking) → f ≡ getD first d 0 → takingUp R sizes 1 d p ≡ gives q → takeAlong k v size f p o .free ≤ 4294967295
+    take-low : (f : ℕ) (p q : Taking) → f ≡ getD first d 0 → takingUp R sizes 1 d p ≡ gives q → takeAlong k v size f p o .free ≤ 4294967295
     take-low f p q ef e =
         subst (λ (m : ℕ). m ≤ 4294967295) (sym (ap (λ (y : Taking). y .free) (along-plan f p ef) ∙ free-taken R sizes d t p)) (given-step R sizes d p (w .tables d h .told) q e .1)
 
-    pub take-is : (f : ℕ) (p q : Taking) → f ≡ getD first d 0 → takingUp R sizes 1 d p ≡ gives q → takeAlong k v size f p o ≡ q
+    take-is : (f : ℕ) (p q : Taking) → f ≡ getD first d 0 → takingUp R sizes 1 d p ≡ gives q → takeAlong k v size f p o ≡ q
     take-is f p q ef e = along-plan f p ef ∙ given-step R sizes d p (w .tables d h .told) q e .0
 
 -- the slices as the code has them
@@ -155,8 +151,8 @@ module _ {first share kind value sizes orders : List ℕ} {places d to f n : ℕ
     pub turn-low : (p q : Taking) (w : Sized first share kind value sizes orders places) → takingUp (requestOf w) sizes 1 d p ≡ gives q → takeAlong (ours kind) (ours value) size f p listed .free ≤ 4294967295
     turn-low p q w e = take-low w (T .is-one) (part-is T f-is n-is kind) (part-is T f-is n-is value) (order-is T f-is n-is) size r r-is filled f p q f-is e
 
-    pub turn-takes : (p q : Taking) (w : Sized first share kind value sizes orders places) → takingUp (requestOf w) sizes 1 d p ≡ gives q → takeAlong (ours kind) (ours value) size f p listed ≡ q
-    turn-takes p q w e = take-is w (T .is-one) (part-is T f-is n-is kind) (part-is T f-is n-is value) (order-is T f-is n-is) size r r-is filled f p q f-is e
+    pub turn-takes : (p q z : Taking) (w : Sized first share kind value sizes orders places) → z ≡ takeAlong (ours kind) (ours value) size f p listed → takingUp (requestOf w) sizes 1 d p ≡ gives q → z ≡ q
+    turn-takes p q z w g e = g ∙ take-is w (T .is-one) (part-is T f-is n-is kind) (part-is T f-is n-is value) (order-is T f-is n-is) size r r-is filled f p q f-is e
 
 -- what filling takes of the slices
 pub turn-fillable : {first share kind value sizes orders : List ℕ} {places d to f n : ℕ} (T : Turn first share kind value sizes orders places d to) → f ≡ getD first d 0 → n ≡ getD share d 0

@@ -11,7 +11,7 @@ ghost use mathlib.Core.Bool.{true};
 ghost use mathlib.Core.List.{List, []};
 ghost use Prim.Native.Nat.{ℕ, _+_, _≤_, _<_};
 ghost use lib.Dec.{eqb};
-ghost use lib.ListN.{length, set};
+ghost use lib.ListN.{length, getD, set};
 ghost use Rattle.units.specs.Told.{gives, pick};
 ghost use Rattle.layout_sector.specs.Counter.{sectorsFor};
 ghost use Rattle.table_model.specs.Place.{freeOf};
@@ -33,6 +33,14 @@ fn index_of(i: u16) -> usize
     ensures { λ r. ⌜ (r ≡ i) × (r < 65536) ⌝ }
 {
     i as usize
+}
+
+// The number of the k-th entry of an order.
+fn entry_at(order: &[u16], k: usize) -> usize
+    requires { ⌜ k < length (now order) ⌝ }
+    ensures { λ r. ⌜ r ≡ getD (now (order .entry)) k 0 ⌝ }
+{
+    index_of(order[k])
 }
 
 fn widen(n: u32) -> usize
@@ -84,7 +92,8 @@ fn count_table(
     count_sectors(order, size, kind, free)
 }
 
-// Whether the table of directory d can be placed: the next free sector after its entries. `to` is where its order ends.
+// Whether the table of directory d can be placed: the next free sector after its entries. `to` is where its order ends. An offset over 4 exceeds 65,535
+// exactly where the table's size exceeds 262,144, since no entry crosses that sector line.
 fn check_table(
     d: usize,
     to: usize,
@@ -135,7 +144,7 @@ pub fn check_tables(
 {
     let mut free = free_after_root(sized[0]);
     let mut to = end;
-    let mut d: usize = 0;
+    let mut d = 0;
     while d < first.len() {
         match check_table(d, to, first, share, kind, value, sized, order, size, free) {
             Fitting::TooManyDirectoryEntries(x) => return Fitting::TooManyDirectoryEntries(x),
@@ -199,7 +208,7 @@ fn take_entries(
     let mut k: usize = 0;
     while k < order.len() {
         next = take_entry(
-            index_of(order[k]),
+            entry_at(order, k),
             kind,
             value,
             size,

@@ -16,7 +16,7 @@ cast-t18 : tie.Need-cast-t18
 cast-t18 c = search needs
 
 returns : tie.Need-returns
-returns c = let z = c .before .before .before .before .before .before .before .before .before in λ w. table-far w (z .pre .is-one) (c .if1 .taken) (z .args .free .0)
+returns c = let z = c .before .before .before .before .before .before .before .before .before in λ w. table-far w (z .pre .is-one) (omega (arith, c .if1 .taken)) (z .args .free .0)
 
 mul-widen : tie.Need-mul-widen
 mul-widen c = search needs
@@ -94,13 +94,13 @@ same-length : tie.Need-same-length
 same-length c = search needs
 
 returns-2 : tie.Need-returns-2
-returns-2 c = let z = c .before .before .before .before .before .before .before .before .before .before .before .before .before .before .before .before .before .before .before .before .before .before in let k = c .before .before .before .before .count-table in λ w. table-over (z .pre) (c .before .before .before .before .before .before .before .before .before .before .before .widen .ensures) (c .before .before .before .before .before .before .before .before .before .widen2 .ensures) (k .result) (z .args .free .0) (k .ensures) (c .before .before .before .before .before .before .before .before .before .before .before .before .before .if1 .left) w (c .enum-told .given .1)
+returns-2 c = let z = c .before .before .before .before .before .before .before .before .before .before .before .before .before .before .before .before .before .before .before .before .before .before in let k = c .before .before .before .before .count-table in λ w. table-over (z .pre) (c .before .before .before .before .before .before .before .before .before .before .before .widen .ensures) (c .before .before .before .before .before .before .before .before .before .widen2 .ensures) (k .result) (z .args .free .0) (k .ensures) (omega (arith, c .before .before .before .before .before .before .before .before .before .before .before .before .before .if1 .left)) w (c .enum-told .given .1)
 
 same-length-2 : tie.Need-same-length-2
 same-length-2 c = search needs
 
 returns-3 : tie.Need-returns-3
-returns-3 c = let z = c .before .before .before .before .before .before .before .before .before .before .before .before .before .before .before .before .before .before .before .before .before .before .before in let k = c .before .before .before .before .before .count-table in λ w. table-free (z .pre) (c .before .before .before .before .before .before .before .before .before .before .before .before .widen .ensures) (c .before .before .before .before .before .before .before .before .before .before .widen2 .ensures) (k .result) (z .args .free .0) (k .ensures) (c .before .before .before .before .before .before .before .before .before .before .before .before .before .before .if1 .left) w (c .before .next .given .1)
+returns-3 c = let z = c .before .before .before .before .before .before .before .before .before .before .before .before .before .before .before .before .before .before .before .before .before .before .before in let k = c .before .before .before .before .before .count-table in λ w. table-free (z .pre) (c .before .before .before .before .before .before .before .before .before .before .before .before .widen .ensures) (c .before .before .before .before .before .before .before .before .before .before .widen2 .ensures) (k .result) (z .args .free .0) (k .ensures) (omega (arith, c .before .before .before .before .before .before .before .before .before .before .before .before .before .before .if1 .left)) w (c .before .next .given .1)
 
 pub check-table-spec : {M : Type 1} → statement M
 check-table-spec =

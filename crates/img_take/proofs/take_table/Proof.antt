@@ -110,7 +110,7 @@ same-length-3 : tie.Need-same-length-3
 same-length-3 c = search needs
 
 returns : tie.Need-returns
-returns c = let z = c .before .before .before .before .before .before .before .before .before .before .before .before .before .before .before .before .before .before .before .before .before .before .before .before .before .before .before .before .before .before in let f = c .before .before .before .before .before .before .before .before .before .before .before .before .before .fill-sizes in λ w p e. c .before .before .before .before .take-entries .ensures ∙ turn-takes (z .pre .0 .0) (c .before .before .before .before .before .before .before .before .before .before .before .before .before .before .before .before .before .before .before .widen .ensures) (c .before .before .before .before .before .before .before .before .before .before .before .before .before .before .before .before .before .widen2 .ensures) _ (f .result) (f .ensures .0) (f .ensures .1) _ p w e
+returns c = let z = c .before .before .before .before .before .before .before .before .before .before .before .before .before .before .before .before .before .before .before .before .before .before .before .before .before .before .before .before .before .before in let f = c .before .before .before .before .before .before .before .before .before .before .before .before .before .fill-sizes in λ w p e. turn-takes (z .pre .0 .0) (c .before .before .before .before .before .before .before .before .before .before .before .before .before .before .before .before .before .before .before .widen .ensures) (c .before .before .before .before .before .before .before .before .before .before .before .before .before .before .before .before .before .widen2 .ensures) _ (f .result) (f .ensures .0) (f .ensures .1) _ p _ w (c .before .before .before .before .take-entries .ensures) e
 
 pub take-table-spec : {M : Type 1} → statement M
 take-table-spec =
