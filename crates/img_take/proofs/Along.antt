@@ -1,5 +1,5 @@
 -- Entries take their sectors along an order: turn by turn, and along a directory's preorder as the plan has it. Assumes nothing.
-use Prim.Native.Nat.{ℕ, suc, _+_, _*_, _/_, _≤_, _<_}
+use Prim.Native.Nat.{ℕ, suc, _+_, _/_, _≤_, _<_}
 use native.Mathlib.Omega.{arith}
 use native.Mathlib.Numerals.{add-one}
 use mathlib.Core.Path.{_≡_, refl, sym, ap, ap₂, subst, _∙_}
@@ -10,7 +10,7 @@ use lib.ListN.{length, getD, set, drop, drop-of-length-le}
 use lib.Seq.{drop-cons}
 use borrow.Author.Tests.{eq-eqb, ne-eqb}
 use Rattle.units.specs.Told.{pick}
-use Rattle.layout_sector.specs.Counter.{sectorsFor, alignedUp}
+use Rattle.layout_sector.specs.Counter.{sectorsFor}
 use Rattle.layout_sector.proofs.Laws.{aligned-one}
 use Rattle.dirtab_place.specs.Places.{sizeIn}
 use Rattle.dirtab_place.proofs.Along.{SameSize}

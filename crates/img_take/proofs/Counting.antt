@@ -1,7 +1,7 @@
 -- Counting the sectors of one table. Assumes nothing.
 use Prim.Native.Nat.{ℕ, _≤_, _<_}
 use native.Mathlib.Omega.{arith}
-use mathlib.Core.Path.{_≡_, refl, sym, ap, subst, _∙_}
+use mathlib.Core.Path.{_≡_, refl, ap, _∙_}
 use mathlib.Core.List.{List}
 use lib.ListN.{length, getD}
 use Rattle.units.specs.Told.{Told}
@@ -10,7 +10,7 @@ use Rattle.dirtab_place.specs.Places.{Countable, Sized, freeOver}
 use Rattle.dirtab_place.proofs.Along.{free-are}
 use Rattle.img_model.specs.Shares.{Share}
 use Rattle.img_model.specs.Plan.{tableIn, sizeAt}
-use Rattle.img_table.specs.Arranging.{shareBy, fitting, Fillable}
+use Rattle.img_table.specs.Arranging.{shareBy, fitting}
 use Rattle.img_take.specs.Forward.{Treed, entriesOf, limited}
 use Rattle.img_take.proofs.Trees.{listed-at, all-filled, sized-at, same-all}
 

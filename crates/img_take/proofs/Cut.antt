@@ -1,16 +1,13 @@
 -- The slices of the columns that are a directory's share, and the part of the orders that is its own. Assumes nothing.
-use Prim.Native.Nat.{ℕ, zero, suc, _+_, _-_, _≤_, _<_}
+use Prim.Native.Nat.{ℕ, suc, _+_, _-_, _≤_, _<_}
 use native.Mathlib.Omega.{arith}
-use mathlib.Core.Path.{_≡_, refl, sym, ap, ap₂, subst, _∙_}
-use mathlib.Core.Bool.{true}
-use mathlib.Core.List.{List, [], _∷_}
-use lib.Dec.{eqb}
+use mathlib.Core.Path.{_≡_, sym, ap, ap₂, _∙_}
+use mathlib.Core.List.{List}
 use lib.ListN.{length, getD, take, drop, length-drop}
-use lib.Seq.{length-take-le, drop-cons}
+use lib.Seq.{length-take-le}
 use Rattle.img_model.specs.Shares.{Request, Share, shareOf, firstOf, countOf, part}
 use Rattle.img_model.specs.Plan.{total}
 use Rattle.img_table.specs.Arranging.{shareBy}
-use Rattle.img_size.specs.Sizing.{Sizeable}
 use Rattle.img_size.proofs.Orders.{total-step, total-all}
 use Rattle.img_take.specs.Forward.{Sized, requestOf, Turn}
 

@@ -1,11 +1,10 @@
 -- 7 BY THE SIZE ALONE: an offset over 4 exceeds 65,535 exactly where the reported size exceeds 262,144, since 262,144 is a sector line and no entry
 -- crosses it. Assumes nothing.
-use Prim.Native.Nat.{ℕ, _+_, _*_, _/_, _%_, _≤_, _<_}
+use Prim.Native.Nat.{ℕ, _+_, _/_, _%_, _≤_, _<_}
 use native.Mathlib.Omega.{arith}
 use mathlib.Core.Path.{_≡_, refl, sym, ap, _∙_}
 use mathlib.Core.Bool.{Bool, true, false}
 use lib.Dec.{ltb}
-use lib.ListN.{length}
 use borrow.Author.Tests.{lt-ltb, le-ltb, ltb-true, ltb-false}
 use Rattle.units.specs.Told.{pick}
 use Rattle.avl_model.specs.Tree.{Tree, leaf, node}
@@ -13,7 +12,7 @@ use Rattle.avl_model.specs.Laws.{All}
 use Rattle.table_model.specs.Entry.{Entry, lengthOf}
 use Rattle.table_model.specs.Place.{startOf, stopOf, endOf, freeAfter, freeOf, items}
 use Rattle.table_model.specs.Table.{anyFar, sizeOf}
-use Rattle.table_model.proofs.Places.{Starts, FitsAt, start-at, end-after}
+use Rattle.table_model.proofs.Places.{FitsAt, start-at, end-after}
 use Rattle.dirtab_place.proofs.Along.{far-append}
 
 -- an entry that starts before the line ends by it

@@ -8,12 +8,10 @@ use lib.Dec.{ltb}
 use borrow.Author.Tests.{lt-ltb, le-ltb, ltb-false}
 use Rattle.units.specs.Told.{Told, gives, refuses, pick}
 use Rattle.avl_model.specs.Tree.{Tree, leaf, node}
-use Rattle.avl_model.specs.Laws.{All}
 use Rattle.avl_model.specs.Order.{order}
 use Rattle.table_model.specs.Place.{freeOf, items}
 use Rattle.table_model.specs.Table.{Placing, anyFar, sizeOf, placeOf}
-use Rattle.table_model.proofs.Places.{FitsAt}
-use Rattle.img_model.specs.Shares.{Request, shareOf, firstOf}
+use Rattle.img_model.specs.Shares.{Request, shareOf}
 use Rattle.img_model.specs.Plan.{tableIn, treeIn, ifGrown, Taking, entriesAt, takingAll, ifPlaced, takingUp}
 use Rattle.img_model.specs.Plan as plan
 use Rattle.img_take.specs.Forward.{taking, freeTold, limited}

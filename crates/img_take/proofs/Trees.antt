@@ -1,11 +1,11 @@
 -- What is known of a directory's entries once their tree is told: each passed what is asked of it, and the tree has their numbers. Assumes nothing.
-use Prim.Native.Nat.{ℕ, zero, suc, _+_, _*_, _/_, _≤_, _<_}
+use Prim.Native.Nat.{ℕ, zero, suc, _+_, _≤_, _<_}
 use native.Mathlib.Omega.{arith}
 use mathlib.Core.Path.{_≡_, refl, sym, ap, subst, _∙_}
 use mathlib.Core.Bool.{Bool, true, false}
-use mathlib.Core.List.{List, [], _∷_, _++_, append-assoc, append-nil}
+use mathlib.Core.List.{List, [], _++_, append-assoc, append-nil}
 use lib.Dec.{ltb}
-use lib.ListN.{length, getD, take, drop, length-take}
+use lib.ListN.{length, getD, drop, length-take}
 use borrow.Author.Tests.{le-ltb, ltb-false}
 use Rattle.units.specs.Told.{Told, gives, refuses, pick}
 use Rattle.dirtab_entry.specs.declared.Kind.{Kind}
@@ -20,7 +20,7 @@ use Rattle.table_model.specs.Said.{Fits}
 use Rattle.table_model.proofs.Places.{FitsAt}
 use Rattle.dirtab_grow.specs.Grow.{orderIn}
 use Rattle.dirtab_grow.proofs.Growth.{all-passed, below-grown}
-use Rattle.dirtab_place.specs.Places.{Sized, sizeIn}
+use Rattle.dirtab_place.specs.Places.{Sized}
 use Rattle.dirtab_place.proofs.Along.{SameSize}
 use Rattle.img_model.specs.Shares.{Share}
 use Rattle.img_model.specs.Plan.{sizeAt, givenAt, entryIn, checkIn, treeIn}

@@ -3,7 +3,7 @@ use Prim.Native.Nat.{ℕ, suc, _+_, _-_, _≤_, _<_}
 use native.Mathlib.Omega.{arith}
 use mathlib.Core.Path.{_≡_, refl, sym, ap, ap₂, subst, _∙_}
 use mathlib.Core.List.{List, [], _∷_}
-use lib.ListN.{length, getD, set, take, drop}
+use lib.ListN.{length, getD, take, drop}
 use Rattle.units.specs.Told.{Told, gives, refuses}
 use Rattle.units.specs.declared.Sector.{Sector}
 use Rattle.layout_sector.specs.Counter.{sectorsFor}
@@ -15,7 +15,7 @@ use Rattle.dirtab_place.specs.declared.Counted.{Counted}
 use Rattle.dirtab_place.specs.declared.Counted.the-variants as counted
 use Rattle.dirtab_place.specs.Places.{toldFree}
 use Rattle.dirtab_place.proofs.Along.{SameSize}
-use Rattle.img_model.specs.Shares.{Request, Share, shareOf, firstOf, countOf, part}
+use Rattle.img_model.specs.Shares.{Request, Share, shareOf, part}
 use Rattle.img_model.specs.Plan.{tableIn, sizeAt, entryIn, treeIn, Taking, total, entriesAt, takingAll, takingUp, rooted}
 use Rattle.img_take.specs.declared.Fitting.{Fitting}
 use Rattle.img_take.specs.declared.Fitting.the-variants as fitting

@@ -10,10 +10,9 @@ use Rattle.layout_sector.specs.Counter.{sectorsFor}
 use Rattle.avl_model.specs.Tree.{Tree}
 use Rattle.avl_model.specs.Order as preorder
 use Rattle.table_model.specs.Entry.{Entry}
-use Rattle.table_model.specs.Place.{freeOf}
-use Rattle.dirtab_place.specs.Places.{sizeIn, Countable}
+use Rattle.dirtab_place.specs.Places.{sizeIn}
 use Rattle.dirtab_place.specs.Places as places
-use Rattle.img_model.specs.Shares.{Request, columns, directoriesOf, countOf}
+use Rattle.img_model.specs.Shares.{Request, columns}
 use Rattle.img_model.specs.Plan.{Taking, total, tableIn, entryIn, treeIn}
 use Rattle.img_table.specs.Arranging.{shareBy, Fillable}
 use Rattle.img_size.specs.Sizing.{Sizeable, TablesIn}

@@ -1,8 +1,7 @@
 -- `check_tables` meets its contract. The loop's invariant: the rest of the directories comes to what all come to.
 use borrow.Author.Needs.{needs}
-use native.Mathlib.Omega.{arith}
-use mathlib.Core.Path.{_≡_, refl, sym, ap, _∙_}
-use Prim.Native.Nat.{ℕ, _+_, _-_}
+use mathlib.Core.Path.{_≡_, refl}
+use Prim.Native.Nat.{_+_, _-_}
 use lib.ListN.{length, getD, drop}
 use Rattle.layout_sector.specs.Counter.{sectorsFor}
 use Rattle.img_model.specs.Plan.{total}

@@ -1,7 +1,7 @@
 -- `sectors_for` meets its contract.
 use borrow.Author.Needs.{needs}
 use native.Mathlib.Omega.{arith}
-use mathlib.Core.Path.{_≡_, refl, sym, ap, _∙_}
+use mathlib.Core.Path.{ap, _∙_}
 use Rattle.layout_sector.specs.Counter.{sectorsFor}
 use Rattle.img_take.proofs.Along.{few-sectors}
 use Rattle.img_take.proofs.sectors_for.Statement.{statement}

@@ -1,8 +1,7 @@
 -- `take_entries` meets its contract. The loop's invariant: the rest of the order takes what the whole of it takes.
 use borrow.Author.Needs.{needs}
-use native.Mathlib.Omega.{arith}
-use mathlib.Core.Path.{_≡_, refl, sym, ap, _∙_}
-use Prim.Native.Nat.{ℕ, _-_}
+use mathlib.Core.Path.{_≡_, refl}
+use Prim.Native.Nat.{_-_}
 use lib.ListN.{length, drop}
 use Rattle.img_take.specs.Forward.{taking, takeAlong}
 use Rattle.img_take.proofs.Along.{along-asks, along-low, along-next, along-last}

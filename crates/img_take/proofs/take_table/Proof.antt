@@ -1,7 +1,6 @@
 -- `take_table` meets its contract.
 use borrow.Author.Needs.{needs}
 use native.Mathlib.Omega.{arith}
-use mathlib.Core.Path.{_≡_, refl, sym, ap, _∙_}
 use Rattle.img_take.proofs.Cut.{cut-order, cut-orders, cut-kind, cut-value}
 use Rattle.img_take.proofs.Turns.{turn-fillable, turn-asks, turn-low, turn-takes}
 use Rattle.img_take.proofs.take_table.Statement.{statement}
