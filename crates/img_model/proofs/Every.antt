@@ -2,7 +2,7 @@
 use Prim.Native.Nat.{ℕ, zero, suc, _+_, _≤_, _<_}
 use native.Mathlib.Omega.{arith}
 use native.Mathlib.Decide.{ℕ-discrete}
-use mathlib.Core.Path.{_≡_, refl, sym, ap, subst, _∙_}
+use mathlib.Core.Path.{_≡_, refl, sym, ap, ap₂, subst, _∙_}
 use mathlib.Core.Bool.{Bool, true, false, _&&_, and-false}
 use Rattle.units.specs.Told.{pick}
 use Rattle.avl_arena.proofs.Tested.{and-l, and-r, and-both}
@@ -35,7 +35,18 @@ every-from f (suc m) h = and-both (every-from f m (λ j k. h j (omega arith))) (
 pub every-more : (f : ℕ → Bool) (i : ℕ) → every f i ≡ true → f i ≡ true → every f (i + 1) ≡ true
 every-more f i e g = subst (λ (v : ℕ). every f v ≡ true) {x = suc i} {y = i + 1} (omega arith) (and-both e g)
 
+-- two tests that agree on each
+pub every-same : (f g : ℕ → Bool) (m : ℕ) → ((j : ℕ) → j < m → f j ≡ g j) → every f m ≡ every g m
+every-same f g zero h = refl
+every-same f g (suc m) h = ap₂ _&&_ (every-same f g m (λ j k. h j (omega arith))) (h m (omega arith))
+
 -- ---- how many below m
+
+-- none passes
+pub tally-none : (f : ℕ → Bool) (m : ℕ) → ((j : ℕ) → j < m → f j ≡ false) → tally f m ≡ 0
+tally-none f zero h = refl
+tally-none f (suc m) h =
+    ap (λ (b : Bool). pick b (suc (tally f m)) (tally f m)) (h m (omega arith)) ∙ tally-none f m (λ j k. h j (omega arith))
 
 -- one more number, that passes or does not
 pub tally-hit : (f : ℕ → Bool) (i : ℕ) → f i ≡ true → tally f (i + 1) ≡ tally f i + 1

@@ -3,3 +3,4 @@ pub mod Every
 pub mod Rule
 pub mod Trees
 pub mod Sizes
+pub mod Cases

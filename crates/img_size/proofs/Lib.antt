@@ -2,3 +2,4 @@
 pub mod Cut
 pub mod Orders
 pub mod Going
+pub mod Asked

@@ -1,5 +1,5 @@
 -- The end of entries along an order: step by step, and along a tree's preorder it is the table's. Assumes nothing.
-use Prim.Native.Nat.{ℕ, suc, _+_, _*_, _/_, _%_, _≤_, _<_}
+use Prim.Native.Nat.{ℕ, _+_, _*_, _/_, _%_, _≤_, _<_}
 use native.Mathlib.Omega.{arith}
 use native.Mathlib.Numerals.{add-one}
 use mathlib.Core.Path.{_≡_, refl, sym, ap, _∙_}
@@ -15,7 +15,6 @@ use Rattle.table_model.specs.Place.{startAfter, stopOf, endOf}
 use Rattle.table_model.specs.Table.{sizeOf}
 use Rattle.dirtab_place.proofs.Along.{SameLength}
 use Rattle.dirtab_place.proofs.Turns.{stays, moves, start-most}
-use Rattle.dirtab_place.specs.Places.{stopIn}
 use Rattle.img_table.specs.Arranging.{endAlong, sizeAlong}
 
 -- where an entry ends

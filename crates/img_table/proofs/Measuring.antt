@@ -1,7 +1,7 @@
 -- What measuring takes of a tree's preorder, and what it then is. Assumes nothing.
 use Prim.Native.Nat.{ℕ, _+_, _≤_, _<_}
 use native.Mathlib.Omega.{arith}
-use mathlib.Core.Path.{_≡_, refl, sym, ap, subst, _∙_}
+use mathlib.Core.Path.{_≡_, sym, ap, subst, _∙_}
 use mathlib.Core.Bool.{Bool, true, false}
 use mathlib.Core.List.{List, [], _∷_}
 use lib.Dec.{ltb}
@@ -9,11 +9,9 @@ use lib.ListN.{length, getD, drop, length-drop}
 use lib.Seq.{length-take-le}
 use Rattle.units.specs.Told.{Told, gives, refuses, pick}
 use Rattle.layout_node.specs.Header.{entryLength}
-use Rattle.dirtab_entry.specs.Entry.{checkOf}
 use Rattle.dirtab_arena.proofs.Fine.{Fine, fine-of}
 use Rattle.avl_model.specs.Tree.{Tree, leaf}
 use Rattle.avl_model.specs.Laws.{All}
-use Rattle.avl_model.specs.Order.{order}
 use Rattle.avl_model.proofs.Avl.{all-map}
 use Rattle.dirtab_grow.specs.declared.Cause.{Cause}
 use Rattle.dirtab_grow.specs.Grow.{orderIn}

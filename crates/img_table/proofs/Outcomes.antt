@@ -6,7 +6,7 @@ use mathlib.Core.List.{List, [], _∷_, _++_, append-nil}
 use lib.ListN.{length, getD, take, drop, drop-of-length-le}
 use lib.Seq.{length-take-le, getD-take}
 use Rattle.units.specs.Told.{Told, refuses}
-use Rattle.avl_model.specs.Tree.{Tree, none, ht}
+use Rattle.avl_model.specs.Tree.{Tree, none}
 use Rattle.avl_model.specs.Laws as laws
 use Rattle.avl_model.specs.Lists.{Lists, lists}
 use Rattle.avl_model.specs.Names.{Names, names}

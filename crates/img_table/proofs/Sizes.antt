@@ -1,15 +1,14 @@
 -- The size of one entry. Assumes nothing.
-use Prim.Native.Nat.{ℕ, _≤_, _<_}
+use Prim.Native.Nat.{ℕ, _<_}
 use native.Mathlib.Omega.{arith}
-use mathlib.Core.Path.{_≡_, refl, sym, ap, _∙_}
+use mathlib.Core.Path.{_≡_, sym, ap, _∙_}
 use mathlib.Core.Bool.{Bool, true}
-use mathlib.Core.List.{List, []}
+use mathlib.Core.List.{List}
 use lib.Dec.{eqb}
 use lib.ListN.{getD}
 use borrow.Author.Tests.{eq-eqb, ne-eqb}
 use Rattle.units.specs.Told.{pick}
 use Rattle.img_model.specs.Plan.{tableIn}
-use Rattle.img_table.specs.Arranging.{shareBy, Known, Fillable}
 
 -- a directory has a size in the column
 pub in-sized : (kind value n at : ℕ) → (eqb kind 1 ≡ true → value < n) → kind ≡ 1 → at ≡ value → at < n

@@ -12,11 +12,6 @@ use Rattle.img_table.proofs.Outcomes.{roomy, out-refused, out-large, ou
 use borrow.Author.Needs.{needs}
 use Rattle.img_table.proofs.arrange.Statement.{statement}
 use Rattle.img_table.proofs.arrange.Tie as tie
-use Rattle.img_table.proofs.arrange.Reads as reads
-use Rattle.img_table.proofs.arrange.Lts as lts
-use Rattle.avl_order.proofs.preorder.Reads as preorder-reads
-use Rattle.dirtab_grow.proofs.build.Reads as build-reads
-use Rattle.img_table.proofs.fill_sizes.Reads as fill-sizes-reads
 
 fill-sizes-requires : tie.Need-fill-sizes-requires
 fill-sizes-requires c κs = search needs

@@ -11,9 +11,6 @@ use Rattle.img_table.specs.Arranging.{shareBy, fitting}
 use Rattle.img_table.proofs.Fitting.{fit-next, fit-stop, fit-last, stored}
 use Rattle.img_table.proofs.fill_sizes.Statement.{statement}
 use Rattle.img_table.proofs.fill_sizes.Tie as tie
-use Rattle.img_table.proofs.fill_sizes.Reads as reads
-use Rattle.img_table.proofs.fill_sizes.Lts as lts
-use Rattle.img_table.proofs.size_for.Reads as size-for-reads
 
 abbrev Inv-loop : tie.InvT-loop
 Inv-loop kind value sized size₀ i₀ size i = (i ≤ length kind) × ((length size ≡ length size₀) × ((fitting (sizeAt (shareBy [] [] kind value []) (tableIn sized)) (length kind) 0 ≡ fitting (sizeAt (shareBy [] [] kind value []) (tableIn sized)) (length kind - i) i) × ((j : ℕ) → j < i → getD size j 0 ≡ sizeAt (shareBy [] [] kind value []) (tableIn sized) j)))

@@ -1,7 +1,7 @@
 -- `measure` meets its contract. The loop's invariant: the first k entries end at e, and each takes at most 2,320 bytes with the gap before it. The measure is
 -- what is left of the order.
 use borrow.Author.Needs.{needs}
-use Prim.Native.Nat.{ℕ, _*_, _-_, _≤_}
+use Prim.Native.Nat.{_*_, _-_, _≤_}
 use mathlib.Core.Path.{_≡_, refl}
 use native.Mathlib.Omega.{arith}
 use lib.ListN.{length, drop}
@@ -10,11 +10,6 @@ use Rattle.img_table.specs.Arranging.{endAlong}
 use Rattle.img_table.proofs.Lengths.{no-size, end-next, end-last, end-most}
 use Rattle.img_table.proofs.measure.Statement.{statement}
 use Rattle.img_table.proofs.measure.Tie as tie
-use Rattle.img_table.proofs.measure.Reads as reads
-use Rattle.img_table.proofs.measure.Lts as lts
-use Rattle.img_table.proofs.index_in.Reads as index-in-reads
-use Rattle.img_table.proofs.length_for.Reads as length-for-reads
-use Rattle.img_table.proofs.stop_after.Reads as stop-after-reads
 
 abbrev Inv-loop : tie.InvT-loop
 Inv-loop order len e₀ k₀ e k = (k ≤ length order) × ((e ≤ 2320 * k) × (endAlong len 0 order ≡ endAlong len e (drop k order)))

@@ -3,10 +3,6 @@ use Rattle.img_table.proofs.Sizes.{in-sized, table-size, file-size}
 use borrow.Author.Needs.{needs}
 use Rattle.img_table.proofs.size_for.Statement.{statement}
 use Rattle.img_table.proofs.size_for.Tie as tie
-use Rattle.img_table.proofs.size_for.Reads as reads
-use Rattle.img_table.proofs.size_for.Lts as lts
-use Rattle.img_table.proofs.index_of.Reads as index-of-reads
-use Rattle.img_table.proofs.widen.Reads as widen-reads
 
 index-of-requires : tie.Need-index-of-requires
 index-of-requires c κs = search needs

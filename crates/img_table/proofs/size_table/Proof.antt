@@ -6,10 +6,6 @@ use Rattle.img_table.proofs.Measuring.{was-done, was-refused, was-large
 use borrow.Author.Needs.{needs}
 use Rattle.img_table.proofs.size_table.Statement.{statement}
 use Rattle.img_table.proofs.size_table.Tie as tie
-use Rattle.img_table.proofs.size_table.Reads as reads
-use Rattle.img_table.proofs.size_table.Lts as lts
-use Rattle.img_table.proofs.arrange.Reads as arrange-reads
-use Rattle.img_table.proofs.measure.Reads as measure-reads
 
 arrange-requires : tie.Need-arrange-requires
 arrange-requires c κs = search needs

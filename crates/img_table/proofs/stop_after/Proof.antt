@@ -1,11 +1,8 @@
 -- `stop_after` meets its contract: the two cases of `startAfter`.
-use mathlib.Core.Path.{refl}
 use Rattle.img_table.proofs.Lengths.{stops-here, stops-there}
 use borrow.Author.Needs.{needs}
 use Rattle.img_table.proofs.stop_after.Statement.{statement}
 use Rattle.img_table.proofs.stop_after.Tie as tie
-use Rattle.img_table.proofs.stop_after.Reads as reads
-use Rattle.img_table.proofs.stop_after.Lts as lts
 
 add-if1 : tie.Need-add-if1
 add-if1 c = search needs
