@@ -1,4 +1,4 @@
--- Laws that going forward over an image's directories goes by.
+-- Laws that going forward over an image's directories goes by, and that its answers are told one-to-one.
 pub mod Far
 pub mod Trees
 pub mod Counting
@@ -6,3 +6,4 @@ pub mod Cut
 pub mod Steps
 pub mod Along
 pub mod Turns
+pub mod Told

@@ -3,7 +3,7 @@ use Prim.Native.Nat.{ℕ, zero, suc, _+_, _≤_, _<_}
 use native.Mathlib.Omega.{arith}
 use mathlib.Core.Path.{_≡_, refl, sym, ap, subst, _∙_}
 use mathlib.Core.Bool.{Bool, true, false}
-use mathlib.Core.List.{List, [], _++_, append-assoc, append-nil}
+use mathlib.Core.List.{List, []}
 use lib.Dec.{ltb}
 use lib.ListN.{length, getD, drop, length-take}
 use borrow.Author.Tests.{le-ltb, ltb-false}
@@ -12,7 +12,7 @@ use Rattle.dirtab_entry.specs.declared.Kind.{Kind}
 use Rattle.dirtab_entry.specs.declared.Kind.the-variants.{File, Directory}
 use Rattle.dirtab_entry.specs.Entry as entries
 use Rattle.dirtab_arena.proofs.Fine.{Fine, fine-of}
-use Rattle.avl_model.specs.Tree.{Tree, leaf, node}
+use Rattle.avl_model.specs.Tree.{Tree, leaf}
 use Rattle.avl_model.specs.Laws.{All}
 use Rattle.avl_model.specs.Order.{order}
 use Rattle.avl_model.proofs.Avl.{all-map}
@@ -22,6 +22,7 @@ use Rattle.dirtab_grow.specs.Grow.{orderIn}
 use Rattle.dirtab_grow.proofs.Growth.{all-passed, below-grown}
 use Rattle.dirtab_place.specs.Places.{Sized}
 use Rattle.dirtab_place.proofs.Along.{SameSize}
+use Rattle.dirtab_write.proofs.Bridge.{in-order}
 use Rattle.img_model.specs.Shares.{Share}
 use Rattle.img_model.specs.Plan.{sizeAt, givenAt, entryIn, checkIn, treeIn}
 use Rattle.img_table.specs.Arranging.{fitting}
@@ -33,20 +34,6 @@ fit-all f zero i h = omega arith
 fit-all f (suc k) i h =
     ap (λ (b : Bool). pick b i (fitting f k (i + 1))) (le-ltb 4294967295 (f i) (h i (omega arith) (omega arith)))
     ∙ fit-all f k (i + 1) (λ j p q. h j (omega arith) (omega arith)) ∙ omega arith
-
--- what holds of each node holds along the preorder, and so of what comes after it
-all-then : (P : ℕ → Type 0) (t : Tree) (js : List ℕ) → All P t → ((k : ℕ) → k < length js → P (getD js k 0)) → (k : ℕ) → k < length (order t ++ js) → P (getD (order t ++ js) k 0)
-all-then P leaf js a f k h = f k h
-all-then P (node l i r) js a f zero h = a .0
-all-then P (node l i r) js a f (suc k) h =
-    let e : (order l ++ order r) ++ js ≡ order l ++ (order r ++ js) = append-assoc (order l) (order r) js in
-    subst (λ (xs : List ℕ). P (getD xs k 0)) (sym e)
-    (all-then P l (order r ++ js) (a .1) (all-then P r js (a .2) f) k (subst (λ (xs : List ℕ). k < length xs) e (omega arith)))
-
-pub all-along : (P : ℕ → Type 0) (t : Tree) → All P t → (k : ℕ) → k < length (order t) → P (getD (order t) k 0)
-all-along P t a k h =
-    let e : order t ≡ order t ++ [] = sym (append-nil (order t)) in
-    subst (λ (xs : List ℕ). P (getD xs k 0)) (sym e) (all-then P t [] a (λ j g. absurd (omega arith)) k (subst (λ (xs : List ℕ). k < length xs) e h))
 
 -- an entry that passes is of four bytes' size, and has passed what adding asks
 passes : (n : ℕ) (b : Bool) (x : Told (Unit {0})) → ltb 4294967295 n ≡ b → pick b (refuses 10 []) x ≡ gives tt → (n ≤ 4294967295) × (x ≡ gives tt)
@@ -74,7 +61,7 @@ module _ (S : Share) (tab : ℕ → ℕ) {t : Tree} (told : treeIn S tab ≡ giv
   -- what holds of each of the entries holds of each that is listed
   pub listed-at : (listed : List ℕ) (P : ℕ → Type 0) → listed ≡ order t → ((j : ℕ) → j < S .count → P j) → (k : ℕ) → k < length listed → P (getD listed k 0)
   listed-at listed P e f k h =
-      subst (λ (xs : List ℕ). P (getD xs k 0)) (sym e) (all-along P t (all-map (λ j. j < S .count) P t f numbers) k (subst (λ (xs : List ℕ). k < length xs) e h))
+      subst (λ (xs : List ℕ). P (getD xs k 0)) (sym e) (in-order P t (all-map (λ j. j < S .count) P t f numbers) k (subst (λ (xs : List ℕ). k < length xs) e h))
 
   fits : (j : ℕ) → j < S .count → Fits (entryIn S tab j)
   fits j h =

@@ -19,6 +19,7 @@ use Rattle.img_size.specs.Sizing.{Sizeable, TablesIn}
 use Rattle.img_take.specs.declared.Fitting.{Fitting}
 use Rattle.img_take.specs.declared.Fitting.the-variants as fitting
 
+-- what entries take, of its columns and the next free sector
 abbrev pub taking : List ℕ → List ℕ → ℕ → Taking
 taking tables sectors free = record { tables = tables; sectors = sectors; free = free }
 
@@ -45,6 +46,7 @@ pub record Sized (first share kind value sizes orders : List ℕ) (places : ℕ)
   pub long : total share ≤ length orders
   pub wide : (d : ℕ) → d < length first → getD share d 0 ≤ places
 
+-- the request that these columns are of
 abbrev pub requestOf : {first share kind value sizes orders : List ℕ} {places : ℕ} → Sized first share kind value sizes orders places → Request
 requestOf {first = first} {share = share} {kind = kind} {value = value} w = columns first share (w .start) (w .len) kind value (w .bytes)
 
@@ -64,6 +66,7 @@ pub record Treed (listed kind value sizes : List ℕ) (places : ℕ) : Type 0 wh
   pub told : treeIn (shareBy start len kind value bytes) (tableIn sizes) ≡ gives t
   pub listed-is : listed ≡ preorder.order t
 
+-- its entries
 abbrev pub entriesOf : {listed kind value sizes : List ℕ} {places : ℕ} → Treed listed kind value sizes places → ℕ → Entry
 entriesOf {kind = kind} {value = value} {sizes = sizes} w = entryIn (shareBy (w .start) (w .len) kind value (w .bytes)) (tableIn sizes)
 
