@@ -2,3 +2,5 @@
 pub mod Every
 pub mod Rule
 pub mod Cases
+pub mod Trees
+pub mod Sizes
