@@ -1,0 +1,11 @@
+-- What is proved of a plan.
+mod Grew
+mod Down
+mod Up
+pub mod Tables
+mod Lists
+mod Named
+pub mod Sectors
+pub mod Follows
+pub mod NeverFive
+pub mod Cases
