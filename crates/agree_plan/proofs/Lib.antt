@@ -8,4 +8,6 @@ mod Named
 pub mod Sectors
 pub mod Follows
 pub mod NeverFive
+mod Paths
+pub mod Found
 pub mod Cases
