@@ -36,15 +36,13 @@ use Rattle.agree.specs.Written.{Stand, SizedFor, Written}
 use Rattle.agree.specs.Along.{Along}
 use Rattle.agree.specs.Agreement.{placedAt, Same, ReadBack, Reached, Agreement}
 use Rattle.agree.specs.Given.{times}
-use Rattle.agree.proofs.Sized.{as-reported, as-rounded}
-use Rattle.agree.proofs.Agrees.{agreement}
-use Rattle.agree.proofs.Plain.{lookup-0, listed-found}
+use Rattle.agree.proofs.Plain.{listed-found}
 use Rattle.avl_model.proofs.Frame.{δ-apart}
 use Rattle.agree_plan.specs.Planned.{treeAt, rootSector, startSector, itemsAt, sectorAt, tableSector, Sectored}
-use Rattle.agree_plan.specs.Image.{Imaged, rootOf, Part, joined, Leads, last, into, regionOf, Way, here, on, Finds}
-use Rattle.agree_plan.proofs.Grew.{tree-ordered, tree-balanced, tree-fits}
-use Rattle.agree_plan.proofs.Tables.{rule-kept, table-planned}
-use Rattle.agree_plan.proofs.Sectors.{root-planned, sectors-planned}
+use Rattle.agree_plan.specs.Image.{Imaged, rootOf, RegionFor, Part, joined, Leads, last, into, regionOf, Way, here, on, Finds}
+use Rattle.agree_plan.proofs.Tables.{rule-kept}
+use Rattle.agree_plan.proofs.Sectors.{sectors-planned}
+use Rattle.agree_plan.proofs.Agrees.{directory-kind, table-written, table-agrees, root-region, entry-region}
 use Rattle.agree_plan.proofs.Paths.{AllParts, joined-path}
 
 -- ---- lists
@@ -87,49 +85,21 @@ item-of entry sector (x ∷ xs) (j ∷ is) a b i h =
           record { item = r .item; among = List·Memᴰ·tail (r .among); entry-is = r .entry-is; sector-is = r .sector-is }
     ]
 
--- ---- the entry of a directory: its size is the table's, rounded, and its attribute that of a directory
-directory-size : (b : Bool) (x v : ℕ) → b ≡ true → storedSize (pick b Directory File) (pick b x v) ≡ rounded x
-directory-size true x v e = refl
-directory-size false x v e = let z : _≡_ {A = ℕ} 0 1 = cc in absurd (omega arith)
-
-directory-kind : (b : Bool) → b ≡ true → attributes (pick b Directory File) ≡ 16
-directory-kind true e = refl
-directory-kind false e = let z : _≡_ {A = ℕ} 0 1 = cc in absurd (omega arith)
-
 module _ (R : Request) (places : ℕ) (tables sectors : List ℕ) (p : Plan) (w : List ℕ) (first : Sector) (I : Imaged R places tables sectors p w first) where
   abbrev S : List ℕ
   S = p .sizes
 
   -- ---- one table
 
-  module _ (d : ℕ) (hd : d < directoriesOf R) (t : Region) (at : t .sector .0 ≡ tableSector p d) (near : SizedFor (tableIn S d) (t .size)) where
+  module _ (d : ℕ) (hd : d < directoriesOf R) (t : Region) (r : RegionFor p d t) where
     abbrev place : ℕ
     place = I .stand d hd .place
 
     abbrev its : List Item
     its = itemsAt R S d
 
-    -- it was written, and is read in its region
-    written : Written (entriesAt R S d) 1 (startSector R S d) (treeAt R S d) w first t
-    written =
-        let T = table-planned R places tables sectors p (I .planned) d hd in
-        record {
-          writable = record {
-            aligned = omega arith;
-            fits = tree-fits (shareOf R d) (tableIn S) (treeAt R S d) (T .grown);
-            ordered = tree-ordered (shareOf R d) (tableIn S) (treeAt R S d) (T .grown);
-            balanced = tree-balanced (shareOf R d) (tableIn S) (treeAt R S d) (T .grown);
-            placing = record { size = tableIn S d; free = startSector R S (suc d) };
-            placed = T .placed;
-          };
-          stand = record {
-            place = place;
-            at-sector = ap (λ (n : ℕ). 2048 * n) at ∙ I .stand d hd .at-sector;
-            rest = I .stand d hd .rest;
-            here = I .stand d hd .here;
-          };
-          sized = subst (λ (n : ℕ). SizedFor n (t .size)) (T .sized) near;
-        }
+    abbrev written : Written (entriesAt R S d) 1 (startSector R S d) (treeAt R S d) w first t
+    written = table-written R places tables sectors p w first I d hd t r
 
     -- its entry i
     module _ (i : ℕ) (hi : i < countOf R d) where
@@ -142,8 +112,7 @@ module _ (R : Request) (places : ℕ) (tables sectors : List ℕ) (p : Plan) (w 
       y = own .item
 
       back : ReadBack w first t place y
-      unfolding written
-      back = of-item (ReadBack w first t place) its y (agreement lookupAbsent lookup-0 (entriesAt R S d) 1 (startSector R S d) (treeAt R S d) w first t written .read) (own .among)
+      back = of-item (ReadBack w first t place) its y (table-agrees R places tables sectors p w first I d hd t r .read) (own .among)
 
       -- a lookup of its name
       record Looked (a : List ℕ) : Type 0 where
@@ -155,11 +124,11 @@ module _ (R : Request) (places : ℕ) (tables sectors : List ℕ) (p : Plan) (w 
         miss : List·Memᴰ 255 links → (c : ℕ) × (lookupOf w first t a ≡ refuses 22 (c ∷ []))
 
       looked : (a : List ℕ) → Part a → Same a (entriesAt R S d i .name) → Looked a
-      unfolding written
+      unfolding table-written
       looked a part same =
-          let r = listed-found (entriesAt R S d) 1 (startSector R S d) (treeAt R S d) w first t written a (part .ascii) y (own .among)
+          let f = listed-found (entriesAt R S d) 1 (startSector R S d) (treeAt R S d) w first t written a (part .ascii) y (own .among)
           (same ∙ ap (λ (e : Entry). map raised (e .name)) (sym (own .entry-is))) in
-          record { links = r .0 .links; way = r .0 .way; real = r .0 .real; headers = 1 + length (r .0 .links); hit = r .1; miss = r .2 }
+          record { links = f .0 .links; way = f .0 .way; real = f .0 .real; headers = 1 + length (f .0 .links); hit = f .1; miss = f .2 }
 
       named : (a : List ℕ) → Same a (entriesAt R S d i .name) → Same a (nameOf w (place + y .offset) (length (y .entry .name)))
       named a same = same ∙ ap (λ (e : Entry). map raised (e .name)) (sym (own .entry-is)) ∙ ap (map raised) (sym (back .named))
@@ -188,12 +157,8 @@ module _ (R : Request) (places : ℕ) (tables sectors : List ℕ) (p : Plan) (w 
         abbrev u : Region
         u = regionOf (placedAt place y)
 
-        down-sector : u .sector .0 ≡ tableSector p (valueOf (shareOf R d) i)
-        down-sector = own .sector-is ∙ sym (sectors-planned R places tables sectors p (I .planned) (I .apart) d hd .tables i hi dir)
-
-        down-size : SizedFor (tableIn S (valueOf (shareOf R d) i)) (u .size)
-        down-size = as-rounded (tableIn S (valueOf (shareOf R d) i)) (u .size)
-            (ap (λ (e : Entry). e .size) (own .entry-is) ∙ directory-size (shares.isDirectory (shareOf R d) i) (tableIn S (valueOf (shareOf R d) i)) (valueOf (shareOf R d) i) dir)
+        below : RegionFor p (valueOf (shareOf R d) i) u
+        below = entry-region R places tables sectors p w first I d hd i hi dir y (own .entry-is) (own .sector-is) place
 
         is-dir : isDirectory (headerFor y) ≡ true
         is-dir =
@@ -241,13 +206,13 @@ module _ (R : Request) (places : ℕ) (tables sectors : List ℕ) (p : Plan) (w 
 
   -- ---- all the way, from a region of directory d's table on
 
-  leads-to : (d e j : ℕ) (cs : List (List ℕ)) → Leads R p d cs e j → d < directoriesOf R → (t : Region) → t .sector .0 ≡ tableSector p d → SizedFor (tableIn S d) (t .size)
+  leads-to : (d e j : ℕ) (cs : List (List ℕ)) → Leads R p d cs e j → d < directoriesOf R → (t : Region) → RegionFor p d t
       → Finds R p w first t cs e j (partsFrom lookupAbsent w first t cs)
-  leads-to d e j cs (last _ _ a hi part same) hd t at near = ends d hd t at near j hi a part same
-  leads-to d e j cs (into _ i _ _ a b bs hi part same dir rest) hd t at near =
-      goes d hd t at near i hi dir a b bs e j part same
+  leads-to d e j cs (last _ _ a hi part same) hd t r = ends d hd t r j hi a part same
+  leads-to d e j cs (into _ i _ _ a b bs hi part same dir rest) hd t r =
+      goes d hd t r i hi dir a b bs e j part same
       (leads-to (valueOf (shareOf R d) i) e j (b ∷ bs) rest (names-one R (rule-kept R places tables sectors p (I .planned)) d hd i hi dir)
-      (regionOf (placedAt (I .stand d hd .place) (own d hd t at near i hi .item))) (down-sector d hd t at near i hi dir) (down-size d hd t at near i hi dir))
+      (regionOf (placedAt (I .stand d hd .place) (own d hd t r i hi .item))) (below d hd t r i hi dir))
 
   all-parts : (d e j : ℕ) (cs : List (List ℕ)) → Leads R p d cs e j → AllParts cs
   all-parts d e j cs (last _ _ a hi part same) = part
@@ -256,7 +221,7 @@ module _ (R : Request) (places : ℕ) (tables sectors : List ℕ) (p : Plan) (w 
   -- THE PARTS, one after the other, from the root
   pub parts-find : (e j : ℕ) (cs : List (List ℕ)) → Leads R p 0 cs e j → Finds R p w first (rootOf p) cs e j (partsFrom lookupAbsent w first (rootOf p) cs)
   parts-find e j cs l =
-      leads-to 0 e j cs l (some-directory R (rule-kept R places tables sectors p (I .planned))) (rootOf p) (sym (root-planned R places tables sectors p (I .planned))) (as-reported (tableIn S 0) (tableIn S 0) refl)
+      leads-to 0 e j cs l (some-directory R (rule-kept R places tables sectors p (I .planned))) (rootOf p) (root-region R places tables sectors p w first I)
 
   -- THE PATH that has slashes between them
   pub path-finds : (e j : ℕ) (cs : List (List ℕ)) → Leads R p 0 cs e j → Finds R p w first (rootOf p) cs e j (pathOf w first (rootOf p) (joined cs))

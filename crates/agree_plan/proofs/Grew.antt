@@ -140,10 +140,12 @@ module _ (S : Share) (tab : ℕ → ℕ) where
     tree-others i h = times-order i t ∙ all-below (S .count) t i tree-below h
 
     -- each passed its checks
-    passed : (j : ℕ) → j < S .count → (sizeAt S tab j ≤ 4294967295) × (checkOf (S .bytes) (givenAt S tab j) ≡ gives tt)
+    pub all-checked : (j : ℕ) → j < S .count → checkIn S tab j ≡ gives tt
     unfolding treeIn
-    passed j h =
-        passes (sizeAt S tab j) (ltb 4294967295 (sizeAt S tab j)) _ refl (all-passed between (checkIn S tab) (S .count) 0 leaf told j (omega arith) (omega arith))
+    all-checked j h = all-passed between (checkIn S tab) (S .count) 0 leaf told j (omega arith) (omega arith)
+
+    pub passed : (j : ℕ) → j < S .count → (sizeAt S tab j ≤ 4294967295) × (checkOf (S .bytes) (givenAt S tab j) ≡ gives tt)
+    passed j h = passes (sizeAt S tab j) (ltb 4294967295 (sizeAt S tab j)) _ refl (all-checked j h)
 
     pub fine : (j : ℕ) → j < S .count → Fine (S .bytes) (givenAt S tab j)
     fine j h = fine-of (S .bytes) (givenAt S tab j) (passed j h .1)

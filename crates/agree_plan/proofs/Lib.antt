@@ -8,6 +8,8 @@ mod Named
 pub mod Sectors
 pub mod Follows
 pub mod NeverFive
+pub mod Writes
+pub mod Agrees
 mod Paths
 pub mod Found
 pub mod Cases

@@ -15,7 +15,7 @@ use Rattle.table_model.specs.Entry.{Item}
 use Rattle.table_model.specs.Table.{tableBytes}
 use Rattle.img_model.specs.Shares.{Request, shareOf, directoriesOf, countOf, isDirectory, valueOf}
 use Rattle.img_model.specs.Plan.{tableIn, entriesAt, Plan}
-use Rattle.agree.specs.Written.{Stand}
+use Rattle.agree.specs.Written.{Stand, SizedFor}
 use Rattle.agree.specs.Along.{Along}
 use Rattle.agree.specs.Agreement.{placedAt, Same}
 use Rattle.agree_plan.specs.Planned.{treeAt, rootSector, startSector, itemsAt, Planned, Disjoint, sectorAt, tableSector}
@@ -30,6 +30,11 @@ pub record Imaged (R : Request) (places : ℕ) (tables sectors : List ℕ) (p : 
 -- where the search starts: the root table, at sector 33, with the size that it reports
 abbrev pub rootOf : Plan → Region
 rootOf p = record { sector = record { 0 = rootSector }; size = tableIn (p .sizes) 0 }
+
+-- a region in which directory d's table is read: at its planned sector, with the size that it reports or more, up to that size rounded
+pub record RegionFor (p : Plan) (d : ℕ) (t : Region) : Type 0 where
+  pub at : t .sector .0 ≡ tableSector p d
+  pub sized : SizedFor (tableIn (p .sizes) d) (t .size)
 
 -- some byte is a slash (47)
 unfoldable pub anySlash : List ℕ → Bool
