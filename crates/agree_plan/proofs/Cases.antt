@@ -1,20 +1,30 @@
--- Two plans computed: one that meets all that is supposed, and one with an entry in two shares. Assumes nothing.
-use Prim.Native.Nat.{ℕ, zero, suc, _+_, _<_}
+-- Two plans computed: one that meets all that is supposed, with a window in which a path goes through it, and one with an entry in two shares. Assumes nothing.
+use Prim.Native.Nat.{ℕ, zero, suc, _+_, _*_, _<_}
 use native.Mathlib.Omega.{arith}
-use mathlib.Core.Path.{_≡_, refl}
-use mathlib.Core.List.{List, [], _∷_, map}
+use mathlib.Core.Path.{_≡_, refl, sym, ap, _∙_}
+use mathlib.Core.List.{List, [], _∷_, _++_, map, append-nil}
+use lib.ListN.{length, getD, drop}
+use lib.Seq.{drop-at}
 use Rattle.units.specs.Told.{Told, gives}
+use Rattle.units.specs.declared.Sector.{Sector}
 use Rattle.layout_name.specs.Order.{nameOrder, orderBy, listOrder, numberOrder, raised}
 use Rattle.layout_sector.specs.Counter.{sectorsFor}
-use Rattle.dirtab_entry.specs.Entry.{anyBad, checkOf}
+use Rattle.read_lookup.specs.Lookup.{anyHigh}
+use Rattle.dirtab_entry.specs.Entry.{rounded, anyBad, checkOf}
 use Rattle.avl_model.specs.Tree.{bal}
 use Rattle.table_model.specs.Entry.{Item}
 use Rattle.table_model.specs.Place.{items, endOf, freeOf, startAfter}
-use Rattle.table_model.specs.Table.{anyFar, placeOf}
+use Rattle.table_model.specs.Table.{anyFar, tableBytes, placeOf}
+use Rattle.table_model.proofs.Bytes.{table-length}
 use Rattle.dirtab_grow.specs.Grow.{growFrom}
-use Rattle.img_model.specs.Shares.{Request, columns, directoriesOf, firstOf, countOf, isTree}
-use Rattle.img_model.specs.Plan.{Plan, total, treeIn, sizesDown, takingAll, takingUp, planOf}
-use Rattle.agree_plan.specs.Planned.{Planned, Disjoint, treeAt, startSector, itemsAt}
+use Rattle.img_model.specs.Shares.{Request, columns, directoriesOf, firstOf, countOf, shareOf, isTree}
+use Rattle.img_model.specs.Plan.{Plan, tableIn, sizeAt, total, treeIn, sizesDown, entriesAt, takingAll, takingUp, planOf}
+use Rattle.agree.specs.Written.{Stand}
+use Rattle.agree_plan.specs.Planned.{Planned, Disjoint, treeAt, startSector, itemsAt, tableSector}
+use Rattle.agree_plan.specs.InTurn.{SizesFor}
+use Rattle.agree_plan.specs.Image.{Imaged, anySlash, Leads, last, into}
+use Rattle.agree_plan.proofs.Grew.{tree-fits}
+use Rattle.agree_plan.proofs.Tables.{table-planned}
 
 abbrev plan : List ℕ → List ℕ → List ℕ → ℕ → Plan
 plan sizes tables sectors free = record { sizes = sizes; taken = record { tables = tables; sectors = sectors; free = free } }
@@ -41,6 +51,47 @@ own (suc zero) (suc (suc e)) i j hd he hi hj q = absurd (omega arith)
 
 pub disjoint : Disjoint request
 disjoint = record { once = own }
+
+-- the tables' bytes one after the other, from sector 33 on, are a window in which they stand
+abbrev bytes : ℕ → List ℕ
+bytes d = tableBytes (entriesAt request (its-plan .sizes) d) 1 (startSector request (its-plan .sizes) d) (treeAt request (its-plan .sizes) d)
+
+abbrev pub window : List ℕ
+window = bytes 0 ++ bytes 1
+
+abbrev pub window-first : Sector
+window-first = record { 0 = 33 }
+
+root-long : length (bytes 0) ≡ 2048
+root-long =
+    let T = table-planned request 3 (0 ∷ 0 ∷ []) (0 ∷ 0 ∷ 0 ∷ []) its-plan planned 0 (omega arith) in
+    table-length (entriesAt request (its-plan .sizes) 0) 1 (treeAt request (its-plan .sizes) 0) (startSector request (its-plan .sizes) 0)
+    (tree-fits (shareOf request 0) (tableIn (its-plan .sizes)) (treeAt request (its-plan .sizes) 0) (T .grown))
+    ∙ ap rounded (sym (T .sized))
+
+both-stand : (d : ℕ) → d < directoriesOf request → Stand window window-first (record { 0 = tableSector its-plan d }) (bytes d)
+both-stand zero h = record { place = 0; at-sector = refl; rest = bytes 1; here = refl }
+both-stand (suc zero) h = record { place = 2048; at-sector = refl; rest = []; here = drop-at (bytes 0) (bytes 1) 2048 root-long ∙ sym (append-nil (bytes 1)) }
+both-stand (suc (suc d)) h = absurd (omega arith)
+
+pub imaged : Imaged request 3 (0 ∷ 0 ∷ []) (0 ∷ 0 ∷ 0 ∷ []) its-plan window window-first
+imaged = record { planned = planned; apart = disjoint; stand = both-stand }
+
+-- `D/B` leads to the file `b`: entry 0 of directory 1
+pub led : Leads request its-plan 0 ((68 ∷ []) ∷ (66 ∷ []) ∷ []) 1 0
+unfolding raised anySlash anyHigh
+led =
+    into 0 0 1 0 (68 ∷ []) (66 ∷ []) [] (omega arith) (record { some = omega arith; plain = refl; ascii = refl }) refl refl
+    (last 1 0 (66 ∷ []) (omega arith) (record { some = omega arith; plain = refl; ascii = refl }) refl)
+
+-- the sizes with which the root's list is written
+pub root-sizes : SizesFor request its-plan 0 (16 ∷ 3000 ∷ [])
+root-sizes = record { long = refl; each = two }
+  where
+    two : (i : ℕ) → i < countOf request 0 → getD (16 ∷ 3000 ∷ []) i 0 ≡ sizeAt (shareOf request 0) (tableIn (its-plan .sizes)) i
+    two zero h = refl
+    two (suc zero) h = refl
+    two (suc (suc i)) h = absurd (omega arith)
 
 -- the root has a directory `d` and a file `a` of 1 byte, and the share of `d` is that file once more: each table has it with a sector of its own, and the
 -- column of sectors keeps the later
