@@ -1,6 +1,6 @@
 -- EVERY TABLE OF A PLANNED IMAGE is read as it was written: walk, lookup and strict check agree with it, at the root's size and at the rounded size that the
 -- entry of a directory has. Assumes nothing.
-use Prim.Native.Nat.{ℕ, suc, _+_, _*_, _≤_, _<_}
+use Prim.Native.Nat.{ℕ, suc, _*_, _≤_, _<_}
 use native.Mathlib.Omega.{arith}
 use mathlib.Core.Path.{_≡_, refl, sym, ap, subst, _∙_}
 use mathlib.Core.Bool.{Bool, true, false}
@@ -28,7 +28,7 @@ use Rattle.agree_plan.proofs.Tables.{table-planned}
 use Rattle.agree_plan.proofs.Sectors.{root-planned, sectors-planned}
 
 -- the entry of a directory: its size is the table's, rounded, and its attribute that of a directory
-directory-size : (b : Bool) (x v : ℕ) → b ≡ true → storedSize (pick b Directory File) (pick b x v) ≡ rounded x
+pub directory-size : (b : Bool) (x v : ℕ) → b ≡ true → storedSize (pick b Directory File) (pick b x v) ≡ rounded x
 directory-size true x v e = refl
 directory-size false x v e = let z : _≡_ {A = ℕ} 0 1 = cc in absurd (omega arith)
 

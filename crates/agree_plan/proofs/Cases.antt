@@ -1,20 +1,25 @@
 -- Two plans computed: one that meets all that is supposed, with a window in which a path goes through it, and one with an entry in two shares. Assumes nothing.
-use Prim.Native.Nat.{ℕ, zero, suc, _+_, _*_, _<_}
+use Prim.Native.Nat.{ℕ, zero, suc, _+_, _<_}
 use native.Mathlib.Omega.{arith}
 use mathlib.Core.Path.{_≡_, refl, sym, ap, _∙_}
 use mathlib.Core.List.{List, [], _∷_, _++_, map, append-nil}
-use lib.ListN.{length, getD, drop}
+use lib.ListN.{length, getD}
 use lib.Seq.{drop-at}
-use Rattle.units.specs.Told.{Told, gives}
+use Rattle.units.specs.Told.{gives}
 use Rattle.units.specs.declared.Sector.{Sector}
+use Rattle.layout_bytes.specs.Bytes.{all}
 use Rattle.layout_name.specs.Order.{nameOrder, orderBy, listOrder, numberOrder, raised}
+use Rattle.layout_node.specs.Header.{headerOf, headerBytes, isBlank}
 use Rattle.layout_sector.specs.Counter.{sectorsFor}
-use Rattle.read_lookup.specs.Lookup.{anyHigh}
+use Rattle.read_entry.specs.Entry.{readHere, readAt, nameOf}
+use Rattle.read_entry.specs.Links.{isIn}
+use Rattle.read_lookup.specs.Lookup.{byLink, stepAt, chainFrom, anyHigh, lookupBy}
+use Rattle.read_path.specs.Path.{trim, split, unended, partsFrom, pathBy, pathOf}
 use Rattle.dirtab_entry.specs.Entry.{rounded, anyBad, checkOf}
 use Rattle.avl_model.specs.Tree.{bal}
-use Rattle.table_model.specs.Entry.{Item}
+use Rattle.table_model.specs.Entry.{Item, entryBytes}
 use Rattle.table_model.specs.Place.{items, endOf, freeOf, startAfter}
-use Rattle.table_model.specs.Table.{anyFar, tableBytes, placeOf}
+use Rattle.table_model.specs.Table.{anyFar, bytesFrom, tableBytes, placeOf}
 use Rattle.table_model.proofs.Bytes.{table-length}
 use Rattle.dirtab_grow.specs.Grow.{growFrom}
 use Rattle.img_model.specs.Shares.{Request, columns, directoriesOf, firstOf, countOf, shareOf, isTree}
@@ -22,7 +27,7 @@ use Rattle.img_model.specs.Plan.{Plan, tableIn, sizeAt, total, treeIn, sizesDow
 use Rattle.agree.specs.Written.{Stand}
 use Rattle.agree_plan.specs.Planned.{Planned, Disjoint, treeAt, startSector, itemsAt, tableSector}
 use Rattle.agree_plan.specs.InTurn.{SizesFor}
-use Rattle.agree_plan.specs.Image.{Imaged, anySlash, Leads, last, into}
+use Rattle.agree_plan.specs.Image.{Imaged, rootOf, anySlash, Leads, last, into}
 use Rattle.agree_plan.proofs.Grew.{tree-fits}
 use Rattle.agree_plan.proofs.Tables.{table-planned}
 
@@ -83,6 +88,15 @@ unfolding raised anySlash anyHigh
 led =
     into 0 0 1 0 (68 ∷ []) (66 ∷ []) [] (omega arith) (record { some = omega arith; plain = refl; ascii = refl }) refl refl
     (last 1 0 (66 ∷ []) (omega arith) (record { some = omega arith; plain = refl; ascii = refl }) refl)
+
+-- and it is found there: its sector is 37, its size 1
+found-there : pathOf window window-first (rootOf its-plan) (68 ∷ 47 ∷ 66 ∷ [])
+    ≡ gives (record {
+      header = record { left = record { 0 = 0 }; right = record { 0 = 0 }; sector = record { 0 = 37 }; size = 1; attributes = 32; «name_len» = 1 };
+      place = 2048;
+    })
+unfolding startSector treeIn growFrom checkOf anyBad nameOrder orderBy listOrder numberOrder raised bal placeOf anyFar items endOf freeOf startAfter sectorsFor tableBytes bytesFrom entryBytes headerBytes pathBy trim split unended partsFrom anyHigh readAt readHere isBlank all headerOf nameOf isIn lookupBy chainFrom stepAt byLink
+found-there = refl
 
 -- the sizes with which the root's list is written
 pub root-sizes : SizesFor request its-plan 0 (16 ∷ 3000 ∷ [])

@@ -1,16 +1,16 @@
 -- Sizing from the last directory back: each size is that of the directory's table over the sizes of all. Assumes nothing.
-use Prim.Native.Nat.{ℕ, zero, suc, _+_, _≤_, _<_}
+use Prim.Native.Nat.{ℕ, zero, suc, _≤_, _<_}
 use native.Mathlib.Omega.{arith}
 use native.Mathlib.Decide.{ℕ-discrete}
 use mathlib.Core.Path.{_≡_, refl, sym, ap, subst, _∙_}
 use mathlib.Core.Bool.{true}
-use mathlib.Core.List.{List, [], _∷_}
-use lib.ListN.{length, getD, set, length-set}
+use mathlib.Core.List.{List}
+use lib.ListN.{length, set, length-set}
 use lib.Seq.{getD-set-same}
 use Rattle.units.specs.Told.{Told, gives, refuses}
 use Rattle.avl_model.specs.Tree.{Tree}
 use Rattle.table_model.specs.Table.{sizeOf}
-use Rattle.img_model.specs.Shares.{Request, shareOf, directoriesOf, countOf, isDirectory, valueOf, isTree}
+use Rattle.img_model.specs.Shares.{Request, shareOf, directoriesOf, valueOf, isTree}
 use Rattle.img_model.specs.Plan.{tableIn, entryIn, treeIn, ifGrown, sizesDown}
 use Rattle.img_model.proofs.Rule.{names-later}
 use Rattle.img_model.proofs.Trees.{tree-same, size-same}

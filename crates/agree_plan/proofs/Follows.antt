@@ -1,9 +1,9 @@
 -- ALL RUNS OF SECTORS OF A PLAN follow one another, from 33 to the next free sector: no gap, no overlap. Assumes nothing.
 use Prim.Native.Nat.{ℕ, zero, suc, _+_, _≤_, _<_}
 use native.Mathlib.Omega.{arith}
-use mathlib.Core.Path.{_≡_, refl, sym, ap, subst, _∙_}
+use mathlib.Core.Path.{_≡_, refl, sym, subst}
 use mathlib.Core.List.{List, [], _∷_, _++_, map, map-append}
-use Rattle.layout_sector.specs.Counter.{sectorsFor, alignedUp}
+use Rattle.layout_sector.specs.Counter.{sectorsFor}
 use Rattle.layout_sector.proofs.Laws.{aligned-one}
 use Rattle.avl_model.specs.Tree.{Tree, leaf, node}
 use Rattle.table_model.specs.Entry.{Entry, Item}
@@ -11,7 +11,7 @@ use Rattle.table_model.specs.Place.{stopOf, endOf, freeAfter, freeOf, items}
 use Rattle.table_model.proofs.Placing.{free-given}
 use Rattle.img_model.specs.Shares.{Request, directoriesOf}
 use Rattle.img_model.specs.Plan.{tableIn, entriesAt, Plan}
-use Rattle.agree_plan.specs.Planned.{treeAt, rootSector, startSector, itemsAt, Planned, Disjoint, sectorAt, Sectored}
+use Rattle.agree_plan.specs.Planned.{treeAt, rootSector, startSector, itemsAt, Planned, Disjoint, sectorAt}
 use Rattle.agree_plan.specs.Runs.{Run, runOf, runsOf, Follow, counts, AllRuns, RunsApart}
 use Rattle.agree_plan.proofs.Tables.{table-planned, free-is}
 use Rattle.agree_plan.proofs.Sectors.{sectors-planned}

@@ -1,45 +1,37 @@
 -- PATHS IN A PLANNED IMAGE: a path whose parts lead to an entry finds it with its planned sector and size, unless a link of 255 stands on the way. Assumes nothing.
-use Prim.Native.Nat.{ℕ, zero, suc, _+_, _*_, _/_, _%_, _≤_, _<_}
+use Prim.Native.Nat.{ℕ, _+_, _/_, _%_, _≤_, _<_}
 use native.Mathlib.Omega.{arith}
 use native.Mathlib.Decide.{ℕ-discrete}
 use mathlib.Core.Path.{_≡_, refl, sym, ap, subst, _∙_}
-use mathlib.Core.Bool.{Bool, true, false}
+use mathlib.Core.Bool.{Bool, true}
 use mathlib.Core.Logic.{_⊎_, inl, inr}
 use mathlib.Core.List.{List, [], _∷_, _++_, map, List·Memᴰ, List·Memᴰ·head, List·Memᴰ·tail, List·Memᴰ·not-nil, List·Memᴰ·cases-cons, List·Memᴰ·append-cases, Memᴰ·append-left, Memᴰ·append-right}
-use mathlib.Core.Option.{Option, some}
 use lib.Dec.{eqb}
-use lib.ListN.{length, getD}
+use lib.ListN.{length}
 use Rattle.units.specs.Told.{Told, gives, refuses, pick}
 use Rattle.units.specs.declared.Sector.{Sector}
 use Rattle.units.specs.declared.Region.{Region}
 use Rattle.layout_name.specs.Order.{raised}
-use Rattle.layout_node.specs.declared.Header.{Header}
 use Rattle.layout_node.specs.Header.{isDirectory}
-use Rattle.dirtab_entry.specs.declared.Kind.{Kind}
-use Rattle.dirtab_entry.specs.declared.Kind.the-variants.{File, Directory}
-use Rattle.dirtab_entry.specs.Entry.{rounded, storedSize}
-use Rattle.read_entry.specs.Entry.{Placed, readAt, nameOf}
+use Rattle.read_entry.specs.Entry.{readAt, nameOf}
 use Rattle.read_entry.specs.Links.{lookupAbsent}
 use Rattle.read_lookup.specs.Lookup.{Finding, lookupOf}
 use Rattle.read_path.specs.Path as path
 use Rattle.read_path.specs.Path.{lastOf, turnOf, onward, partsFrom, pathOf}
-use Rattle.avl_model.specs.Tree.{Tree}
 use Rattle.table_model.specs.Entry.{Entry, Item, attributes, headerFor}
-use Rattle.table_model.specs.Place.{items}
-use Rattle.table_model.specs.Table.{sizeOf, tableBytes}
 use Rattle.table_model.proofs.Geometry.{of-item}
 use Rattle.img_model.specs.Shares.{Request, shareOf, directoriesOf, countOf, valueOf}
 use Rattle.img_model.specs.Shares as shares
-use Rattle.img_model.specs.Plan.{tableIn, entriesAt, Plan}
+use Rattle.img_model.specs.Plan.{entriesAt, Plan}
 use Rattle.img_model.proofs.Rule.{some-directory, names-one}
-use Rattle.agree.specs.Written.{Stand, SizedFor, Written}
+use Rattle.agree.specs.Written.{Written}
 use Rattle.agree.specs.Along.{Along}
-use Rattle.agree.specs.Agreement.{placedAt, Same, ReadBack, Reached, Agreement}
+use Rattle.agree.specs.Agreement.{placedAt, Same, ReadBack}
 use Rattle.agree.specs.Given.{times}
 use Rattle.agree.proofs.Plain.{listed-found}
 use Rattle.avl_model.proofs.Frame.{δ-apart}
-use Rattle.agree_plan.specs.Planned.{treeAt, rootSector, startSector, itemsAt, sectorAt, tableSector, Sectored}
-use Rattle.agree_plan.specs.Image.{Imaged, rootOf, RegionFor, Part, joined, Leads, last, into, regionOf, Way, here, on, Finds}
+use Rattle.agree_plan.specs.Planned.{treeAt, startSector, itemsAt, sectorAt}
+use Rattle.agree_plan.specs.Image.{Imaged, rootOf, RegionFor, Part, joined, Leads, last, into, regionOf, here, on, Finds}
 use Rattle.agree_plan.proofs.Tables.{rule-kept}
 use Rattle.agree_plan.proofs.Sectors.{sectors-planned}
 use Rattle.agree_plan.proofs.Agrees.{directory-kind, table-written, table-agrees, root-region, entry-region}

@@ -4,9 +4,9 @@ use native.Mathlib.Omega.{arith}
 use native.Mathlib.Numerals.{add-one}
 use mathlib.Core.Path.{_≡_, refl, sym, ap, subst, _∙_}
 use mathlib.Core.Bool.{Bool, true, false}
-use mathlib.Core.List.{List, [], _∷_}
+use mathlib.Core.List.{[], _∷_}
 use lib.Dec.{ltb}
-use lib.ListN.{length, getD, drop, length-take}
+use lib.ListN.{getD, drop, length-take}
 use borrow.Author.Tests.{ltb-false}
 use Rattle.units.specs.Told.{Told, gives, refuses, pick}
 use Rattle.layout_name.specs.declared.Order.{Order}
@@ -25,7 +25,7 @@ use Rattle.avl_model.proofs.Avl.{all-map}
 use Rattle.avl_model.proofs.Counted.{all-below}
 use Rattle.avl_model.proofs.Search.{ins-names}
 use Rattle.table_model.specs.Entry.{Entry}
-use Rattle.table_model.specs.Place.{startOf, stopOf, endOf}
+use Rattle.table_model.specs.Place.{stopOf, endOf}
 use Rattle.table_model.specs.Table.{sizeOf}
 use Rattle.table_model.specs.Said.{Fits}
 use Rattle.table_model.proofs.Places.{FitsAt, start-at}

@@ -10,6 +10,7 @@ pub mod Follows
 pub mod NeverFive
 pub mod Writes
 pub mod Agrees
+pub mod Fills
 mod Paths
 pub mod Found
 pub mod Cases

@@ -1,15 +1,12 @@
 -- No two entries of a tree of directories name the same one. Assumes nothing.
-use Prim.Native.Nat.{ℕ, zero, suc, _+_, _≤_, _<_}
+use Prim.Native.Nat.{ℕ, suc, _+_, _≤_, _<_}
 use native.Mathlib.Omega.{arith}
-use native.Mathlib.Numerals.{add-one}
 use native.Mathlib.Decide.{decLe, ℕ-discrete}
-use mathlib.Core.Path.{_≡_, refl, sym, ap, subst, _∙_}
-use mathlib.Core.Bool.{Bool, true, false, _&&_}
-use mathlib.Core.List.{List}
-use lib.Dec.{eqb}
+use mathlib.Core.Path.{_≡_, subst}
+use mathlib.Core.Bool.{Bool, true}
 use borrow.Author.Tests.{eq-eqb}
 use Rattle.avl_arena.proofs.Tested.{and-both}
-use Rattle.img_model.specs.Shares.{Request, Share, directoriesOf, countOf, shareOf, isDirectory, valueOf, tally, names, namings, isTree}
+use Rattle.img_model.specs.Shares.{Request, directoriesOf, countOf, shareOf, isDirectory, valueOf, tally, names, isTree}
 use Rattle.img_model.proofs.Every.{tally-hit, tally-grows}
 use Rattle.img_model.proofs.Rule.{namings-grow, names-one, named-at-most-once}
 

@@ -6,7 +6,7 @@ use mathlib.Core.Bool.{Bool, true, false}
 use mathlib.Core.List.{List, [], _∷_, _++_, append-nil}
 use lib.Dec.{ltb, eqb}
 use lib.ListN.{length}
-use Rattle.units.specs.Told.{Told, gives, refuses, pick}
+use Rattle.units.specs.Told.{refuses, pick}
 use Rattle.units.specs.declared.Sector.{Sector}
 use Rattle.units.specs.declared.Region.{Region}
 use Rattle.read_lookup.specs.Lookup.{anyHigh}

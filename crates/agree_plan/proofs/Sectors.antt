@@ -2,20 +2,18 @@
 use Prim.Native.Nat.{ℕ, zero, suc, _+_, _≤_, _<_}
 use native.Mathlib.Omega.{arith}
 use native.Mathlib.Decide.{decLe, ℕ-discrete}
-use mathlib.Core.Path.{_≡_, refl, sym, ap, subst, _∙_}
-use mathlib.Core.Bool.{Bool, true, false}
-use mathlib.Core.List.{List, [], _∷_, map}
-use lib.ListN.{length, getD, set, length-set}
+use mathlib.Core.Path.{_≡_, refl, sym, ap, _∙_}
+use mathlib.Core.Bool.{true}
+use mathlib.Core.List.{List}
+use lib.ListN.{length, getD, length-set}
 use lib.Seq.{getD-set-same}
 use Rattle.avl_model.specs.Order.{order}
-use Rattle.table_model.specs.Entry.{Item}
-use Rattle.table_model.specs.Place.{items}
 use Rattle.table_model.proofs.Geometry.{items-entries}
 use Rattle.img_model.specs.Shares.{Request, shareOf, directoriesOf, entriesOf, firstOf, countOf, isDirectory, valueOf}
 use Rattle.img_model.specs.Plan.{tableIn, Taking, entriesAt, takingAll, Plan}
 use Rattle.img_model.proofs.Rule.{some-directory, share-inside, names-later, names-one}
 use Rattle.agree.specs.Given.{times}
-use Rattle.agree_plan.specs.Planned.{treeAt, rootSector, startSector, itemsAt, Planned, Disjoint, sectorAt, tableSector, Sectored}
+use Rattle.agree_plan.specs.Planned.{treeAt, rootSector, startSector, Planned, Disjoint, sectorAt, tableSector, Sectored}
 use Rattle.agree_plan.proofs.Grew.{tree-once, tree-others}
 use Rattle.agree_plan.proofs.Up.{takenBefore, before-next, before-none}
 use Rattle.agree_plan.proofs.Tables.{rule-kept, from, taken-is, start-is, table-planned}

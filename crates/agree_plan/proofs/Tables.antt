@@ -1,17 +1,16 @@
 -- EVERY TABLE OF A PLAN THAT IS GIVEN has the planned size, and can be written from the sector where the one before ended. Assumes nothing.
-use Prim.Native.Nat.{ℕ, zero, suc, _+_, _≤_, _<_}
+use Prim.Native.Nat.{ℕ, _≤_, _<_}
 use native.Mathlib.Omega.{arith}
 use mathlib.Core.Path.{_≡_, refl, sym, ap, subst, _∙_}
 use mathlib.Core.Bool.{Bool, true, false}
-use mathlib.Core.List.{List, [], _∷_}
+use mathlib.Core.List.{List, []}
 use lib.Dec.{leb}
-use lib.ListN.{length, replicate, length-replicate}
+use lib.ListN.{replicate, length-replicate}
 use Rattle.units.specs.Told.{Told, gives, refuses, pick}
-use Rattle.avl_model.specs.Tree.{Tree}
-use Rattle.table_model.specs.Table.{Placing, sizeOf, placeOf}
-use Rattle.table_model.proofs.Placing.{size-given, free-given}
-use Rattle.img_model.specs.Shares.{Request, shareOf, directoriesOf, isTree}
-use Rattle.img_model.specs.Plan.{tableIn, treeIn, Taking, entriesAt, sizesDown, takingUp, rooted, Plan, withSizes, ifSized, total, planOf}
+use Rattle.table_model.specs.Table.{sizeOf, placeOf}
+use Rattle.table_model.proofs.Placing.{size-given}
+use Rattle.img_model.specs.Shares.{Request, directoriesOf, isTree}
+use Rattle.img_model.specs.Plan.{tableIn, Taking, entriesAt, sizesDown, takingUp, rooted, Plan, withSizes, ifSized, total, planOf}
 use Rattle.agree_plan.specs.Planned.{treeOr, treeAt, freeGiven, startSector, Planned, Tabled}
 use Rattle.agree_plan.proofs.Down.{down-sized}
 use Rattle.agree_plan.proofs.Up.{takenBefore, all-taken, each-placed, starts-are}

@@ -5,7 +5,6 @@ use native.Mathlib.Numerals.{add-one}
 use native.Mathlib.Decide.{ℕ-discrete}
 use mathlib.Core.Path.{_≡_, refl, sym, ap, subst, _∙_}
 use mathlib.Core.List.{List, [], _∷_, _++_}
-use lib.ListN.{length}
 use Rattle.units.specs.Told.{Told, gives, refuses}
 use Rattle.avl_model.specs.Tree.{Tree, leaf, node}
 use Rattle.avl_model.specs.Order.{order}
@@ -13,7 +12,7 @@ use Rattle.table_model.specs.Place.{freeOf}
 use Rattle.table_model.specs.Table.{Placing, placeOf}
 use Rattle.table_model.proofs.Placing.{free-given}
 use Rattle.img_model.specs.Shares.{Request, shareOf}
-use Rattle.img_model.specs.Plan.{tableIn, treeIn, ifGrown, Taking, entriesAt, taking, takingAll, ifPlaced, takingUp, rooted}
+use Rattle.img_model.specs.Plan.{tableIn, treeIn, Taking, entriesAt, taking, takingAll, ifPlaced, takingUp, rooted}
 use Rattle.agree_plan.specs.Planned.{treeOr, treeAt, freeGiven, startSector}
 use Rattle.agree_plan.proofs.Down.{tree-there}
 

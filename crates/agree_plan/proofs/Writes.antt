@@ -1,16 +1,15 @@
 -- THE TABLES OF A PLAN, WRITTEN IN TURN: writing the list of a directory's entries from the sector where the one before ended answers the planned size and
 -- the next start, and leaves the table's bytes. Assumes nothing.
-use Prim.Native.Nat.{ℕ, suc, _+_, _≤_, _<_}
+use Prim.Native.Nat.{ℕ, suc, _≤_, _<_}
 use native.Mathlib.Omega.{arith}
 use native.Mathlib.Decide.{decLe}
-use mathlib.Core.Path.{_≡_, refl, sym, ap, _∙_}
-use mathlib.Core.Bool.{Bool, true, false}
-use mathlib.Core.List.{List, [], _∷_, _++_}
-use lib.Dec.{leb, eqb}
-use lib.ListN.{length, getD, take, drop, length-take, List·getD-eq-default}
+use mathlib.Core.Path.{_≡_, sym, ap, _∙_}
+use mathlib.Core.Bool.{Bool, true}
+use mathlib.Core.List.{List, [], _++_}
+use lib.Dec.{eqb}
+use lib.ListN.{length, getD, drop, length-take, List·getD-eq-default}
 use borrow.Author.Tests.{le-leb}
 use Rattle.units.specs.Told.{Told, gives, refuses, pick}
-use Rattle.dirtab_entry.specs.declared.Entry as given
 use Rattle.dirtab_entry.specs.Entry.{rounded, kindFor, storedSize, nameIn, checkOf}
 use Rattle.avl_model.specs.Tree.{Tree, leaf}
 use Rattle.table_model.specs.Entry.{Entry}
@@ -19,7 +18,6 @@ use Rattle.dirtab_grow.specs.Listing.{Listing, givenIn}
 use Rattle.dirtab_grow.specs.Grow.{orderIn, grow}
 use Rattle.dirtab_grow.proofs.Growth.{same-checks}
 use Rattle.dirtab_list.specs.Whole.{entryIn, hasPlaces, ifFits, ifGrown, wholeOf, tableFor, ifWritten, outAfter}
-use Rattle.dirtab_list.specs.Whole as whole
 use Rattle.img_model.specs.Shares.{Request, Share, shareOf, directoriesOf, firstOf, countOf, part}
 use Rattle.img_model.specs.Plan.{tableIn, sizeAt, givenAt, checkIn, treeIn, entriesAt, Plan}
 use Rattle.agree_plan.specs.Planned.{treeAt, startSector, Planned}

@@ -7,7 +7,6 @@ use lib.ListN.{length, getD}
 use Rattle.units.specs.Told.{Told, gives, refuses}
 use Rattle.layout_sector.specs.Counter.{sectorsFor}
 use Rattle.avl_model.specs.Tree.{Tree, leaf}
-use Rattle.avl_model.specs.Order.{order}
 use Rattle.table_model.specs.Entry.{Item}
 use Rattle.table_model.specs.Place.{items}
 use Rattle.table_model.specs.Table.{Placing, sizeOf, placeOf}
