@@ -364,8 +364,8 @@ pub fn store_planned(r: Planned, free: &mut u32, entry: &mut u32, directory: &mu
             *directory = d;
             8
         }
-        Planned::FileTooLarge(j) => {
-            *entry = j;
+        Planned::FileTooLarge(large) => {
+            *entry = large;
             10
         }
         Planned::EmptyName(j) => {
