@@ -4,3 +4,5 @@ pub mod Rule
 pub mod Trees
 pub mod Sizes
 pub mod Cases
+pub mod Trees
+pub mod Sizes
