@@ -1,5 +1,5 @@
 //! race [TURNS [WORDS]]: this repository's code and the Rust's in turn on the same tables and lists, and the ratios of their times. With WORDS only the
-//! tasks that have one of them in their name are raced (words parted by commas).
+//! tasks that have one of them in their name are raced (words parted by +).
 //!
 //! Time is the thread's processor time, so that waiting for a busy machine does not count. A task is cut into pieces of at most a thousand names; in each turn
 //! each piece is done by both, one right after the other, now the one first, now the other. A task's least time is the sum of its pieces' least
@@ -52,7 +52,7 @@ fn least_and_middle(mut list: Vec<f64>) -> (f64, f64) {
 
 /// Whether a task is to be raced.
 fn wanted(what: &str) -> bool {
-    std::env::args().nth(2).map_or(true, |words| words.split(',').any(|word| what.contains(word)))
+    std::env::args().nth(2).map_or(true, |words| words.split('+').any(|word| what.contains(word)))
 }
 
 /// Both in turn, on so many pieces of a task over so many entries.
@@ -172,7 +172,8 @@ fn main() {
         let order = shuffled(&mut dice, &list);
         table(&format!("{count} names of 26 bytes, 22 of them common"), turns, &list, &order);
     }
-    table("1 name of 4 bytes, ns a call", turns, &names(&mut dice, 1, "", 4..=4), &[]);
+    let list = names(&mut dice, 1, "", 4..=4);
+    table("1 name of 4 bytes", turns, &list, &list);
     for count in [100, 1_000, 8_000] {
         both_orders(&format!("{count} names of 4 to 8 bytes"), turns, &names(&mut dice, count, "", 4..=8));
     }
@@ -181,4 +182,6 @@ fn main() {
         let list = names(&mut dice, count, "track_of_the_main_ring", 4..=4);
         both_orders(&format!("{count} names of 26 bytes, 22 of them common"), turns, &list);
     }
+    let (whole, word, long) = (ours::Lent::new(1).bytes(), std::mem::size_of::<u32>(), std::mem::size_of::<u64>());
+    println!("\nLent for an entry, besides the caller's own list: {whole} bytes for a whole table, {} for a walk, {} for a strict check.", 2 * word, word + long);
 }

@@ -1,6 +1,6 @@
 -- DEMAND 3: what is written is what is listed is what is found. Assumes nothing.
 use Prim.Native.Nat.{ℕ, zero, suc, _+_, _-_, _*_, _/_, _≤_, _<_, max}
-use mathlib.Core.Path.{_≡_, refl, sym, ap, subst, _∙_}
+use mathlib.Core.Path.{_≡_, refl, ap}
 use mathlib.Core.Bool.{true, false}
 use mathlib.Core.List.{List, [], _∷_, _++_, map}
 use native.Mathlib.Omega.{arith}
@@ -17,14 +17,15 @@ use Rattle.avl_model.specs.Laws.{Avl, All, size, least}
 use Rattle.avl_model.proofs.Avl.{avl-size, least-20, least-mono}
 use Rattle.table_model.specs.Entry.{Entry, Item, lengthOf}
 use Rattle.table_model.specs.Place.{stopOf, endOf, freeAfter, freeOf, items}
-use Rattle.table_model.specs.Table.{stop, tableBytes}
+use Rattle.table_model.specs.Table.{stop, sizeOf, tableBytes}
 use Rattle.table_model.specs.Said.{AllIn, Fits, LinkFits, Stands, Apart}
 use Rattle.table_model.proofs.Places.{FitsAt, start-at}
-use Rattle.table_model.proofs.Geometry.{all-left, all-right, inside, apart, sectors-apart, items-length}
+use Rattle.table_model.proofs.Geometry.{all-map, all-left, all-right, wider, inside, apart, sectors-apart, items-length}
 use Rattle.table_model.proofs.Placing.{links-fit}
 use Rattle.agree.specs.Written.{Writable, Stand, Written}
 use Rattle.agree.specs.Agreement.{offsets, mostHeaders, ReadBack, Reached, Sound, Agreement}
 use Rattle.agree.specs.Agreement as sound
+use Rattle.agree.proofs.Sized.{empty-size}
 use Rattle.agree.proofs.Holds.{all-back, setting, ready}
 use Rattle.agree.proofs.Walks.{empty-read, walk-written}
 use Rattle.agree.proofs.Reaches.{all-reached, all-sound}
@@ -102,7 +103,7 @@ pub agreement : (absent : List ℕ) → isIn 0 absent ≡ true
     → (entry : ℕ → Entry) (align s : ℕ) (x : Tree) (w : List ℕ) (first : Sector) (t : Region) (g : Written entry align s x w first t)
     → Agreement absent w first t (g .stand .place) (items entry align 0 s x)
 agreement absent none entry align s x w first t g = record {
-  inside = subst (λ (n : ℕ). AllIn (Stands 0 n) (items entry align 0 s x)) (sym (g .sized)) (inside entry align x s (g .writable .fits));
+  inside = all-map _ _ (items entry align 0 s x) (wider 0 (sizeOf entry x) 0 (t .size) (omega arith) (g .sized .least)) (inside entry align x s (g .writable .fits));
   apart = apart entry align x s (g .writable .fits);
   sectors = sectors-apart entry align (g .writable .aligned) x 0 s;
   listed = λ room h. walk-written entry align s x w first t g room (omega (arith, items-length entry align x 0 s));
@@ -120,7 +121,7 @@ agreement absent none entry align s x w first t g = record {
 
     sounds : (y : Tree) (h : Written entry align s y w first t) (name : List ℕ) → anyHigh name ≡ false
         → Sound absent w first t (h .stand .place) (items entry align 0 s y) mostHeaders name (lookupBy absent w first t name)
-    sounds leaf h name a = rw (empty-lookup absent entry align s w first t (h .stand) (h .sized) name a) (sound.missing 1 (omega arith))
+    sounds leaf h name a = rw (empty-lookup absent entry align s w first t (h .stand) (empty-size (t .size) (h .sized)) name a) (sound.missing 1 (omega arith))
     sounds (node l i r) h name a =
         all-sound (setting entry align s (node l i r) w first t h) absent none l i r s (ready entry align s (node l i r) w first t h)
         (omega (arith, few entry align s (node l i r) (h .writable))) mostHeaders (low entry align s (node l i r) (h .writable)) name a

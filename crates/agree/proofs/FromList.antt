@@ -31,11 +31,13 @@ use Rattle.avl_model.proofs.Counted.{all-below}
 use Rattle.avl_model.proofs.Frame.{δ-same, δ-apart}
 use Rattle.table_model.specs.Entry.{Entry, Item}
 use Rattle.table_model.specs.Place.{items}
+use Rattle.table_model.specs.Table.{sizeOf}
 use Rattle.table_model.specs.Said.{Fits}
 use Rattle.table_model.proofs.Geometry.{items-entries}
 use Rattle.agree.specs.Written.{Before, Written}
 use Rattle.agree.specs.Agreement.{Agreement}
 use Rattle.agree.specs.Given.{Given, largestDirectory, Good, numbered, stored, entryOf, grown, treeOf, Admitted, WrittenList, times, EachOnce}
+use Rattle.agree.proofs.Sized.{as-reported}
 use Rattle.agree.proofs.Agrees.{agreement}
 
 -- what the test of an insertion says, of two names that differ
@@ -126,7 +128,7 @@ module _ (align s : ℕ) (gs : List Given) (w : List ℕ) (first : Sector) (t : 
           placed = a .placed;
         };
         stand = g .stand;
-        sized = g .sized;
+        sized = as-reported (sizeOf (entryOf gs) (treeOf gs)) (t .size) (g .sized);
       }
 
   -- DEMAND 3: what is written of a list is listed and found

@@ -174,7 +174,7 @@ module _ (entry : ℕ → Entry) (align s : ℕ) (x : Tree) (w : List ℕ) (firs
   ready = record {
     fits = g .writable .fits;
     four = refl;
-    inside = omega (arith, end-size entry x, g .sized);
+    inside = omega (arith, end-size entry x, g .sized .least);
     sectors = sectors-fit entry align s x (g .writable .placing) (g .writable .placed);
     small = links-fit entry align s x (g .writable .placing) (g .writable .placed);
     rest = replicate (rounded (sizeOf entry x) - endOf entry 0 x) 255 ++ g .stand .rest;

@@ -1,3 +1,4 @@
+pub mod Sized
 pub mod Setting
 pub mod Readback
 pub mod Holds

@@ -24,6 +24,7 @@ use Rattle.table_model.specs.Place.{endOf, items}
 use Rattle.table_model.specs.Table.{bytesFrom, sizeOf, tableBytes}
 use Rattle.agree.specs.Written.{Writable, Stand, Written}
 use Rattle.agree.specs.Agreement.{offsets, placedAt}
+use Rattle.agree.proofs.Sized.{empty-size}
 use Rattle.agree.proofs.Setting.{Setting, start, stop, end, link, next, free, item, its, reads}
 use Rattle.agree.proofs.Holds.{Ready, has-node, left-ready, right-ready, linked, ends, at-zero, setting, ready}
 
@@ -135,6 +136,6 @@ module _ (entry : ℕ → Entry) (align s : ℕ) (w : List ℕ) (first : Sector)
 pub walk-written : (entry : ℕ → Entry) (align s : ℕ) (x : Tree) (w : List ℕ) (first : Sector) (t : Region) → Written entry align s x w first t
     → (room : ℕ) → size x ≤ room → walkOf w first t room ≡ gives (offsets (items entry align 0 s x))
 unfolding items
-walk-written entry align s leaf w first t g room h = empty-walk entry align s w first t (g .stand) (g .sized) room
+walk-written entry align s leaf w first t g room h = empty-walk entry align s w first t (g .stand) (empty-size (t .size) (g .sized)) room
 walk-written entry align s (node l i r) w first t g room h =
     walk-node (setting entry align s (node l i r) w first t g) l i r s (ready entry align s (node l i r) w first t g) room h

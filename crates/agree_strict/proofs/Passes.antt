@@ -36,6 +36,7 @@ use Rattle.table_model.proofs.Geometry.{items-stand}
 use Rattle.agree.specs.Written.{Before, Written}
 use Rattle.agree.specs.Agreement.{offsets, placedAt}
 use Rattle.agree.specs.Given.{Given, entryOf, treeOf, WrittenList}
+use Rattle.agree.proofs.Sized.{empty-size}
 use Rattle.agree.proofs.Setting.{Setting, start, stop, end, link, next, free, item, its, reads, Back}
 use Rattle.agree.proofs.Holds.{Ready, has-node, started, left-ready, right-ready, linked, ends, at-zero, all-back, setting, ready}
 use Rattle.agree.proofs.FromList.{list-written, list-size}
@@ -245,7 +246,7 @@ pub written-passes : (entry : ℕ → Entry) (align s : ℕ) (x : Tree) (w : Lis
     → (room : ℕ) → size x ≤ room → strictOf w first t room ≡ gives (offsets (items entry align 0 s x))
 unfolding items strictOf
 written-passes entry align s leaf w first t g room h =
-    rw (ne-eqb (t .size) 0 (λ q. omega (arith, g .sized))) (strict-none w (readAt w first t) (t .size) room (empty-read entry align s w first t (g .stand) (g .sized)))
+    rw (ne-eqb (t .size) 0 (λ q. omega (arith, g .sized .least))) (strict-none w (readAt w first t) (t .size) room (empty-read entry align s w first t (g .stand) (empty-size (t .size) (g .sized))))
 written-passes entry align s (node l i r) w first t g room h =
     strict-node (setting entry align s (node l i r) w first t g) l i r s (ready entry align s (node l i r) w first t g) (g .writable .ordered) room h
 

@@ -25,7 +25,7 @@ use Rattle.avl_arena.proofs.Sound.{sound}
 use Rattle.avl_model.specs.Held.{arrOf}
 use Rattle.table_model.specs.Entry.{Entry, Item}
 use Rattle.table_model.specs.Place.{items}
-use Rattle.table_model.specs.Table.{Placing, tableBytes, placeOf}
+use Rattle.table_model.specs.Table.{Placing, sizeOf, tableBytes, placeOf}
 use Rattle.table_model.specs.Said.{Fits}
 use Rattle.table_model.proofs.Geometry.{items-entries}
 use Rattle.table_model.proofs.Placing.{size-given}
@@ -35,6 +35,7 @@ use Rattle.strict.specs.Strict.{strictOf}
 use Rattle.agree.specs.Written.{Before, Written}
 use Rattle.agree.specs.Agreement.{offsets, Agreement}
 use Rattle.agree.specs.Given.{EachOnce}
+use Rattle.agree.proofs.Sized.{as-reported}
 use Rattle.agree.proofs.Agrees as agrees
 use Rattle.agree.proofs.Plain.{lookup-0}
 use Rattle.agree.proofs.FromList.{times-order}
@@ -124,7 +125,7 @@ module _ (A : Arena) (s n m : ℕ) (out : List ℕ) (p : Placing) (w : List ℕ)
       placed = placed;
     };
     stand = first-stand w first (t .sector) _ (drop (rounded (p .size)) out) _ bytes-are (g .stand);
-    sized = g .sized ∙ size-given (entryAt A) 1 s (treeOf A) p placed;
+    sized = as-reported (sizeOf (entryAt A) (treeOf A)) (t .size) (g .sized ∙ size-given (entryAt A) 1 s (treeOf A) p placed);
   }
 
   -- DEMAND 3 OF WHAT IS WRITTEN: reading finds the held entries

@@ -41,6 +41,7 @@ use Rattle.agree.specs.Written.{Before, Stand, Written}
 use Rattle.agree.specs.Agreement as agreement
 use Rattle.agree.specs.Agreement.{offsets, Agreement}
 use Rattle.agree.specs.Given.{grown, EachOnce}
+use Rattle.agree.proofs.Sized.{as-reported}
 use Rattle.agree.proofs.Agrees as agrees
 use Rattle.agree.proofs.Plain.{lookup-0}
 use Rattle.agree.proofs.FromList.{grown-below, grown-avl, grown-size, grown-each}
@@ -183,7 +184,7 @@ module _ (L : Listing) (shortest s : ℕ) (out : List ℕ) (p : Placing) (w : Li
       placed = placed;
     };
     stand = first-stand w first (t .sector) _ (drop (rounded (p .size)) out) _ bytes-are (g .stand);
-    sized = g .sized ∙ size-given (E L) 1 s (T L (L .count)) p placed;
+    sized = as-reported (sizeOf (E L) (T L (L .count))) (t .size) (g .sized ∙ size-given (E L) 1 s (T L (L .count)) p placed);
   }
 
   -- DEMAND 3 OF WHAT IS WRITTEN: reading finds the list's entries

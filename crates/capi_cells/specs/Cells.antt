@@ -44,3 +44,10 @@ afterHeaders = 22 ∷ []
 -- the refusals that carry the number of an entry in its list (a 6 for a column that is too short carries none)
 abbrev pub ofEntry : List ℕ
 ofEntry = 1 ∷ 2 ∷ 3 ∷ 4 ∷ 5 ∷ 6 ∷ []
+
+-- the refusals of a plan that carry the place of an entry in the list, and those that carry a directory's number
+abbrev pub ofPlanned : List ℕ
+ofPlanned = 1 ∷ 2 ∷ 3 ∷ 4 ∷ 5 ∷ 6 ∷ 10 ∷ []
+
+abbrev pub ofDirectory : List ℕ
+ofDirectory = 7 ∷ 8 ∷ []

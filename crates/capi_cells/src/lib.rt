@@ -8,6 +8,7 @@ use xdvdfs::Header;
 use xdvdfs::ListWritten;
 use xdvdfs::Looked;
 use xdvdfs::PathFound;
+use xdvdfs::Planned;
 use xdvdfs::Read;
 use xdvdfs::Serialised;
 use xdvdfs::Taken;
@@ -17,6 +18,7 @@ ghost use Rattle.units.specs.Told.{numberOf};
 ghost use Rattle.dirtab.specs.Serialise as serialising;
 ghost use Rattle.dirtab_add.specs.Add as adding;
 ghost use Rattle.dirtab_list.specs.Whole as whole;
+ghost use Rattle.img_model.specs.Plan as planning;
 ghost use Rattle.layout_sector.specs.Counter as sectors;
 ghost use Rattle.layout_volume.specs.Descriptor as volume;
 ghost use Rattle.read_entry.specs.Entry as entry;
@@ -24,7 +26,7 @@ ghost use Rattle.read_lookup.specs.Lookup as lookup;
 ghost use Rattle.read_path.specs.Path as following;
 ghost use Rattle.read_walk.specs.Walk as walking;
 ghost use Rattle.strict.specs.Strict as checking;
-ghost use Rattle.capi_cells.specs.Cells.{ofGiven, ofSome, isSome, ofRefusal, atOffset, atFault, afterHeaders, ofEntry};
+ghost use Rattle.capi_cells.specs.Cells.{ofGiven, ofSome, isSome, ofRefusal, atOffset, atFault, afterHeaders, ofEntry, ofPlanned, ofDirectory};
 ghost use Rattle.capi_cells.specs.Parts.{fieldsOf, placedFields, placedAt, foundFields, foundPlace, foundOffset, foundHeaders, rootSector, rootSize, itself, grownRoot, grownCount, tableSize, nextFree, runStart, runFree};
 
 fn widen_byte(x: u8) -> u32
@@ -337,5 +339,58 @@ pub fn store_written(r: ListWritten, table_size: &mut u32, free: &mut u32, entry
         ListWritten::TooManyDirectoryEntries => 7,
         ListWritten::SectorOverflow => 8,
         ListWritten::BufferTooSmall => 9,
+    }
+}
+
+// The next free sector of a plan; of a refusal the entry's place in the list, or the directory's number.
+pub fn store_planned(r: Planned, free: &mut u32, entry: &mut u32, directory: &mut u32) -> u32
+    ensures { λ n. ⌜ n ≡ numberOf (planning.told r) ⌝ }
+    ensures { λ _. ⌜ now (free .exit) ≡ ofGiven itself (planning.told r) (now (free .entry)) ⌝ }
+    ensures { λ _. ⌜ now (entry .exit) ≡ ofRefusal ofPlanned (planning.told r) (now (entry .entry)) ⌝ }
+    ensures { λ _. ⌜ now (directory .exit) ≡ ofRefusal ofDirectory (planning.told r) (now (directory .entry)) ⌝ }
+{
+    match r {
+        Planned::Done(f) => {
+            *free = f.number();
+            0
+        }
+        Planned::Room => 6,
+        Planned::BadTree => 11,
+        Planned::TooManyDirectoryEntries(d) => {
+            *directory = d;
+            7
+        }
+        Planned::SectorOverflow(d) => {
+            *directory = d;
+            8
+        }
+        Planned::FileTooLarge(large) => {
+            *entry = large;
+            10
+        }
+        Planned::EmptyName(j) => {
+            *entry = j;
+            1
+        }
+        Planned::BadByte(j) => {
+            *entry = j;
+            2
+        }
+        Planned::NameTooLong(j) => {
+            *entry = j;
+            3
+        }
+        Planned::SizeOverflow(j) => {
+            *entry = j;
+            5
+        }
+        Planned::DuplicateFileName(j) => {
+            *entry = j;
+            4
+        }
+        Planned::EntryRoom(j) => {
+            *entry = j;
+            6
+        }
     }
 }

@@ -10,6 +10,7 @@ pub use dirtab_entry::Entry;
 pub use dirtab_entry::Kind;
 pub use dirtab_entry::kind_of;
 pub use dirtab_list::ListWritten;
+pub use img_model::Planned;
 pub use layout_node::Header;
 pub use layout_sector::SectorCounter;
 pub use layout_sector::Taken;

@@ -1,0 +1,221 @@
+-- PATHS IN A PLANNED IMAGE: a path whose parts lead to an entry finds it with its planned sector and size, unless a link of 255 stands on the way. Assumes nothing.
+use Prim.Native.Nat.{ℕ, _+_, _/_, _%_, _≤_, _<_}
+use native.Mathlib.Omega.{arith}
+use native.Mathlib.Decide.{ℕ-discrete}
+use mathlib.Core.Path.{_≡_, refl, sym, ap, subst, _∙_}
+use mathlib.Core.Bool.{Bool, true}
+use mathlib.Core.Logic.{_⊎_, inl, inr}
+use mathlib.Core.List.{List, [], _∷_, _++_, map, List·Memᴰ, List·Memᴰ·head, List·Memᴰ·tail, List·Memᴰ·not-nil, List·Memᴰ·cases-cons, List·Memᴰ·append-cases, Memᴰ·append-left, Memᴰ·append-right}
+use lib.Dec.{eqb}
+use lib.ListN.{length}
+use Rattle.units.specs.Told.{Told, gives, refuses, pick}
+use Rattle.units.specs.declared.Sector.{Sector}
+use Rattle.units.specs.declared.Region.{Region}
+use Rattle.layout_name.specs.Order.{raised}
+use Rattle.layout_node.specs.Header.{isDirectory}
+use Rattle.read_entry.specs.Entry.{readAt, nameOf}
+use Rattle.read_entry.specs.Links.{lookupAbsent}
+use Rattle.read_lookup.specs.Lookup.{Finding, lookupOf}
+use Rattle.read_path.specs.Path as path
+use Rattle.read_path.specs.Path.{lastOf, turnOf, onward, partsFrom, pathOf}
+use Rattle.table_model.specs.Entry.{Entry, Item, attributes, headerFor}
+use Rattle.table_model.proofs.Geometry.{of-item}
+use Rattle.img_model.specs.Shares.{Request, shareOf, directoriesOf, countOf, valueOf}
+use Rattle.img_model.specs.Shares as shares
+use Rattle.img_model.specs.Plan.{entriesAt, Plan}
+use Rattle.img_model.proofs.Rule.{some-directory, names-one}
+use Rattle.agree.specs.Written.{Written}
+use Rattle.agree.specs.Along.{Along}
+use Rattle.agree.specs.Agreement.{placedAt, Same, ReadBack}
+use Rattle.agree.specs.Given.{times}
+use Rattle.agree.proofs.Plain.{listed-found}
+use Rattle.avl_model.proofs.Frame.{δ-apart}
+use Rattle.agree_plan.specs.Planned.{treeAt, startSector, itemsAt, sectorAt}
+use Rattle.agree_plan.specs.Image.{Imaged, rootOf, RegionFor, Part, joined, Leads, last, into, regionOf, here, on, Finds}
+use Rattle.agree_plan.proofs.Tables.{rule-kept}
+use Rattle.agree_plan.proofs.Sectors.{sectors-planned}
+use Rattle.agree_plan.proofs.Agrees.{directory-kind, table-written, table-agrees, root-region, entry-region}
+use Rattle.agree_plan.proofs.Paths.{AllParts, joined-path}
+
+-- ---- lists
+
+mem-dec : (k : ℕ) (ks : List ℕ) → List·Memᴰ k ks ⊎ (List·Memᴰ k ks → ⊥)
+mem-dec k [] = inr (λ m. List·Memᴰ·not-nil m)
+mem-dec k (j ∷ ks) = elim (ℕ-discrete k j) [
+  | yes e ↦ inl (List·Memᴰ·head e)
+  | no e ↦ go e (mem-dec k ks)
+]
+  where
+    left-out : (k ≡ j → ⊥) → (List·Memᴰ k ks → ⊥) → (k ≡ j) ⊎ List·Memᴰ k ks → ⊥
+    left-out e f (inl q) = e q
+    left-out e f (inr m) = f m
+
+    go : (k ≡ j → ⊥) → List·Memᴰ k ks ⊎ (List·Memᴰ k ks → ⊥) → List·Memᴰ k (j ∷ ks) ⊎ (List·Memᴰ k (j ∷ ks) → ⊥)
+    go e (inl m) = inl (List·Memᴰ·tail m)
+    go e (inr f) = inr (λ m. left-out e f (List·Memᴰ·cases-cons m))
+
+-- the item of a number
+record ItemOf (entry : ℕ → Entry) (sector : ℕ → ℕ) (xs : List Item) (i : ℕ) : Type 0 where
+  item : Item
+  among : List·Memᴰ item xs
+  entry-is : item .entry ≡ entry i
+  sector-is : item .sector ≡ sector i
+
+item-of : (entry : ℕ → Entry) (sector : ℕ → ℕ) (xs : List Item) (is : List ℕ) → map (λ (y : Item). y .entry) xs ≡ map entry is → map (λ (y : Item). y .sector) xs ≡ map sector is
+    → (i : ℕ) → 1 ≤ times i is → ItemOf entry sector xs i
+item-of entry sector xs [] a b i h = absurd (omega arith)
+item-of entry sector [] (j ∷ is) a b i h = let z : _≡_ {A = ℕ} 0 1 = cc in absurd (omega arith)
+item-of entry sector (x ∷ xs) (j ∷ is) a b i h =
+    let e : x .entry ≡ entry j = cc in
+    let f : x .sector ≡ sector j = cc in
+    let g : map (λ (y : Item). y .entry) xs ≡ map entry is = cc in
+    let k : map (λ (y : Item). y .sector) xs ≡ map sector is = cc in
+    elim (ℕ-discrete j i) [
+      | yes q ↦ record { item = x; among = List·Memᴰ·head refl; entry-is = e ∙ ap entry q; sector-is = f ∙ ap sector q }
+      | no q ↦
+          let r = item-of entry sector xs is g k i (omega (arith, δ-apart j i q)) in
+          record { item = r .item; among = List·Memᴰ·tail (r .among); entry-is = r .entry-is; sector-is = r .sector-is }
+    ]
+
+module _ (R : Request) (places : ℕ) (tables sectors : List ℕ) (p : Plan) (w : List ℕ) (first : Sector) (I : Imaged R places tables sectors p w first) where
+  abbrev S : List ℕ
+  S = p .sizes
+
+  -- ---- one table
+
+  module _ (d : ℕ) (hd : d < directoriesOf R) (t : Region) (r : RegionFor p d t) where
+    abbrev place : ℕ
+    place = I .stand d hd .place
+
+    abbrev its : List Item
+    its = itemsAt R S d
+
+    abbrev written : Written (entriesAt R S d) 1 (startSector R S d) (treeAt R S d) w first t
+    written = table-written R places tables sectors p w first I d hd t r
+
+    -- its entry i
+    module _ (i : ℕ) (hi : i < countOf R d) where
+      own : ItemOf (entriesAt R S d) (sectorAt R p d) its i
+      own =
+          let s = sectors-planned R places tables sectors p (I .planned) (I .apart) d hd in
+          item-of (entriesAt R S d) (sectorAt R p d) its (s .numbers) (s .entries) (s .sectors) i (omega (arith, s .once i hi))
+
+      abbrev y : Item
+      y = own .item
+
+      back : ReadBack w first t place y
+      back = of-item (ReadBack w first t place) its y (table-agrees R places tables sectors p w first I d hd t r .read) (own .among)
+
+      -- a lookup of its name
+      record Looked (a : List ℕ) : Type 0 where
+        links : List ℕ
+        way : Along (readAt w first t) 0 (y .offset) links
+        real : (k : ℕ) → List·Memᴰ k links → (k ≡ 0 → ⊥) × (k ≡ 65535 → ⊥)
+        headers : ℕ
+        hit : (List·Memᴰ 255 links → ⊥) → lookupOf w first t a ≡ gives (record { entry = placedAt place y; offset = y .offset; headers = headers })
+        miss : List·Memᴰ 255 links → (c : ℕ) × (lookupOf w first t a ≡ refuses 22 (c ∷ []))
+
+      looked : (a : List ℕ) → Part a → Same a (entriesAt R S d i .name) → Looked a
+      unfolding table-written
+      looked a part same =
+          let f = listed-found (entriesAt R S d) 1 (startSector R S d) (treeAt R S d) w first t written a (part .ascii) y (own .among)
+          (same ∙ ap (λ (e : Entry). map raised (e .name)) (sym (own .entry-is))) in
+          record { links = f .0 .links; way = f .0 .way; real = f .0 .real; headers = 1 + length (f .0 .links); hit = f .1; miss = f .2 }
+
+      named : (a : List ℕ) → Same a (entriesAt R S d i .name) → Same a (nameOf w (place + y .offset) (length (y .entry .name)))
+      named a same = same ∙ ap (λ (e : Entry). map raised (e .name)) (sym (own .entry-is)) ∙ ap (map raised) (sym (back .named))
+
+      -- where it is the last part
+      ends : (a : List ℕ) → Part a → Same a (entriesAt R S d i .name) → Finds R p w first t (a ∷ []) d i (partsFrom lookupAbsent w first t (a ∷ []))
+      unfolding partsFrom
+      ends a part same =
+          let l = looked a part same in
+          record {
+            item = y;
+            among = own .among;
+            entry-is = own .entry-is;
+            sector-is = own .sector-is;
+            place = place;
+            at-sector = I .stand d hd .at-sector;
+            links = l .links;
+            way = here t a (y .offset) (placedAt place y) (l .links) (back .reads) (named a same) (l .way);
+            real = l .real;
+            found = λ f. ap lastOf (l .hit f);
+            lost = λ m. ap lastOf (l .miss m .1);
+          }
+
+      -- where it is not: the table that it names
+      module _ (dir : shares.isDirectory (shareOf R d) i ≡ true) where
+        abbrev u : Region
+        u = regionOf (placedAt place y)
+
+        below : RegionFor p (valueOf (shareOf R d) i) u
+        below = entry-region R places tables sectors p w first I d hd i hi dir y (own .entry-is) (own .sector-is) place
+
+        is-dir : isDirectory (headerFor y) ≡ true
+        is-dir =
+            ap (λ (n : ℕ). eqb (n / 16 % 2) 1) (ap (λ (e : Entry). attributes (e .kind)) (own .entry-is) ∙ directory-kind (shares.isDirectory (shareOf R d) i) dir)
+
+        -- the lookup goes into it, or ends
+        through : (a b : List ℕ) (cs : List (List ℕ)) (l : Looked a) → (List·Memᴰ 255 (l .links) → ⊥)
+            → partsFrom lookupAbsent w first t (a ∷ b ∷ cs) ≡ partsFrom lookupAbsent w first u (b ∷ cs)
+        unfolding partsFrom
+        through a b cs l f =
+            ap (λ (x : Told Finding). onward (turnOf x) (λ v. partsFrom lookupAbsent w first v (b ∷ cs))) (l .hit f)
+            ∙ ap (λ (c : Bool). onward (pick c (path.into u) (path.stops (refuses 27 []))) (λ v. partsFrom lookupAbsent w first v (b ∷ cs))) is-dir
+
+        stopped : (a b : List ℕ) (cs : List (List ℕ)) (l : Looked a) → List·Memᴰ 255 (l .links) → partsFrom lookupAbsent w first t (a ∷ b ∷ cs) ≡ refuses 22 []
+        unfolding partsFrom
+        stopped a b cs l m = ap (λ (x : Told Finding). onward (turnOf x) (λ v. partsFrom lookupAbsent w first v (b ∷ cs))) (l .miss m .1)
+
+        goes : (a b : List ℕ) (cs : List (List ℕ)) (e j : ℕ) → Part a → Same a (entriesAt R S d i .name)
+            → Finds R p w first u (b ∷ cs) e j (partsFrom lookupAbsent w first u (b ∷ cs)) → Finds R p w first t (a ∷ b ∷ cs) e j (partsFrom lookupAbsent w first t (a ∷ b ∷ cs))
+        goes a b cs e j part same n =
+            let l = looked a part same in
+            record {
+              item = n .item;
+              among = n .among;
+              entry-is = n .entry-is;
+              sector-is = n .sector-is;
+              place = n .place;
+              at-sector = n .at-sector;
+              links = l .links ++ n .links;
+              way = on t a b cs (y .offset) (placedAt place y) (placedAt (n .place) (n .item)) (l .links) (n .links) (back .reads) (named a same) (l .way) (n .way);
+              real = λ k m. either k l (List·Memᴰ·append-cases (l .links) m);
+              found = λ f. through a b cs l (λ m. f (Memᴰ·append-left (n .links) m)) ∙ n .found (λ m. f (Memᴰ·append-right (l .links) m));
+              lost = λ m. missed l (mem-dec 255 (l .links)) (List·Memᴰ·append-cases (l .links) m);
+            }
+          where
+            either : (k : ℕ) (l : Looked a) → List·Memᴰ k (l .links) ⊎ List·Memᴰ k (n .links) → (k ≡ 0 → ⊥) × (k ≡ 65535 → ⊥)
+            either k l (inl m) = l .real k m
+            either k l (inr m) = n .real k m
+
+            missed : (l : Looked a) → List·Memᴰ 255 (l .links) ⊎ (List·Memᴰ 255 (l .links) → ⊥) → List·Memᴰ 255 (l .links) ⊎ List·Memᴰ 255 (n .links)
+                → partsFrom lookupAbsent w first t (a ∷ b ∷ cs) ≡ refuses 22 []
+            missed l (inl m) c = stopped a b cs l m
+            missed l (inr f) (inl m) = absurd (f m)
+            missed l (inr f) (inr m) = through a b cs l f ∙ n .lost m
+
+  -- ---- all the way, from a region of directory d's table on
+
+  leads-to : (d e j : ℕ) (cs : List (List ℕ)) → Leads R p d cs e j → d < directoriesOf R → (t : Region) → RegionFor p d t
+      → Finds R p w first t cs e j (partsFrom lookupAbsent w first t cs)
+  leads-to d e j cs (last _ _ a hi part same) hd t r = ends d hd t r j hi a part same
+  leads-to d e j cs (into _ i _ _ a b bs hi part same dir rest) hd t r =
+      goes d hd t r i hi dir a b bs e j part same
+      (leads-to (valueOf (shareOf R d) i) e j (b ∷ bs) rest (names-one R (rule-kept R places tables sectors p (I .planned)) d hd i hi dir)
+      (regionOf (placedAt (I .stand d hd .place) (own d hd t r i hi .item))) (below d hd t r i hi dir))
+
+  all-parts : (d e j : ℕ) (cs : List (List ℕ)) → Leads R p d cs e j → AllParts cs
+  all-parts d e j cs (last _ _ a hi part same) = part
+  all-parts d e j cs (into _ i _ _ a b bs hi part same dir rest) = (part, all-parts (valueOf (shareOf R d) i) e j (b ∷ bs) rest)
+
+  -- THE PARTS, one after the other, from the root
+  pub parts-find : (e j : ℕ) (cs : List (List ℕ)) → Leads R p 0 cs e j → Finds R p w first (rootOf p) cs e j (partsFrom lookupAbsent w first (rootOf p) cs)
+  parts-find e j cs l =
+      leads-to 0 e j cs l (some-directory R (rule-kept R places tables sectors p (I .planned))) (rootOf p) (root-region R places tables sectors p w first I)
+
+  -- THE PATH that has slashes between them
+  pub path-finds : (e j : ℕ) (cs : List (List ℕ)) → Leads R p 0 cs e j → Finds R p w first (rootOf p) cs e j (pathOf w first (rootOf p) (joined cs))
+  path-finds e j cs l =
+      subst (Finds R p w first (rootOf p) cs e j) (sym (joined-path lookupAbsent w first (rootOf p) cs (all-parts 0 e j cs l))) (parts-find e j cs l)

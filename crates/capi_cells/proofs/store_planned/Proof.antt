@@ -1,0 +1,124 @@
+-- `store_planned` meets its contract: the number and the cells of each case.
+use mathlib.Core.Path.{refl, ap}
+use Rattle.read_entry.specs.Links.{isIn}
+use Rattle.img_model.specs.Plan as planning
+use Rattle.capi_cells.specs.Cells.{ofPlanned, ofDirectory}
+use Rattle.capi_cells.specs.Parts.{itself}
+use Rattle.capi_cells.proofs.Cells.{given-cell, given-kept, given-number, refused-bare, refused-cell, refused-number, refused-other, refused-value}
+use borrow.Author.Needs.{needs}
+use Rattle.capi_cells.proofs.store_planned.Statement.{statement}
+use Rattle.capi_cells.proofs.store_planned.Tie as tie
+
+enum-known-r : tie.Need-enum-known-r
+enum-known-r c = search needs
+
+number-requires : tie.Need-number-requires
+number-requires c κs = search needs
+
+enum-told : tie.Need-enum-told
+enum-told c = search needs
+
+enum-told-2 : tie.Need-enum-told-2
+enum-told-2 c = search needs
+
+enum-known-r-2 : tie.Need-enum-known-r-2
+enum-known-r-2 c = search needs
+
+enum-known-r-3 : tie.Need-enum-known-r-3
+enum-known-r-3 c = search needs
+
+enum-known-r-4 : tie.Need-enum-known-r-4
+enum-known-r-4 c = search needs
+
+enum-known-r-5 : tie.Need-enum-known-r-5
+enum-known-r-5 c = search needs
+
+enum-known-r-6 : tie.Need-enum-known-r-6
+enum-known-r-6 c = search needs
+
+enum-known-r-7 : tie.Need-enum-known-r-7
+enum-known-r-7 c = search needs
+
+enum-known-r-8 : tie.Need-enum-known-r-8
+enum-known-r-8 c = search needs
+
+enum-known-r-9 : tie.Need-enum-known-r-9
+enum-known-r-9 c = search needs
+
+enum-known-r-10 : tie.Need-enum-known-r-10
+enum-known-r-10 c = search needs
+
+returns : tie.Need-returns
+returns c = let e = ap planning.told (c .before .before .r .given .1) in (given-number e, (given-cell itself _ e (c .number .ensures), (given-kept ofPlanned _ e, given-kept ofDirectory _ e)))
+
+returns-2 : tie.Need-returns-2
+returns-2 c = let e = ap planning.told (c .enum-told .given .1) in (refused-number e, (refused-cell itself _ e, (refused-bare ofPlanned _ e, refused-bare ofDirectory _ e)))
+
+returns-3 : tie.Need-returns-3
+returns-3 c = let e = ap planning.told (c .enum-told2 .given .1) in (refused-number e, (refused-cell itself _ e, (refused-bare ofPlanned _ e, refused-bare ofDirectory _ e)))
+
+returns-4 : tie.Need-returns-4
+unfolding isIn
+returns-4 c = let e = ap planning.told (c .before .r2 .given .1) in (refused-number e, (refused-cell itself _ e, (refused-other ofPlanned _ e refl, refused-value ofDirectory _ e refl refl)))
+
+returns-5 : tie.Need-returns-5
+unfolding isIn
+returns-5 c = let e = ap planning.told (c .before .r3 .given .1) in (refused-number e, (refused-cell itself _ e, (refused-other ofPlanned _ e refl, refused-value ofDirectory _ e refl refl)))
+
+returns-6 : tie.Need-returns-6
+unfolding isIn
+returns-6 c = let e = ap planning.told (c .before .r4 .given .1) in (refused-number e, (refused-cell itself _ e, (refused-value ofPlanned _ e refl refl, refused-other ofDirectory _ e refl)))
+
+returns-7 : tie.Need-returns-7
+unfolding isIn
+returns-7 c = let e = ap planning.told (c .before .r5 .given .1) in (refused-number e, (refused-cell itself _ e, (refused-value ofPlanned _ e refl refl, refused-other ofDirectory _ e refl)))
+
+returns-8 : tie.Need-returns-8
+unfolding isIn
+returns-8 c = let e = ap planning.told (c .before .r6 .given .1) in (refused-number e, (refused-cell itself _ e, (refused-value ofPlanned _ e refl refl, refused-other ofDirectory _ e refl)))
+
+returns-9 : tie.Need-returns-9
+unfolding isIn
+returns-9 c = let e = ap planning.told (c .before .r7 .given .1) in (refused-number e, (refused-cell itself _ e, (refused-value ofPlanned _ e refl refl, refused-other ofDirectory _ e refl)))
+
+returns-10 : tie.Need-returns-10
+unfolding isIn
+returns-10 c = let e = ap planning.told (c .before .r8 .given .1) in (refused-number e, (refused-cell itself _ e, (refused-value ofPlanned _ e refl refl, refused-other ofDirectory _ e refl)))
+
+returns-11 : tie.Need-returns-11
+unfolding isIn
+returns-11 c = let e = ap planning.told (c .before .r9 .given .1) in (refused-number e, (refused-cell itself _ e, (refused-value ofPlanned _ e refl refl, refused-other ofDirectory _ e refl)))
+
+returns-12 : tie.Need-returns-12
+unfolding isIn
+returns-12 c = let e = ap planning.told (c .before .r10 .given .1) in (refused-number e, (refused-cell itself _ e, (refused-value ofPlanned _ e refl refl, refused-other ofDirectory _ e refl)))
+
+pub store-planned-spec : {M : Type 1} → statement M
+store-planned-spec =
+    tie.close
+    (tie.spec
+    enum-known-r
+    number-requires
+    enum-told
+    enum-told-2
+    enum-known-r-2
+    enum-known-r-3
+    enum-known-r-4
+    enum-known-r-5
+    enum-known-r-6
+    enum-known-r-7
+    enum-known-r-8
+    enum-known-r-9
+    enum-known-r-10
+    returns
+    returns-2
+    returns-3
+    returns-4
+    returns-5
+    returns-6
+    returns-7
+    returns-8
+    returns-9
+    returns-10
+    returns-11
+    returns-12)

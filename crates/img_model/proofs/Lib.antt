@@ -1,0 +1,6 @@
+-- Laws of the definitions of planning.
+pub mod Every
+pub mod Rule
+pub mod Trees
+pub mod Sizes
+pub mod Cases

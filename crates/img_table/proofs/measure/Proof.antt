@@ -1,0 +1,77 @@
+-- `measure` meets its contract. The loop's invariant: the first k entries end at e, and each takes at most 2,320 bytes with the gap before it. The measure is
+-- what is left of the order.
+use borrow.Author.Needs.{needs}
+use Prim.Native.Nat.{_*_, _-_, _≤_}
+use mathlib.Core.Path.{_≡_, refl}
+use native.Mathlib.Omega.{arith}
+use lib.ListN.{length, drop}
+use Rattle.dirtab_place.proofs.Turns.{in-at, short-at}
+use Rattle.img_table.specs.Arranging.{endAlong}
+use Rattle.img_table.proofs.Lengths.{no-size, end-next, end-last, end-most}
+use Rattle.img_table.proofs.measure.Statement.{statement}
+use Rattle.img_table.proofs.measure.Tie as tie
+
+abbrev Inv-loop : tie.InvT-loop
+Inv-loop order len e₀ k₀ e k = (k ≤ length order) × ((e ≤ 2320 * k) × (endAlong len 0 order ≡ endAlong len e (drop k order)))
+
+abbrev μ-loop : tie.MeasureT-loop
+μ-loop order len e₀ k₀ e k = length order - k
+
+returns : tie.Need-returns Inv-loop μ-loop
+returns c = search no-size
+
+loop-holds : tie.Need-loop-holds Inv-loop μ-loop
+loop-holds c = (omega arith, (omega arith, refl))
+
+mul-index-in : tie.Need-mul-index-in Inv-loop μ-loop
+mul-index-in c = search needs
+
+shared-slice-read-index-in : tie.Need-shared-slice-read-index-in Inv-loop μ-loop
+shared-slice-read-index-in c = search needs
+
+index-in-requires : tie.Need-index-in-requires Inv-loop μ-loop
+index-in-requires c κs = search needs
+
+mul-length-for : tie.Need-mul-length-for Inv-loop μ-loop
+mul-length-for c = search needs
+
+shared-slice-read-length-for : tie.Need-shared-slice-read-length-for Inv-loop μ-loop
+shared-slice-read-length-for c = search in-at
+
+length-for-requires : tie.Need-length-for-requires Inv-loop μ-loop
+length-for-requires c κs = search short-at
+
+stop-after-requires : tie.Need-stop-after-requires Inv-loop μ-loop
+stop-after-requires c κs = search needs
+
+add-k : tie.Need-add-k Inv-loop μ-loop
+add-k c = search needs
+
+loop-less : tie.Need-loop-less Inv-loop μ-loop
+loop-less c = search needs
+
+loop-again : tie.Need-loop-again Inv-loop μ-loop
+loop-again c = (search needs, (search end-most, search end-next))
+
+returns-2 : tie.Need-returns-2 Inv-loop μ-loop
+returns-2 c = search end-last
+
+pub measure-spec : {M : Type 1} → statement M
+measure-spec =
+    tie.close
+    (tie.spec
+    Inv-loop
+    μ-loop
+    returns
+    loop-holds
+    mul-index-in
+    shared-slice-read-index-in
+    index-in-requires
+    mul-length-for
+    shared-slice-read-length-for
+    length-for-requires
+    stop-after-requires
+    add-k
+    loop-less
+    loop-again
+    returns-2)

@@ -1,0 +1,207 @@
+// One table of an image: its entries' sizes, their tree, its preorder, and its reported size.
+use avl_order::preorder;
+use dirtab_grow::Built;
+use dirtab_grow::Cause;
+use dirtab_grow::build;
+use layout_node::entry_length;
+ghost use mathlib.Core.Path.{_≡_};
+ghost use mathlib.Core.List.{[]};
+ghost use Prim.Native.Nat.{ℕ, _+_, _≤_, _<_};
+ghost use mathlib.Core.Bool.{true};
+ghost use lib.Dec.{eqb};
+ghost use lib.ListN.{length, getD};
+ghost use Rattle.units.specs.Told.{pick};
+ghost use Rattle.layout_node.specs.Header.{entryLength};
+ghost use Rattle.table_model.specs.Place.{startAfter};
+ghost use Rattle.img_model.specs.Plan.{tableIn, sizeAt, treeIn};
+ghost use Rattle.img_table.specs.Arranging.{shareBy, fitting, sizeAlong, Fillable, Arrangeable, Measurable, Arrangement, Sizing};
+
+// What arranging a directory's entries answers: their preorder is there, or one of them is refused, by its number.
+pub enum Arranged {
+    Done,
+    // 1, 2, 3, 5, 4, 6: as adding.
+    Refused(Cause, u32),
+    // 10: a file's length exceeds 4,294,967,295.
+    FileTooLarge(u32),
+}
+
+// What sizing a directory's table answers: its reported size, or an entry that is refused, by its number.
+pub enum TableSized {
+    Done(u32),
+    Refused(Cause, u32),
+    FileTooLarge(u32),
+}
+
+// A number as an index.
+fn index_of(n: u64) -> usize
+    ensures { λ r. ⌜ r ≡ n ⌝ }
+{
+    n as usize
+}
+
+fn widen(n: u32) -> u64
+    ensures { λ r. ⌜ r ≡ n ⌝ }
+{
+    n as u64
+}
+
+// The size of an entry: a directory's is its table's.
+fn size_for(kind: u8, value: u64, sized: &[u32]) -> u64
+    requires { ⌜ (eqb kind 1 ≡ true → value < length (now sized)) ⌝ }
+    ensures { λ r. ⌜ r ≡ pick (eqb kind 1) (tableIn (now (sized .entry)) value) value ⌝ }
+{
+    if kind == 1 {
+        return widen(sized[index_of(value)]);
+    }
+    value
+}
+
+// The sizes of a directory's entries into the first places of a column, up to the first that four bytes do not hold: its number, or how many there are.
+pub fn fill_sizes(kind: &[u8], value: &[u64], sized: &[u32], size: &mut [u32]) -> u32
+    requires { ⌜ Fillable (shareBy [] [] (now kind) (now value) []) (length (now sized)) (length (now size)) ⌝ }
+    ensures answer { λ r. ⌜ r ≡ fitting (sizeAt (shareBy [] [] (now (kind .entry)) (now (value .entry)) []) (tableIn (now (sized .entry)))) (length (now (kind .entry))) 0 ⌝ }
+    ensures sizes { λ r. ⌜ ((i : ℕ) → i < r → getD (now (size .exit)) i 0 ≡ sizeAt (shareBy [] [] (now (kind .entry)) (now (value .entry)) []) (tableIn (now (sized .entry))) i) ⌝ }
+{
+    let mut i = 0;
+    while i < kind.len() {
+        let n = size_for(kind[i], value[i], sized);
+        if 4294967295 < n {
+            return i as u32;
+        }
+        size[i] = n as u32;
+        i += 1;
+    }
+    i as u32
+}
+
+// A directory's entries into a tree, and its preorder into `order`.
+fn arrange(
+    names: &[u8],
+    start: &[u32],
+    len: &[u32],
+    kind: &[u8],
+    value: &[u64],
+    sized: &[u32],
+    left: &mut [u16],
+    right: &mut [u16],
+    parent: &mut [u16],
+    height: &mut [u8],
+    key: &mut [u32],
+    size: &mut [u32],
+    order: &mut [u16],
+) -> Arranged
+    requires { ⌜ Arrangeable (shareBy (now start) (now len) (now kind) (now value) (now names)) (length (now sized)) (length (now left)) (length (now right)) (length (now parent)) (length (now height)) (length (now key)) (length (now size)) (length (now order)) ⌝ }
+    ensures { λ r. ⌜ Arrangement r (treeIn (shareBy (now (start .entry)) (now (len .entry)) (now (kind .entry)) (now (value .entry)) (now (names .entry))) (tableIn (now (sized .entry)))) (now (order .exit)) ⌝ }
+{
+    let count = fill_sizes(kind, value, sized, size);
+    let mut root: u16 = 65535;
+    match build(
+        count,
+        names,
+        start,
+        len,
+        size,
+        kind,
+        &mut root,
+        left,
+        right,
+        parent,
+        height,
+        key,
+    ) {
+        Built::Refused(cause, i) => Arranged::Refused(cause, i),
+        Built::Done => {
+            let n = count as usize;
+            if n < kind.len() {
+                return Arranged::FileTooLarge(count);
+            }
+            preorder(&left[..n], &right[..n], root, order);
+            Arranged::Done
+        }
+    }
+}
+
+// Where an entry of n bytes ends after what ends at e.
+fn stop_after(e: u32, n: u32) -> u32
+    requires { ⌜ (e ≤ 4294960000) × (n ≤ 272) ⌝ }
+    ensures { λ r. ⌜ r ≡ startAfter e n + n ⌝ }
+{
+    if e % 2048 + n <= 2048 {
+        return e + n;
+    }
+    (e + 2047) / 2048 * 2048 + n
+}
+
+// An entry's number as an index.
+fn index_in(i: u16) -> usize
+    ensures { λ r. ⌜ (r ≡ i) × (r < 65536) ⌝ }
+{
+    i as usize
+}
+
+// The length of an entry whose name has so many bytes.
+fn length_for(n: u32) -> u32
+    requires { ⌜ n ≤ 255 ⌝ }
+    ensures { λ r. ⌜ (r ≡ entryLength n) × (r ≤ 272) ⌝ }
+{
+    entry_length(n as u8)
+}
+
+// The reported size of a table with entries in this order: the last end, or 2,048 for an empty one.
+fn measure(order: &[u16], len: &[u32]) -> u32
+    requires { ⌜ Measurable (now order) (now len) ⌝ }
+    ensures { λ r. ⌜ r ≡ sizeAlong (now (len .entry)) (now (order .entry)) ⌝ }
+{
+    if order.len() == 0 {
+        return 2048;
+    }
+    let mut e: u32 = 0;
+    let mut k: usize = 0;
+    while k < order.len() {
+        let i = index_in(order[k]);
+        let n = length_for(len[i]);
+        e = stop_after(e, n);
+        k += 1;
+    }
+    e
+}
+
+// The size of a directory's table, and its preorder into `order`.
+pub fn size_table(
+    names: &[u8],
+    start: &[u32],
+    len: &[u32],
+    kind: &[u8],
+    value: &[u64],
+    sized: &[u32],
+    left: &mut [u16],
+    right: &mut [u16],
+    parent: &mut [u16],
+    height: &mut [u8],
+    key: &mut [u32],
+    size: &mut [u32],
+    order: &mut [u16],
+) -> TableSized
+    requires { ⌜ Arrangeable (shareBy (now start) (now len) (now kind) (now value) (now names)) (length (now sized)) (length (now left)) (length (now right)) (length (now parent)) (length (now height)) (length (now key)) (length (now size)) (length (now order)) ⌝ }
+    ensures { λ r. ⌜ Sizing r (shareBy (now (start .entry)) (now (len .entry)) (now (kind .entry)) (now (value .entry)) (now (names .entry))) (tableIn (now (sized .entry))) (now (order .exit)) ⌝ }
+{
+    match arrange(
+        names,
+        start,
+        len,
+        kind,
+        value,
+        sized,
+        left,
+        right,
+        parent,
+        height,
+        key,
+        size,
+        order,
+    ) {
+        Arranged::Refused(cause, i) => TableSized::Refused(cause, i),
+        Arranged::FileTooLarge(i) => TableSized::FileTooLarge(i),
+        Arranged::Done => TableSized::Done(measure(order, len)),
+    }
+}

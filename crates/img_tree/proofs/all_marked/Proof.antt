@@ -1,0 +1,57 @@
+-- `img_tree::all_marked` meets its contract. The loop's invariant: each directory before x, but the root, is marked. The measure is what is left of the marks.
+use Prim.Native.Nat.{_-_, _<_}
+use native.Mathlib.Omega.{arith}
+use mathlib.Core.Path.{_≡_}
+use mathlib.Core.Bool.{true}
+use lib.ListN.{length}
+use Rattle.img_model.specs.Shares.{every}
+use Rattle.img_tree.specs.Marks.{isNamed}
+use Rattle.img_tree.proofs.Named.{root-passes, unnamed, one-named, all-named}
+use borrow.Author.Needs.{needs}
+use Rattle.img_tree.proofs.all_marked.Statement.{statement}
+use Rattle.img_tree.proofs.all_marked.Tie as tie
+
+abbrev Inv-loop : tie.InvT-loop
+Inv-loop named x₀ x = (0 < x) × (every (isNamed named) x ≡ true)
+
+abbrev μ-loop : tie.MeasureT-loop
+μ-loop named x₀ x = length named - x
+
+loop-holds : tie.Need-loop-holds Inv-loop μ-loop
+loop-holds c = (omega arith, search root-passes)
+
+mul-if1 : tie.Need-mul-if1 Inv-loop μ-loop
+mul-if1 c = search needs
+
+shared-slice-read-if1 : tie.Need-shared-slice-read-if1 Inv-loop μ-loop
+shared-slice-read-if1 c = search needs
+
+returns : tie.Need-returns Inv-loop μ-loop
+returns c = let k = c .before .before .before in unnamed (k .before .args .named .now) (k .loop .x) (omega arith) (search needs) (λ e. omega arith)
+
+add-x : tie.Need-add-x Inv-loop μ-loop
+add-x c = search needs
+
+loop-less : tie.Need-loop-less Inv-loop μ-loop
+loop-less c = search needs
+
+loop-again : tie.Need-loop-again Inv-loop μ-loop
+loop-again c = (omega arith, search one-named)
+
+returns-2 : tie.Need-returns-2 Inv-loop μ-loop
+returns-2 c = search all-named
+
+pub all-marked-spec : {M : Type 1} → statement M
+all-marked-spec =
+    tie.close
+    (tie.spec
+    Inv-loop
+    μ-loop
+    loop-holds
+    mul-if1
+    shared-slice-read-if1
+    returns
+    add-x
+    loop-less
+    loop-again
+    returns-2)

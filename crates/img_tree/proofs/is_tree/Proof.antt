@@ -1,0 +1,87 @@
+-- `img_tree::is_tree` meets its contract. The loop's invariant is `Sofar` of proofs/Whole.antt: the entries of the directories below d are marked.
+use Prim.Native.Nat.{_-_, _≤_, _<_}
+use native.Mathlib.Omega.{arith}
+use mathlib.Core.Path.{_≡_}
+use lib.ListN.{length}
+use Rattle.img_tree.specs.Marks.{shares}
+use Rattle.img_tree.proofs.Whole.{Sofar, unmarked, no-directory, clean, onwards, refused, all-done}
+use borrow.Author.Needs.{needs}
+use Rattle.img_tree.proofs.is_tree.Statement.{statement}
+use Rattle.img_tree.proofs.is_tree.Tie as tie
+
+abbrev Inv-loop : tie.InvT-loop
+Inv-loop first share kind value named₀ d₀ named d = (0 < length first) × (d ≤ length first) × (length share ≡ length first) × (length value ≡ length kind) × Sofar (shares first share kind value) d named
+
+abbrev μ-loop : tie.MeasureT-loop
+μ-loop first share kind value named₀ d₀ named d = length first - d
+
+returns : tie.Need-returns Inv-loop μ-loop
+returns c = search no-directory
+
+clear-marks-requires : tie.Need-clear-marks-requires Inv-loop μ-loop
+clear-marks-requires c κs = search needs
+
+loop-holds : tie.Need-loop-holds Inv-loop μ-loop
+loop-holds c = (search needs, omega arith, search needs, search needs, search unmarked)
+
+mul-mark-directory : tie.Need-mul-mark-directory Inv-loop μ-loop
+mul-mark-directory c = search needs
+
+shared-slice-read-mark-directory : tie.Need-shared-slice-read-mark-directory Inv-loop μ-loop
+shared-slice-read-mark-directory c = search needs
+
+mul-mark-directory-2 : tie.Need-mul-mark-directory-2 Inv-loop μ-loop
+mul-mark-directory-2 c = search needs
+
+shared-slice-read-mark-directory-2 : tie.Need-shared-slice-read-mark-directory-2 Inv-loop μ-loop
+shared-slice-read-mark-directory-2 c = search needs
+
+mark-directory-requires : tie.Need-mark-directory-requires Inv-loop μ-loop
+mark-directory-requires c κs = (search needs, search clean)
+
+same-length : tie.Need-same-length Inv-loop μ-loop
+same-length c = search needs
+
+returns-2 : tie.Need-returns-2 Inv-loop μ-loop
+returns-2 c = search refused
+
+add-d : tie.Need-add-d Inv-loop μ-loop
+add-d c = search needs
+
+loop-less : tie.Need-loop-less Inv-loop μ-loop
+loop-less c = search needs
+
+loop-again : tie.Need-loop-again Inv-loop μ-loop
+loop-again c = (search needs, omega arith, search needs, search needs, search onwards)
+
+all-marked-requires : tie.Need-all-marked-requires Inv-loop μ-loop
+all-marked-requires c κs = search needs
+
+same-length-2 : tie.Need-same-length-2 Inv-loop μ-loop
+same-length-2 c = search needs
+
+returns-3 : tie.Need-returns-3 Inv-loop μ-loop
+returns-3 c = search all-done
+
+pub is-tree-spec : {M : Type 1} → statement M
+is-tree-spec =
+    tie.close
+    (tie.spec
+    Inv-loop
+    μ-loop
+    returns
+    clear-marks-requires
+    loop-holds
+    mul-mark-directory
+    shared-slice-read-mark-directory
+    mul-mark-directory-2
+    shared-slice-read-mark-directory-2
+    mark-directory-requires
+    same-length
+    returns-2
+    add-d
+    loop-less
+    loop-again
+    all-marked-requires
+    same-length-2
+    returns-3)

@@ -1,0 +1,106 @@
+// Whether the directories of an image are a tree.
+ghost use mathlib.Core.Path.{_≡_};
+ghost use mathlib.Core.Bool.{true};
+ghost use lib.ListN.{length, replicate};
+ghost use Rattle.img_model.specs.Shares.{every, part, isTree};
+ghost use Rattle.img_tree.specs.Marks.{shares, Even, entries, isFree, markedAt, isEntryFree, entryMarked, Marks, isMarkable, Marked, isPartMarkable, isNamed};
+
+// No mark anywhere.
+fn clear_marks(named: &mut [u32])
+    ensures { λ _. ⌜ now (named .exit) ≡ replicate (length (now (named .entry))) 0 ⌝ }
+{
+    let mut x = 0;
+    while x < named.len() {
+        named[x] = 0;
+        x += 1;
+    }
+}
+
+// Marks the directory x, which an entry of directory d names: false where it is d, an earlier one or none, or is marked.
+fn mark(d: usize, x: u64, named: &mut [u32]) -> bool
+    ensures { λ r. ⌜ (r ≡ isFree (now (named .entry)) d x) × (now (named .exit) ≡ markedAt (now (named .entry)) d x) ⌝ }
+{
+    if x <= (d as u64) {
+        return false;
+    }
+    if (named.len() as u64) <= x {
+        return false;
+    }
+    let at = x as usize;
+    if named[at] != 0 {
+        return false;
+    }
+    named[at] = 1;
+    true
+}
+
+// The same for any entry of directory d: a file names none.
+fn mark_entry(d: usize, kind: u8, value: u64, named: &mut [u32]) -> bool
+    ensures { λ r. ⌜ (r ≡ isEntryFree (now (named .entry)) d kind value) × (now (named .exit) ≡ entryMarked (now (named .entry)) d kind value) ⌝ }
+{
+    if kind == 1 {
+        return mark(d, value, named);
+    }
+    true
+}
+
+// Marks the directories that the entries of directory d name.
+fn mark_share(d: usize, kind: &[u8], value: &[u64], named: &mut [u32]) -> bool
+    requires { ⌜ (length (now value) ≡ length (now kind)) × Marks (now named) ⌝ }
+    ensures { λ r. ⌜ (r ≡ isMarkable (now (named .entry)) d (entries (length (now (kind .entry))) (now (kind .entry)) (now (value .entry)))) × (r ≡ true → Marked (now (named .entry)) (entries (length (now (kind .entry))) (now (kind .entry)) (now (value .entry))) (now (named .exit))) ⌝ }
+{
+    let mut i = 0;
+    while i < kind.len() {
+        if !mark_entry(d, kind[i], value[i], named) {
+            return false;
+        }
+        i += 1;
+    }
+    true
+}
+
+// The same for n entries from the place f on: false where they reach past the list.
+fn mark_directory(d: usize, f: u32, n: u32, kind: &[u8], value: &[u64], named: &mut [u32]) -> bool
+    requires { ⌜ (length (now value) ≡ length (now kind)) × Marks (now named) ⌝ }
+    ensures { λ r. ⌜ (r ≡ isPartMarkable (now (named .entry)) d f n (now (kind .entry)) (now (value .entry))) × (r ≡ true → Marked (now (named .entry)) (entries n (part f n (now (kind .entry))) (part f n (now (value .entry)))) (now (named .exit))) ⌝ }
+{
+    let from = f as usize;
+    let to = from + (n as usize);
+    if kind.len() < to {
+        return false;
+    }
+    mark_share(d, &kind[from..to], &value[from..to], named)
+}
+
+// Every directory but the root is marked.
+fn all_marked(named: &[u32]) -> bool
+    ensures { λ r. ⌜ r ≡ every (isNamed (now (named .entry))) (length (now (named .entry))) ⌝ }
+{
+    let mut x = 1;
+    while x < named.len() {
+        if named[x] != 1 {
+            return false;
+        }
+        x += 1;
+    }
+    true
+}
+
+// There is a directory, every share lies in the list, and every directory but the root is named exactly once, by an earlier one. `named` is scratch.
+pub fn is_tree(first: &[u32], share: &[u32], kind: &[u8], value: &[u64], named: &mut [u32]) -> bool
+    requires { ⌜ Even (shares (now first) (now share) (now kind) (now value)) (length (now named)) ⌝ }
+    ensures { λ r. ⌜ r ≡ isTree (shares (now (first .entry)) (now (share .entry)) (now (kind .entry)) (now (value .entry))) ⌝ }
+{
+    if first.len() == 0 {
+        return false;
+    }
+    clear_marks(named);
+    let mut d: usize = 0;
+    while d < first.len() {
+        if !mark_directory(d, first[d], share[d], kind, value, named) {
+            return false;
+        }
+        d += 1;
+    }
+    all_marked(named)
+}
