@@ -1,6 +1,7 @@
-//! Three readers behind one set of answers: `ours` (this repository's proved code), `theirs` (the Rust original) and `plain` (written from
-//! document 01 for this harness alone, to know beforehand where the Rust would never return).
+//! Readers and writers three times behind one set of answers: `ours` (this repository's proved code), `theirs` (the Rust original) and `plain` (written from
+//! document 01 for this harness alone, to know beforehand where the Rust would never return or cannot be asked).
 pub mod inputs;
+pub mod lists;
 pub mod ours;
 pub mod plain;
 pub mod theirs;
@@ -59,4 +60,37 @@ impl Said {
             _ => false,
         }
     }
+}
+
+/// An entry to be written. A name is any bytes, so that refused ones can be asked for too.
+#[derive(Clone, Debug, PartialEq, Eq)]
+pub struct New {
+    pub name: Vec<u8>,
+    pub size: u32,
+    pub directory: bool,
+}
+
+/// A table to be written: its list, the first sector that its entries take, the length of the output and, where entries are added in turn, the places of the arena.
+#[derive(Clone, Debug, PartialEq, Eq)]
+pub struct Job {
+    pub list: Vec<New>,
+    pub first: u32,
+    pub room: usize,
+    pub places: usize,
+}
+
+/// A writer's answer. The bytes are those up to the size rounded up to sectors; the entry is the refused one's number in the list.
+#[derive(Clone, Debug, PartialEq, Eq)]
+pub enum Wrote {
+    Done { size: u32, next: u32, bytes: Vec<u8> },
+    Refused { number: u32, entry: Option<u32> },
+}
+
+/// What adding in turn answers: a number for each entry, the table of those that were taken, and where it is told the tree: its root, and of each node left, right, parent
+/// and height.
+#[derive(Clone, Debug, PartialEq, Eq)]
+pub struct Turns {
+    pub numbers: Vec<u32>,
+    pub end: Wrote,
+    pub tree: Option<(u16, Vec<[u16; 4]>)>,
 }

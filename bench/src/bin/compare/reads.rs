@@ -1,15 +1,7 @@
-//! compare [ROUNDS]: this repository's readers, the Rust's, and the plain ones, on the same windows. Prints counts, each difference that is not one of those listed, and
-//! ends with exit status 1 where there is one.
+//! The readers on the same windows.
+use crate::tally::Tally;
 use bench::inputs::{damage, image, name, names, noise, shortest_names, written, Dice, Folder};
 use bench::{ours, plain, theirs, Said, Table, View};
-use std::collections::BTreeMap;
-
-#[derive(Default)]
-struct Tally {
-    counts: BTreeMap<(String, String), u64>,
-    asked: u64,
-    wrong: u64,
-}
 
 fn kind(said: &Said) -> String {
     match said {
@@ -21,17 +13,6 @@ fn kind(said: &Said) -> String {
 }
 
 impl Tally {
-    fn count(&mut self, what: &str, how: String) {
-        *self.counts.entry((what.into(), how)).or_default() += 1;
-    }
-
-    fn wrong(&mut self, what: &str, text: String) {
-        self.wrong += 1;
-        if self.wrong <= 20 {
-            println!("DIFFERS {what}: {text}");
-        }
-    }
-
     /// Ours, the Rust's (None where it is not asked), and the plain answer.
     fn judge(&mut self, what: &str, v: View, t: Table, asked: &[u8], a: Said, b: Option<Said>, c: Said) {
         self.asked += b.is_some() as u64;
@@ -380,24 +361,14 @@ fn high_bytes(tally: &mut Tally, dice: &mut Dice) {
     }
 }
 
-fn main() {
-    std::panic::set_hook(Box::new(|_| {}));
-    let rounds: usize = std::env::args().nth(1).map_or(1, |word| word.parse().expect("a number"));
-    let (mut tally, mut dice) = (Tally::default(), Dice(2024));
-    written_tables(&mut tally, &mut dice, 300 * rounds);
-    damaged_tables(&mut tally, &mut dice, 20_000 * rounds);
-    random_windows(&mut tally, &mut dice, 100_000 * rounds);
-    small_tables(&mut tally);
-    edges(&mut tally);
-    long_chains(&mut tally);
-    images(&mut tally, &mut dice, 2_000 * rounds);
-    descriptors(&mut tally, &mut dice, 20_000 * rounds);
-    high_bytes(&mut tally, &mut dice);
-    let mut all = 0;
-    for ((what, how), count) in &tally.counts {
-        println!("{what}: {how}: {count}");
-        all += count;
-    }
-    println!("{all} answers compared, {} of them with the Rust, {} differ", tally.asked, tally.wrong);
-    std::process::exit((tally.wrong > 0) as i32);
+pub fn all(tally: &mut Tally, dice: &mut Dice, rounds: usize) {
+    written_tables(tally, dice, 300 * rounds);
+    damaged_tables(tally, dice, 20_000 * rounds);
+    random_windows(tally, dice, 100_000 * rounds);
+    small_tables(tally);
+    edges(tally);
+    long_chains(tally);
+    images(tally, dice, 2_000 * rounds);
+    descriptors(tally, dice, 20_000 * rounds);
+    high_bytes(tally, dice);
 }

@@ -1,0 +1,32 @@
+//! compare [WHAT [ROUNDS [SEED]]]: this repository's code, the Rust's, and the plain code, on the same inputs. WHAT is `reads`, `tables` or `all`. Prints the seed, counts,
+//! each difference that is not one of those listed, shrunk where it is a list's, and ends with exit status 1 where there is one.
+mod reads;
+mod tables;
+mod tally;
+
+use bench::inputs::Dice;
+use tally::Tally;
+
+fn main() {
+    bench::theirs::hear_panics();
+    let words: Vec<String> = std::env::args().skip(1).collect();
+    let number = |at: usize, or: u64| words.get(at).map_or(or, |word| word.parse().expect("a number"));
+    let (what, rounds, seed) = (words.first().map_or("all", |word| word), number(1, 1) as usize, number(2, 2024));
+    assert!(["all", "reads", "tables"].contains(&what), "reads, tables or all");
+    println!("seed {seed}");
+    let mut tally = Tally::default();
+    if what != "tables" {
+        reads::all(&mut tally, &mut Dice(seed), rounds);
+    }
+    if what != "reads" {
+        tables::all(&mut tally, &mut Dice(seed), rounds);
+    }
+    let mut all = 0;
+    for ((what, how), count) in &tally.counts {
+        println!("{what}: {how}: {count}");
+        all += count;
+    }
+    println!("{} tables written or refused", tally.tables);
+    println!("{all} answers compared, {} of them with the Rust, {} differ", tally.asked, tally.wrong);
+    std::process::exit((tally.wrong > 0) as i32);
+}
