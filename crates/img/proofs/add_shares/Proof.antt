@@ -1,0 +1,56 @@
+-- `add_shares` meets its contract. The invariant: the first d shares are added up. The measure is what is left.
+use Prim.Native.Nat.{_-_}
+use borrow.Author.Needs.{needs}
+use lib.ListN.{length}
+use Rattle.img.proofs.Adding.{Added, none-added, one-added, all-added}
+use Rattle.img.proofs.add_shares.Statement.{statement}
+use Rattle.img.proofs.add_shares.Tie as tie
+
+abbrev Inv-loop : tie.InvT-loop
+Inv-loop share sum₀ d₀ sum d = Added share d sum
+
+abbrev μ-loop : tie.MeasureT-loop
+μ-loop share sum₀ d₀ sum d = length share - d
+
+loop-holds : tie.Need-loop-holds Inv-loop μ-loop
+loop-holds c = none-added _
+
+mul-widen : tie.Need-mul-widen Inv-loop μ-loop
+mul-widen c = search needs
+
+shared-slice-read-widen : tie.Need-shared-slice-read-widen Inv-loop μ-loop
+shared-slice-read-widen c = search needs
+
+widen-requires : tie.Need-widen-requires Inv-loop μ-loop
+widen-requires c κs = search needs
+
+add-sum : tie.Need-add-sum Inv-loop μ-loop
+add-sum c = search needs
+
+add-d : tie.Need-add-d Inv-loop μ-loop
+add-d c = search needs
+
+loop-less : tie.Need-loop-less Inv-loop μ-loop
+loop-less c = search needs
+
+loop-again : tie.Need-loop-again Inv-loop μ-loop
+loop-again c = search one-added
+
+returns : tie.Need-returns Inv-loop μ-loop
+returns c = search all-added
+
+pub add-shares-spec : {M : Type 1} → statement M
+add-shares-spec =
+    tie.close
+    (tie.spec
+    Inv-loop
+    μ-loop
+    loop-holds
+    mul-widen
+    shared-slice-read-widen
+    widen-requires
+    add-sum
+    add-d
+    loop-less
+    loop-again
+    returns)

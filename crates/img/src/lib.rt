@@ -1,0 +1,472 @@
+// An image is planned over its directories: the size and the sector of each table, and the sector of each entry.
+use dirtab::clear;
+use dirtab_grow::Cause;
+use dirtab_list::clear_bytes;
+use dirtab_list::clear_words;
+use img_model::Planned;
+use img_size::size_tables;
+use img_table::Arranged;
+use img_take::Fitting;
+use img_take::check_tables;
+use img_take::take_tables;
+use img_tree::is_tree;
+ghost use mathlib.Core.Path.{_≡_};
+ghost use mathlib.Core.Bool.{true, _&&_};
+ghost use mathlib.Core.List.{[], _∷_};
+ghost use Prim.Native.Nat.{_≤_, _<_, min};
+ghost use lib.Dec.{leb};
+ghost use lib.ListN.{length, take, replicate};
+ghost use Rattle.units.specs.Told.{refuses};
+ghost use Rattle.dirtab_grow.specs.Growing.{numberOf};
+ghost use Rattle.img_model.specs.Shares.{columns, isTree};
+ghost use Rattle.img_model.specs.Plan.{told, total, takingUp, rooted, planOf};
+ghost use Rattle.img_take.specs.Forward.{Sized, requestOf};
+ghost use Rattle.img.specs.Image.{asked, lent, fits, imageOf, answerOf, lentAfter};
+ghost use Rattle.img.specs.Steps.{Exact, Wide, HandedOut, PlannedBy, Cut, PlannedIn};
+
+// A count of four bytes as an index.
+fn widen(n: u32) -> usize
+    ensures { λ r. ⌜ (r ≡ n) × (r < 4294967296) ⌝ }
+{
+    n as usize
+}
+
+// The lesser of two lengths.
+fn least(a: usize, b: usize) -> usize
+    ensures { λ r. ⌜ r ≡ min a b ⌝ }
+{
+    if a <= b { a } else { b }
+}
+
+// Each share, as far as the entries go, has its places in columns of n.
+fn fit_shares(share: &[u32], entries: usize, n: usize) -> bool
+    ensures { λ r. ⌜ r ≡ fits n entries (now (share .entry)) ⌝ }
+{
+    let mut d = 0;
+    while d < share.len() {
+        if n < least(widen(share[d]), entries) {
+            return false;
+        }
+        d += 1;
+    }
+    true
+}
+
+// How many entries the shares have together.
+fn add_shares(share: &[u32]) -> u64
+    requires { ⌜ length (now share) ≤ 4294967295 ⌝ }
+    ensures { λ r. ⌜ r ≡ total (now (share .entry)) ⌝ }
+{
+    let mut sum: u64 = 0;
+    let mut d = 0;
+    while d < share.len() {
+        sum += widen(share[d]) as u64;
+        d += 1;
+    }
+    sum
+}
+
+// The answer for an entry that is refused.
+fn refuse(cause: Cause, j: u32) -> Planned
+    ensures { λ r. ⌜ told r ≡ refuses (numberOf cause) (j ∷ []) ⌝ }
+{
+    match cause {
+        Cause::EmptyName => Planned::EmptyName(j),
+        Cause::BadByte => Planned::BadByte(j),
+        Cause::NameTooLong => Planned::NameTooLong(j),
+        Cause::SizeOverflow => Planned::SizeOverflow(j),
+        Cause::DuplicateFileName => Planned::DuplicateFileName(j),
+        Cause::Room => Planned::EntryRoom(j),
+    }
+}
+
+// One column into another.
+fn copy_words(from: &[u32], to: &mut [u32])
+    requires { ⌜ length (now to) ≡ length (now from) ⌝ }
+    ensures { λ _. ⌜ now (to .exit) ≡ now (from .entry) ⌝ }
+{
+    let mut i = 0;
+    while i < from.len() {
+        to[i] = from[i];
+        i += 1;
+    }
+}
+
+// Where all tables are sized: 7 and 8, and where neither is met every size and sector is given back.
+fn hand_out(
+    first: &[u32],
+    share: &[u32],
+    kind: &[u8],
+    value: &[u64],
+    sized: &[u32],
+    order: &[u16],
+    size: &mut [u32],
+    end: usize,
+    sizes: &mut [u32],
+    tables: &mut [u32],
+    sectors: &mut [u32],
+) -> Planned
+    requires { ⌜ Sized (now first) (now share) (now kind) (now value) (now sized) (now order) (length (now size)) × (end ≡ total (now share)) ⌝ }
+    requires { ⌜ (length (now sizes) ≡ length (now first)) × ((length (now tables) ≡ length (now first)) × (length (now sectors) ≡ length (now kind))) ⌝ }
+    ensures { λ r. ⌜ ((w : Sized (now (first .entry)) (now (share .entry)) (now (kind .entry)) (now (value .entry)) (now (sized .entry)) (now (order .entry)) (length (now (size .entry)))) →
+        HandedOut r (now (sized .entry)) (takingUp (requestOf w) (now (sized .entry)) (length (now (first .entry))) 0 (rooted (requestOf w) (now (sized .entry)) (now (tables .entry)) (now (sectors .entry))))
+        (now (sizes .entry)) (now (sizes .exit)) (now (tables .entry)) (now (tables .exit)) (now (sectors .entry)) (now (sectors .exit))) ⌝ }
+{
+    match check_tables(first, share, kind, value, sized, order, size, end) {
+        Fitting::TooManyDirectoryEntries(d) => Planned::TooManyDirectoryEntries(d),
+        Fitting::SectorOverflow(d) => Planned::SectorOverflow(d),
+        Fitting::Free(free) => {
+            copy_words(sized, sizes);
+            take_tables(
+                first,
+                share,
+                kind,
+                value,
+                sized,
+                order,
+                size,
+                end,
+                tables,
+                sectors,
+            );
+            Planned::Done(free)
+        }
+    }
+}
+
+// The plan where the directories are a tree, over columns that are just as long as they are counted.
+fn plan_tree(
+    first: &[u32],
+    share: &[u32],
+    names: &[u8],
+    start: &[u32],
+    len: &[u32],
+    kind: &[u8],
+    value: &[u64],
+    sized: &mut [u32],
+    left: &mut [u16],
+    right: &mut [u16],
+    parent: &mut [u16],
+    height: &mut [u8],
+    key: &mut [u32],
+    size: &mut [u32],
+    order: &mut [u16],
+    sizes: &mut [u32],
+    tables: &mut [u32],
+    sectors: &mut [u32],
+) -> Planned
+    requires { ⌜ isTree (columns (now first) (now share) (now start) (now len) (now kind) (now value) (now names)) ≡ true ⌝ }
+    requires { ⌜ Exact (columns (now first) (now share) (now start) (now len) (now kind) (now value) (now names)) (length (now sized)) (length (now sizes)) (length (now tables)) (length (now sectors)) ⌝ }
+    requires { ⌜ Wide (columns (now first) (now share) (now start) (now len) (now kind) (now value) (now names)) (length (now left)) (length (now right)) (length (now parent)) (length (now height)) (length (now key)) (length (now size)) ⌝ }
+    ensures { λ r. ⌜ PlannedBy r (planOf (columns (now (first .entry)) (now (share .entry)) (now (start .entry)) (now (len .entry)) (now (kind .entry)) (now (value .entry)) (now (names .entry))) (length (now (order .entry))) (now (tables .entry)) (now (sectors .entry)))
+        (now (sizes .entry)) (now (sizes .exit)) (now (tables .entry)) (now (tables .exit)) (now (sectors .entry)) (now (sectors .exit)) ⌝ }
+{
+    let end = add_shares(share);
+    if (order.len() as u64) < end {
+        return Planned::Room;
+    }
+    match size_tables(
+        first,
+        share,
+        names,
+        start,
+        len,
+        kind,
+        value,
+        sized,
+        left,
+        right,
+        parent,
+        height,
+        key,
+        size,
+        order,
+    ) {
+        Arranged::Refused(cause, j) => refuse(cause, j),
+        Arranged::FileTooLarge(j) => Planned::FileTooLarge(j),
+        Arranged::Done => hand_out(
+            first,
+            share,
+            kind,
+            value,
+            sized,
+            order,
+            size,
+            end as usize,
+            sizes,
+            tables,
+            sectors,
+        ),
+    }
+}
+
+// The plan over columns that are just as long as they are counted.
+fn plan_counted(
+    first: &[u32],
+    share: &[u32],
+    names: &[u8],
+    start: &[u32],
+    len: &[u32],
+    kind: &[u8],
+    value: &[u64],
+    sized: &mut [u32],
+    left: &mut [u16],
+    right: &mut [u16],
+    parent: &mut [u16],
+    height: &mut [u8],
+    key: &mut [u32],
+    size: &mut [u32],
+    order: &mut [u16],
+    sizes: &mut [u32],
+    tables: &mut [u32],
+    sectors: &mut [u32],
+) -> Planned
+    requires { ⌜ Exact (columns (now first) (now share) (now start) (now len) (now kind) (now value) (now names)) (length (now sized)) (length (now sizes)) (length (now tables)) (length (now sectors)) ⌝ }
+    requires { ⌜ Wide (columns (now first) (now share) (now start) (now len) (now kind) (now value) (now names)) (length (now left)) (length (now right)) (length (now parent)) (length (now height)) (length (now key)) (length (now size)) ⌝ }
+    ensures { λ r. ⌜ PlannedBy r (planOf (columns (now (first .entry)) (now (share .entry)) (now (start .entry)) (now (len .entry)) (now (kind .entry)) (now (value .entry)) (now (names .entry))) (length (now (order .entry))) (now (tables .entry)) (now (sectors .entry)))
+        (now (sizes .entry)) (now (sizes .exit)) (now (tables .entry)) (now (tables .exit)) (now (sectors .entry)) (now (sectors .exit)) ⌝ }
+{
+    if is_tree(first, share, kind, value, sized) {
+        return plan_tree(
+            first,
+            share,
+            names,
+            start,
+            len,
+            kind,
+            value,
+            sized,
+            left,
+            right,
+            parent,
+            height,
+            key,
+            size,
+            order,
+            sizes,
+            tables,
+            sectors,
+        );
+    }
+    Planned::BadTree
+}
+
+// The plan over the columns as far as the counts go. What it leaves in the scratch is not cleared.
+fn plan_cut(
+    directories: usize,
+    entries: usize,
+    first: &[u32],
+    share: &[u32],
+    start: &[u32],
+    len: &[u32],
+    kind: &[u8],
+    value: &[u64],
+    names: &[u8],
+    sizes: &mut [u32],
+    tables: &mut [u32],
+    sectors: &mut [u32],
+    sized: &mut [u32],
+    left: &mut [u16],
+    right: &mut [u16],
+    parent: &mut [u16],
+    height: &mut [u8],
+    key: &mut [u32],
+    size: &mut [u32],
+    order: &mut [u16],
+) -> Planned
+    requires { ⌜ Cut (asked directories entries (now first) (now share) (now start) (now len) (now kind) (now value) (now names)) (lent (now sizes) (now tables) (now sectors) (now sized) (now left) (now right) (now parent) (now height) (now key) (now size) (now order)) ⌝ }
+    ensures { λ r. ⌜ PlannedIn r (asked directories entries (now (first .entry)) (now (share .entry)) (now (start .entry)) (now (len .entry)) (now (kind .entry)) (now (value .entry)) (now (names .entry)))
+        (lent (now (sizes .entry)) (now (tables .entry)) (now (sectors .entry)) (now (sized .entry)) (now (left .entry)) (now (right .entry)) (now (parent .entry)) (now (height .entry)) (now (key .entry)) (now (size .entry)) (now (order .entry)))
+        (now (sizes .exit)) (now (tables .exit)) (now (sectors .exit)) ⌝ }
+{
+    plan_counted(
+        &first[..directories],
+        &share[..directories],
+        names,
+        &start[..entries],
+        &len[..entries],
+        &kind[..entries],
+        &value[..entries],
+        &mut sized[..directories],
+        left,
+        right,
+        parent,
+        height,
+        key,
+        size,
+        order,
+        &mut sizes[..directories],
+        &mut tables[..directories],
+        &mut sectors[..entries],
+    )
+}
+
+// The columns of links and heights, zero everywhere.
+fn clear_links(left: &mut [u16], right: &mut [u16], parent: &mut [u16], height: &mut [u8])
+    ensures { λ _. ⌜ ((now (left .exit) ≡ replicate (length (now (left .entry))) 0) × (now (right .exit) ≡ replicate (length (now (right .entry))) 0)) × ((now (parent .exit) ≡ replicate (length (now (parent .entry))) 0) × (now (height .exit) ≡ replicate (length (now (height .entry))) 0)) ⌝ }
+{
+    clear(left);
+    clear(right);
+    clear(parent);
+    clear_bytes(height);
+}
+
+// The other columns of scratch, zero everywhere.
+fn clear_rest(sized: &mut [u32], key: &mut [u32], size: &mut [u32], order: &mut [u16])
+    ensures { λ _. ⌜ ((now (sized .exit) ≡ replicate (length (now (sized .entry))) 0) × (now (key .exit) ≡ replicate (length (now (key .entry))) 0)) × ((now (size .exit) ≡ replicate (length (now (size .entry))) 0) × (now (order .exit) ≡ replicate (length (now (order .entry))) 0)) ⌝ }
+{
+    clear_words(sized);
+    clear_words(key);
+    clear_words(size);
+    clear(order);
+}
+
+// The length of the shortest column that has a place for each directory.
+fn measure_directories(
+    first: &[u32],
+    share: &[u32],
+    sizes: &[u32],
+    tables: &[u32],
+    sized: &[u32],
+) -> usize
+    ensures { λ r. ⌜ r ≡ min (length (now (first .entry))) (min (length (now (share .entry))) (min (length (now (sizes .entry))) (min (length (now (tables .entry))) (length (now (sized .entry)))))) ⌝ }
+{
+    least(
+        first.len(),
+        least(
+            share.len(),
+            least(sizes.len(), least(tables.len(), sized.len())),
+        ),
+    )
+}
+
+// The same for each entry.
+fn measure_entries(
+    start: &[u32],
+    len: &[u32],
+    kind: &[u8],
+    value: &[u64],
+    sectors: &[u32],
+    order: &[u16],
+) -> usize
+    ensures { λ r. ⌜ r ≡ min (length (now (start .entry))) (min (length (now (len .entry))) (min (length (now (kind .entry))) (min (length (now (value .entry))) (min (length (now (sectors .entry))) (length (now (order .entry))))))) ⌝ }
+{
+    least(
+        start.len(),
+        least(
+            len.len(),
+            least(
+                kind.len(),
+                least(value.len(), least(sectors.len(), order.len())),
+            ),
+        ),
+    )
+}
+
+// The same for each node of a tree.
+fn measure_nodes(
+    left: &[u16],
+    right: &[u16],
+    parent: &[u16],
+    height: &[u8],
+    key: &[u32],
+    size: &[u32],
+) -> usize
+    ensures { λ r. ⌜ r ≡ min (length (now (left .entry))) (min (length (now (right .entry))) (min (length (now (parent .entry))) (min (length (now (height .entry))) (min (length (now (key .entry))) (length (now (size .entry))))))) ⌝ }
+{
+    least(
+        left.len(),
+        least(
+            right.len(),
+            least(
+                parent.len(),
+                least(height.len(), least(key.len(), size.len())),
+            ),
+        ),
+    )
+}
+
+// Every column is long enough; the last three numbers are the lengths of the shortest ones.
+fn have_room(
+    share: &[u32],
+    directories: usize,
+    entries: usize,
+    d: usize,
+    e: usize,
+    n: usize,
+) -> bool
+    requires { ⌜ d ≤ length (now share) ⌝ }
+    ensures { λ r. ⌜ r ≡ leb directories d && (leb entries e && fits n entries (take directories (now (share .entry)))) ⌝ }
+{
+    if d < directories {
+        return false;
+    }
+    if e < entries {
+        return false;
+    }
+    fit_shares(&share[..directories], entries, n)
+}
+
+// Plans an image.
+pub fn plan(
+    directories: u32,
+    entries: u32,
+    first: &[u32],
+    share: &[u32],
+    start: &[u32],
+    len: &[u32],
+    kind: &[u8],
+    value: &[u64],
+    names: &[u8],
+    sizes: &mut [u32],
+    tables: &mut [u32],
+    sectors: &mut [u32],
+    sized: &mut [u32],
+    left: &mut [u16],
+    right: &mut [u16],
+    parent: &mut [u16],
+    height: &mut [u8],
+    key: &mut [u32],
+    size: &mut [u32],
+    order: &mut [u16],
+) -> Planned
+    ensures answer { λ r. ⌜ told r ≡ answerOf (imageOf (asked directories entries (now (first .entry)) (now (share .entry)) (now (start .entry)) (now (len .entry)) (now (kind .entry)) (now (value .entry)) (now (names .entry)))
+        (lent (now (sizes .entry)) (now (tables .entry)) (now (sectors .entry)) (now (sized .entry)) (now (left .entry)) (now (right .entry)) (now (parent .entry)) (now (height .entry)) (now (key .entry)) (now (size .entry)) (now (order .entry)))) ⌝ }
+    ensures lent { λ _. ⌜ lent (now (sizes .exit)) (now (tables .exit)) (now (sectors .exit)) (now (sized .exit)) (now (left .exit)) (now (right .exit)) (now (parent .exit)) (now (height .exit)) (now (key .exit)) (now (size .exit)) (now (order .exit))
+        ≡ lentAfter (asked directories entries (now (first .entry)) (now (share .entry)) (now (start .entry)) (now (len .entry)) (now (kind .entry)) (now (value .entry)) (now (names .entry)))
+        (lent (now (sizes .entry)) (now (tables .entry)) (now (sectors .entry)) (now (sized .entry)) (now (left .entry)) (now (right .entry)) (now (parent .entry)) (now (height .entry)) (now (key .entry)) (now (size .entry)) (now (order .entry))) ⌝ }
+{
+    let by_directory = measure_directories(first, share, sizes, tables, sized);
+    let by_entry = measure_entries(start, len, kind, value, sectors, order);
+    let by_node = measure_nodes(left, right, parent, height, key, size);
+    let d = widen(directories);
+    let e = widen(entries);
+    if have_room(share, d, e, by_directory, by_entry, by_node) {
+        let r = plan_cut(
+            d,
+            e,
+            first,
+            share,
+            start,
+            len,
+            kind,
+            value,
+            names,
+            sizes,
+            tables,
+            sectors,
+            sized,
+            left,
+            right,
+            parent,
+            height,
+            key,
+            size,
+            order,
+        );
+        clear_links(left, right, parent, height);
+        clear_rest(sized, key, size, order);
+        return r;
+    }
+    Planned::Room
+}
