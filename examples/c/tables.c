@@ -1,5 +1,5 @@
 /*
- * tables IMAGE PATH: lists the root directory of an image, looks a path up in it, and then builds a small image in memory and reads it back.
+ * tables IMAGE PATH: lists the root directory of an image, looks a path up in it, then builds a small image in memory, reads it back, and plans it.
  * Everything of a directory table is done by libcapi.a; this file only reads a file and prints.
  */
 #include <stdio.h>

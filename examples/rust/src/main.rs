@@ -1,4 +1,4 @@
-//! tables IMAGE PATH: lists the root directory of an image, looks a path up in it, and then builds a small image in memory and reads it back.
+//! tables IMAGE PATH: lists the root directory of an image, looks a path up in it, then builds a small image in memory, reads it back, and plans it.
 use std::error::Error;
 use std::process::ExitCode;
 use xdvdfs_tables::{
