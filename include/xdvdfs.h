@@ -35,7 +35,7 @@ extern "C" {
 /* What a call returns. */
 enum xdvdfs_number {
     XDVDFS_DONE = 0,
-    /* adding an entry, and writing a list */
+    /* adding an entry, writing a list, planning an image */
     XDVDFS_EMPTY_NAME = 1,                 /* the name has no bytes */
     XDVDFS_BAD_BYTE = 2,                   /* a byte of the name is 0 or above 127, or its place reaches past the names lent; in a name or path sought: above 127 */
     XDVDFS_NAME_TOO_LONG = 3,              /* more than 255 bytes */
@@ -268,6 +268,46 @@ uint32_t xdvdfs_write_list(
     uint32_t *table_size,                 /* [out] */
     uint32_t *next_free,                  /* [out] */
     uint32_t *entry);                     /* [out] */
+
+/*
+ * Plans an image: the reported size and the sector of each directory's table, and the sector of each entry. It writes no table: xdvdfs_write_list does, a directory at a
+ * time. A directory is a share of one list of entries, by the place of its first entry (`first`) and how many it has (`share`); the root comes first. An entry has its
+ * name's place and length in `names` (start, len), its kind, and its value: a file's length, or the place of its directory in the list of directories, which is a later one
+ * than its own. The root table stands at sector 33. The tables' and the files' sectors are taken directory by directory, within one in the order in which its table is
+ * walked: so the sectors of a directory's entries begin at the least of them, which is the `first` to write its table with.
+ * 0: sizes, tables and sectors have the plan in their first places and are unchanged past them; *next_free is the next free sector.
+ * XDVDFS_ROOM with *entry as it was: a column of the directories (sizes, tables and sized too) is shorter than `directories`, one of the entries (sectors and order too)
+ * shorter than `entries`, or one of left to size shorter than the largest share, of which no more counts than `entries`; and then nothing is changed.
+ * XDVDFS_BAD_TREE: there is no directory, a share reaches past the entries, or a directory but the root is not named exactly once, by an earlier one. Then XDVDFS_ROOM
+ * once more, where order is shorter than all shares together. From the last directory back XDVDFS_FILE_TOO_LARGE, XDVDFS_EMPTY_NAME, XDVDFS_BAD_BYTE,
+ * XDVDFS_NAME_TOO_LONG, XDVDFS_DUPLICATE_FILE_NAME, XDVDFS_ROOM (there are more than 16,384 in one directory): *entry is the entry's place in the list. Never
+ * XDVDFS_SIZE_OVERFLOW: no table is that large. Forward XDVDFS_TOO_MANY_DIRECTORY_ENTRIES, XDVDFS_SECTOR_OVERFLOW: *directory is the directory's place in the list. After
+ * a refusal sizes, tables and sectors are unchanged.
+ * The scratch is all zero afterwards, but where nothing is changed.
+ */
+uint32_t xdvdfs_plan(
+    uint32_t directories, uint32_t entries,
+    const uint32_t *first, size_t first_len,
+    const uint32_t *share, size_t share_len,
+    const uint32_t *start, size_t start_len,
+    const uint32_t *len, size_t len_len,
+    const uint8_t *kind, size_t kind_len,
+    const uint64_t *value, size_t value_len,
+    const uint8_t *names, size_t names_len,
+    uint32_t *sizes, size_t sizes_len,      /* [out] */
+    uint32_t *tables, size_t tables_len,    /* [out] */
+    uint32_t *sectors, size_t sectors_len,  /* [out] */
+    uint32_t *sized, size_t sized_len,      /* [scratch] */
+    uint16_t *left, size_t left_len,        /* [scratch] */
+    uint16_t *right, size_t right_len,      /* [scratch] */
+    uint16_t *parent, size_t parent_len,    /* [scratch] */
+    uint8_t *height, size_t height_len,     /* [scratch] */
+    uint32_t *key, size_t key_len,          /* [scratch] */
+    uint32_t *size, size_t size_len,        /* [scratch] */
+    uint16_t *order, size_t order_len,      /* [scratch] */
+    uint32_t *next_free,                    /* [out] */
+    uint32_t *entry,                        /* [out] */
+    uint32_t *directory);                   /* [out] */
 
 #ifdef __cplusplus
 }

@@ -1,5 +1,5 @@
 /*
- * tables IMAGE PATH: lists the root directory of an image, looks a path up in it, and then builds a small image in memory and reads it back.
+ * tables IMAGE PATH: lists the root directory of an image, looks a path up in it, then builds a small image in memory, reads it back, and plans it.
  * Everything of a directory table is done by libcapi.a; this file only reads a file and prints.
  */
 #include <stdio.h>
@@ -154,6 +154,29 @@ static void build(void)
     refuse("a name past the names lent", number);
 }
 
+/* The plan of the same image: the root has the entries 0 to 2, "maps" 3 and 4. `names_directory` is the directory that the entry "maps" names. */
+static void plan(uint32_t names_directory)
+{
+    const uint32_t first[] = {0, 3}, share[] = {3, 2}, start[] = {0, 6, 10, 14, 21}, len[] = {6, 4, 4, 7, 7};
+    const uint8_t kind[] = {XDVDFS_KIND_FILE, XDVDFS_KIND_DIRECTORY, XDVDFS_KIND_FILE, XDVDFS_KIND_FILE, XDVDFS_KIND_FILE};
+    const uint64_t value[] = {7, names_directory, 2048, 100, 5000};
+    const char *names = "limitsmapssaveone.bintwo.bin";
+    uint32_t sizes[2], tables[2], sectors[5], sized[2], key[3], size[3], next_free = 0, entry = 0, directory = 0, number, i;
+    uint16_t left[3], right[3], parent[3], order[5];
+    uint8_t height[3];
+    number = xdvdfs_plan(2, 5, first, 2, share, 2, start, 5, len, 5, kind, 5, value, 5, (const uint8_t *)names, strlen(names), sizes, 2, tables, 2, sectors, 5,
+                         sized, 2, left, 3, right, 3, parent, 3, height, 3, key, 3, size, 3, order, 5, &next_free, &entry, &directory);
+    if (number != XDVDFS_DONE) {
+        refuse("plan", number);
+        return;
+    }
+    for (i = 0; i < 2; i++)
+        printf("plan: directory %u at %u, %u bytes\n", (unsigned)i, (unsigned)tables[i], (unsigned)sizes[i]);
+    for (i = 0; i < 5; i++)
+        printf("plan: %.*s at %u\n", (int)len[i], names + start[i], (unsigned)sectors[i]);
+    printf("plan: next free sector %u\n", (unsigned)next_free);
+}
+
 static void read_image(const char *file, const char *path)
 {
     static uint8_t image[1 << 21];
@@ -186,5 +209,7 @@ int main(int argc, char **argv)
     }
     read_image(argv[1], argv[2]);
     build();
+    plan(1);
+    plan(0);
     return 0;
 }

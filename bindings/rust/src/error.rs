@@ -4,7 +4,8 @@ use std::fmt;
 /// Why a call was refused. [`Error::number`] is document 01's number. After a refusal all memory that was lent is as the function's own words say: unchanged, but for
 /// scratch and the lists of a walk.
 ///
-/// `entry` is the number of an entry in a list; there is none where a single entry was added. `offset` is a byte offset in a table.
+/// `entry` is the number of an entry in a list; there is none where a single entry was added. `directory` is the number of a directory in a plan; there is none where a
+/// single table was written. `offset` is a byte offset in a table.
 #[derive(Clone, Copy, Debug, PartialEq, Eq)]
 pub enum Error {
     EmptyName {
@@ -30,9 +31,17 @@ pub enum Error {
     Full {
         entry: Option<u32>,
     },
-    TooManyDirectoryEntries,
-    SectorOverflow,
+    TooManyDirectoryEntries {
+        directory: Option<u32>,
+    },
+    SectorOverflow {
+        directory: Option<u32>,
+    },
     BufferTooSmall,
+    FileTooLarge {
+        entry: Option<u32>,
+    },
+    BadTree,
     BadArena,
     NoVolume,
     DirectoryEmpty,
@@ -71,9 +80,11 @@ impl Error {
             Error::DuplicateFileName { .. } => 4,
             Error::SizeOverflow { .. } => 5,
             Error::Room | Error::Full { .. } => 6,
-            Error::TooManyDirectoryEntries => 7,
-            Error::SectorOverflow => 8,
+            Error::TooManyDirectoryEntries { .. } => 7,
+            Error::SectorOverflow { .. } => 8,
             Error::BufferTooSmall => 9,
+            Error::FileTooLarge { .. } => 10,
+            Error::BadTree => 11,
             Error::BadArena => 12,
             Error::NoVolume => 20,
             Error::DirectoryEmpty => 21,
@@ -108,11 +119,23 @@ impl Error {
     pub(crate) fn writing(number: u32) -> Error {
         match number {
             6 => Error::Room,
-            7 => Error::TooManyDirectoryEntries,
-            8 => Error::SectorOverflow,
+            7 => Error::TooManyDirectoryEntries { directory: None },
+            8 => Error::SectorOverflow { directory: None },
             9 => Error::BufferTooSmall,
             12 => Error::BadArena,
             n => ruled_out(n),
+        }
+    }
+
+    /// A refusal to plan an image.
+    pub(crate) fn planning(number: u32, entry: Option<u32>, directory: u32) -> Error {
+        match number {
+            6 if entry.is_none() => Error::Room,
+            7 => Error::TooManyDirectoryEntries { directory: Some(directory) },
+            8 => Error::SectorOverflow { directory: Some(directory) },
+            10 => Error::FileTooLarge { entry },
+            11 => Error::BadTree,
+            n => Error::adding(n, entry),
         }
     }
 
@@ -150,9 +173,13 @@ impl fmt::Display for Error {
         | Error::NameTooLong { entry: Some(i) }
         | Error::DuplicateFileName { entry: Some(i) }
         | Error::SizeOverflow { entry: Some(i) }
-        | Error::Full { entry: Some(i) } = self
+        | Error::Full { entry: Some(i) }
+        | Error::FileTooLarge { entry: Some(i) } = self
         {
             write!(f, "entry {i} of the list: ")?;
+        }
+        if let Error::TooManyDirectoryEntries { directory: Some(d) } | Error::SectorOverflow { directory: Some(d) } = self {
+            write!(f, "directory {d}: ")?;
         }
         match self {
             Error::EmptyName { .. } => write!(f, "the name is empty"),
@@ -165,11 +192,15 @@ impl fmt::Display for Error {
             Error::SizeOverflow { .. } => write!(f, "the directory's size is above 4294965248 bytes"),
             Error::Room => write!(f, "the memory lent for the call is too short"),
             Error::Full { .. } => write!(f, "the table is full: no place is left, or it holds 16384 entries"),
-            Error::TooManyDirectoryEntries => {
+            Error::TooManyDirectoryEntries { .. } => {
                 write!(f, "the table is too long: an entry would stand at offset 262144 or past it, where no link reaches")
             }
-            Error::SectorOverflow => write!(f, "the next free sector would exceed 4294967295"),
+            Error::SectorOverflow { .. } => write!(f, "the next free sector would exceed 4294967295"),
             Error::BufferTooSmall => write!(f, "the output is shorter than what is to be written"),
+            Error::FileTooLarge { .. } => write!(f, "the file has more than 4294967295 bytes"),
+            Error::BadTree => {
+                write!(f, "the directories are no tree: there is none, or one that is not named exactly once, by an earlier one")
+            }
             Error::BadArena => write!(f, "the arena does not hold one ordered, balanced tree of entries that adding takes"),
             Error::NoVolume => write!(f, "no volume descriptor: one of its two marks differs or is cut short"),
             Error::DirectoryEmpty => write!(f, "the directory is empty: its table has size 0"),

@@ -14,11 +14,13 @@
 //! # Ok::<(), xdvdfs_tables::Error>(())
 //! ```
 mod error;
+mod plan;
 mod read;
 mod sys;
 mod write;
 
 pub use error::Error;
+pub use plan::{plan, Content, Plan, PlanEntry};
 pub use read::{read_descriptor, Entry, Found, Header, Table, Window};
 pub use write::{
     required_sectors, write_descriptor, write_list, write_table, Arena, Kind, List, NewEntry, Scratch, SectorCounter, Written,

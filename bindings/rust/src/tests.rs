@@ -135,7 +135,7 @@ fn adding_in_turn_is_writing_a_list() {
     assert_eq!(arena.serialise(34, &mut out), Ok(Written { size: 48, next_free: 37 }));
     assert_eq!((&out[..2048], out[2048]), (&table_of(&["a", "b", "c"], 34).0[..], 7));
     assert_eq!(arena.serialise(34, &mut [0; 2047]), Err(Error::BufferTooSmall));
-    assert_eq!(arena.serialise(u32::MAX - 2, &mut out), Err(Error::SectorOverflow));
+    assert_eq!(arena.serialise(u32::MAX - 2, &mut out), Err(Error::SectorOverflow { directory: None }));
     assert_eq!(Arena::with_room(0).serialise(9, &mut out), Ok(Written { size: 2048, next_free: 9 }));
 }
 
@@ -153,12 +153,54 @@ fn a_list_refused() {
     let names: Vec<String> = (0..16385).map(|i| format!("{i:05}")).collect();
     let many: Vec<NewEntry> = names.iter().map(|n| file(n)).collect();
     assert_eq!(write_table(&many, 33).unwrap_err(), Error::Full { entry: Some(16384) });
-    assert_eq!(write_table(&many[..16384], 33).unwrap_err(), Error::TooManyDirectoryEntries);
+    assert_eq!(write_table(&many[..16384], 33).unwrap_err(), Error::TooManyDirectoryEntries { directory: None });
     let (bytes, w) = write_table(&many[..10000], 33).unwrap();
     let window = Window { bytes: &bytes, first: 5 };
     let table = Table { sector: 5, size: w.size };
     assert_eq!(window.list(table, 10000).unwrap().len(), 10000);
     assert_eq!(window.check_table(table, &mut vec![0; 10000], &mut vec![0; 10001]), Ok(10000));
+}
+
+fn planned(name: &str, content: Content) -> PlanEntry<'_> {
+    PlanEntry { name: name.as_bytes(), content }
+}
+
+#[test]
+fn a_plan_is_what_writing_gives() {
+    let root = [planned("d", Content::Directory(1)), planned("limits", Content::File(7))];
+    let p = plan(&[&root, &[planned("x", Content::File(9))]]).unwrap();
+    assert_eq!(
+        p,
+        Plan { tables: vec![Table { sector: 33, size: 36 }, Table { sector: 34, size: 16 }], sectors: vec![34, 35, 36], next_free: 37 }
+    );
+    assert_eq!(plan(&[&[]]), Ok(Plan { tables: vec![Table { sector: 33, size: 2048 }], sectors: vec![], next_free: 34 }));
+    // written with the least sector of each directory, the tables give the same sectors
+    let written = [NewEntry { name: b"d", kind: Kind::Directory, size: 16 }, NewEntry { name: b"limits", kind: Kind::File, size: 7 }];
+    let (bytes, w) = write_table(&written, 34).unwrap();
+    let found = Window { bytes: &bytes, first: 33 }.look_up(Table { sector: 33, size: w.size }, b"d").unwrap();
+    assert_eq!((w.size, found.entry.header.sector), (36, 34));
+}
+
+#[test]
+fn a_plan_refused() {
+    let x = |content| planned("x", content);
+    assert_eq!(plan(&[]), Err(Error::BadTree));
+    assert_eq!(plan(&[&[x(Content::Directory(0))]]), Err(Error::BadTree));
+    assert_eq!(plan(&[&[], &[]]), Err(Error::BadTree));
+    let long = "x".repeat(256);
+    let deep = |e| plan(&[&[planned("d", Content::Directory(1)), x(Content::File(1))], &[planned("a", Content::File(2)), e]]);
+    assert_eq!(deep(x(Content::File(1 << 32))), Err(Error::FileTooLarge { entry: Some(3) }));
+    assert_eq!(deep(planned("", Content::File(1))), Err(Error::EmptyName { entry: Some(3) }));
+    assert_eq!(deep(planned("a\0", Content::File(1))), Err(Error::BadByte { entry: Some(3) }));
+    assert_eq!(deep(planned(&long, Content::File(1))), Err(Error::NameTooLong { entry: Some(3) }));
+    assert_eq!(deep(planned("A", Content::File(1))), Err(Error::DuplicateFileName { entry: Some(3) }));
+    assert_eq!(deep(x(Content::File(u64::from(u32::MAX)))).map(|p| p.next_free), Ok(37 + 2097152));
+    let names: Vec<String> = (0..16385).map(|i| format!("{i:05}")).collect();
+    let many: Vec<PlanEntry> = names.iter().map(|n| planned(n, Content::File(1))).collect();
+    assert_eq!(plan(&[&many]), Err(Error::Full { entry: Some(16384) }));
+    assert_eq!(plan(&[&[x(Content::Directory(1))], &many[..16384]]), Err(Error::TooManyDirectoryEntries { directory: Some(1) }));
+    let large: Vec<PlanEntry> = names[..2049].iter().map(|n| planned(n, Content::File(u64::from(u32::MAX)))).collect();
+    assert_eq!(plan(&[&[x(Content::Directory(1))], &large]), Err(Error::SectorOverflow { directory: Some(1) }));
 }
 
 #[test]
@@ -167,7 +209,7 @@ fn sectors() {
     let mut counter = SectorCounter::new();
     assert_eq!((counter.take(2049), counter.take(0), counter.next_free()), (Ok(33), Ok(35), 36));
     let mut last = SectorCounter::starting_at(u32::MAX);
-    assert_eq!((last.take(1), last.next_free()), (Err(Error::SectorOverflow), u32::MAX));
+    assert_eq!((last.take(1), last.next_free()), (Err(Error::SectorOverflow { directory: None }), u32::MAX));
 }
 
 #[test]
@@ -187,10 +229,11 @@ fn words() {
     );
     assert_eq!(Error::Truncated { offset: 16 }.to_string(), "the entry at offset 16 of its table is not whole in the bytes at hand");
     assert_eq!(Error::DoesNotExist { headers: Some(3) }.to_string(), "no entry has that name (3 headers read)");
-    let numbers = (1..=9).chain([12]).chain(20..=28).chain(30..=32);
+    let numbers = (1..=12).chain(20..=28).chain(30..=32);
     for n in numbers {
         let e = match n {
             1..=6 => Error::adding(n, None),
+            10 | 11 => Error::planning(n, None, 0),
             7..=12 => Error::writing(n),
             _ => Error::reading(n, 0, None),
         };

@@ -12,6 +12,7 @@ use capi_cells::store_descriptor;
 use capi_cells::store_entry;
 use capi_cells::store_looked;
 use capi_cells::store_path;
+use capi_cells::store_planned;
 use capi_cells::store_serialised;
 use capi_cells::store_taken;
 use capi_cells::store_walked;
@@ -31,6 +32,7 @@ ghost use Rattle.dirtab.specs.Serialise as serialising;
 ghost use Rattle.dirtab_add.specs.Add as adding;
 ghost use Rattle.dirtab_arena.specs.Arena.{arena, columns};
 ghost use Rattle.dirtab_list.specs.Whole as whole;
+ghost use Rattle.img.specs.Image as image;
 ghost use Rattle.layout_sector.specs.Counter as sectors;
 ghost use Rattle.layout_volume.specs.Descriptor as volume;
 ghost use Rattle.read_entry.specs.Entry as entry;
@@ -38,7 +40,7 @@ ghost use Rattle.read_lookup.specs.Lookup as lookup;
 ghost use Rattle.read_path.specs.Path as following;
 ghost use Rattle.read_walk.specs.Walk as walking;
 ghost use Rattle.strict.specs.Strict as checking;
-ghost use Rattle.capi_cells.specs.Cells.{ofGiven, ofSome, isSome, ofRefusal, atOffset, atFault, afterHeaders, ofEntry};
+ghost use Rattle.capi_cells.specs.Cells.{ofGiven, ofSome, isSome, ofRefusal, atOffset, atFault, afterHeaders, ofEntry, ofPlanned, ofDirectory};
 ghost use Rattle.capi_cells.specs.Parts.{placedFields, placedAt, foundFields, foundPlace, foundOffset, foundHeaders, rootSector, rootSize, itself, grownRoot, grownCount, tableSize, nextFree, runStart, runFree};
 ghost use Rattle.capi.specs.Given.{sectorOf, regionOf, descriptorOf, entryOf, nameStart};
 
@@ -413,4 +415,65 @@ pub extern "C" fn xdvdfs_write_list(
         out,
     );
     store_written(r, table_size, free, entry)
+}
+
+// Plans an image: the reported size and the sector of each directory's table, and the sector of each entry; the next free sector. The columns from `sized` on are scratch. 6, then 11, then 10, 1, 2,
+// 3, 5, 4, 6 with the entry's place in the list, then 7, 8 with the directory's number.
+#[no_mangle]
+pub extern "C" fn xdvdfs_plan(
+    directories: u32,
+    entries: u32,
+    first: &[u32],
+    share: &[u32],
+    start: &[u32],
+    len: &[u32],
+    kind: &[u8],
+    value: &[u64],
+    names: &[u8],
+    sizes: &mut [u32],
+    tables: &mut [u32],
+    sectors: &mut [u32],
+    sized: &mut [u32],
+    left: &mut [u16],
+    right: &mut [u16],
+    parent: &mut [u16],
+    height: &mut [u8],
+    key: &mut [u32],
+    size: &mut [u32],
+    order: &mut [u16],
+    free: &mut u32,
+    entry: &mut u32,
+    directory: &mut u32,
+) -> u32
+    ensures { λ n. ⌜ n ≡ numberOf (image.answerOf (image.imageOf (image.asked directories entries (now (first .entry)) (now (share .entry)) (now (start .entry)) (now (len .entry)) (now (kind .entry)) (now (value .entry)) (now (names .entry))) (image.lent (now (sizes .entry)) (now (tables .entry)) (now (sectors .entry)) (now (sized .entry)) (now (left .entry)) (now (right .entry)) (now (parent .entry)) (now (height .entry)) (now (key .entry)) (now (size .entry)) (now (order .entry))))) ⌝ }
+    ensures { λ _. ⌜ now (free .exit) ≡ ofGiven itself (image.answerOf (image.imageOf (image.asked directories entries (now (first .entry)) (now (share .entry)) (now (start .entry)) (now (len .entry)) (now (kind .entry)) (now (value .entry)) (now (names .entry))) (image.lent (now (sizes .entry)) (now (tables .entry)) (now (sectors .entry)) (now (sized .entry)) (now (left .entry)) (now (right .entry)) (now (parent .entry)) (now (height .entry)) (now (key .entry)) (now (size .entry)) (now (order .entry))))) (now (free .entry)) ⌝ }
+    ensures { λ _. ⌜ now (entry .exit) ≡ ofRefusal ofPlanned (image.answerOf (image.imageOf (image.asked directories entries (now (first .entry)) (now (share .entry)) (now (start .entry)) (now (len .entry)) (now (kind .entry)) (now (value .entry)) (now (names .entry))) (image.lent (now (sizes .entry)) (now (tables .entry)) (now (sectors .entry)) (now (sized .entry)) (now (left .entry)) (now (right .entry)) (now (parent .entry)) (now (height .entry)) (now (key .entry)) (now (size .entry)) (now (order .entry))))) (now (entry .entry)) ⌝ }
+    ensures { λ _. ⌜ now (directory .exit) ≡ ofRefusal ofDirectory (image.answerOf (image.imageOf (image.asked directories entries (now (first .entry)) (now (share .entry)) (now (start .entry)) (now (len .entry)) (now (kind .entry)) (now (value .entry)) (now (names .entry))) (image.lent (now (sizes .entry)) (now (tables .entry)) (now (sectors .entry)) (now (sized .entry)) (now (left .entry)) (now (right .entry)) (now (parent .entry)) (now (height .entry)) (now (key .entry)) (now (size .entry)) (now (order .entry))))) (now (directory .entry)) ⌝ }
+    ensures { λ _. ⌜ image.lent (now (sizes .exit)) (now (tables .exit)) (now (sectors .exit)) (now (sized .exit)) (now (left .exit)) (now (right .exit)) (now (parent .exit)) (now (height .exit)) (now (key .exit)) (now (size .exit)) (now (order .exit))
+        ≡ image.lentAfter (image.asked directories entries (now (first .entry)) (now (share .entry)) (now (start .entry)) (now (len .entry)) (now (kind .entry)) (now (value .entry)) (now (names .entry)))
+        (image.lent (now (sizes .entry)) (now (tables .entry)) (now (sectors .entry)) (now (sized .entry)) (now (left .entry)) (now (right .entry)) (now (parent .entry)) (now (height .entry)) (now (key .entry)) (now (size .entry)) (now (order .entry))) ⌝ }
+{
+    let r = xdvdfs::plan(
+        directories,
+        entries,
+        first,
+        share,
+        start,
+        len,
+        kind,
+        value,
+        names,
+        sizes,
+        tables,
+        sectors,
+        sized,
+        left,
+        right,
+        parent,
+        height,
+        key,
+        size,
+        order,
+    );
+    store_planned(r, free, entry, directory)
 }

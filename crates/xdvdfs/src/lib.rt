@@ -34,6 +34,8 @@ ghost use Rattle.dirtab.specs.Serialise as serialising;
 ghost use Rattle.dirtab_add.specs.Add as adding;
 ghost use Rattle.dirtab_arena.specs.Arena.{arena, columns};
 ghost use Rattle.dirtab_list.specs.Whole as whole;
+ghost use Rattle.img.specs.Image as image;
+ghost use Rattle.img_model.specs.Plan as planning;
 ghost use Rattle.layout_volume.specs.Descriptor as volume;
 ghost use Rattle.read_entry.specs.Entry as entry;
 ghost use Rattle.read_lookup.specs.Lookup as lookup;
@@ -237,5 +239,59 @@ pub fn write_list(
         order,
         place,
         out,
+    )
+}
+
+// Plans an image: the reported size and the sector of each directory's table, and the sector of each entry; the answer is the next free sector. A directory is a share of one list of entries (the place of
+// its first entry, how many), the root first. An entry has its name's place and length, its kind (1 is a directory), and its value: a file's length, or the place of its directory in the list of
+// directories, a later one than its own. The root table stands at sector 33. 6 where a column is too short: for the directories, for the entries, or the six of the tree for the largest share. Then 11; 6 where
+// `order` is shorter than all shares together; from the last directory back 10, 1, 2, 3, 5, 4, 6 with the entry's place in the list; forward 7 and 8 with the directory's number. After a refusal `sizes`,
+// `tables` and `sectors` are unchanged. The columns from `sized` on are scratch: all zero after the call, and unchanged after the first 6.
+pub fn plan(
+    directories: u32,
+    entries: u32,
+    first: &[u32],
+    share: &[u32],
+    start: &[u32],
+    len: &[u32],
+    kind: &[u8],
+    value: &[u64],
+    names: &[u8],
+    sizes: &mut [u32],
+    tables: &mut [u32],
+    sectors: &mut [u32],
+    sized: &mut [u32],
+    left: &mut [u16],
+    right: &mut [u16],
+    parent: &mut [u16],
+    height: &mut [u8],
+    key: &mut [u32],
+    size: &mut [u32],
+    order: &mut [u16],
+) -> Planned
+    ensures { λ r. ⌜ planning.told r ≡ image.answerOf (image.imageOf (image.asked directories entries (now (first .entry)) (now (share .entry)) (now (start .entry)) (now (len .entry)) (now (kind .entry)) (now (value .entry)) (now (names .entry))) (image.lent (now (sizes .entry)) (now (tables .entry)) (now (sectors .entry)) (now (sized .entry)) (now (left .entry)) (now (right .entry)) (now (parent .entry)) (now (height .entry)) (now (key .entry)) (now (size .entry)) (now (order .entry)))) ⌝ }
+    ensures { λ _. ⌜ image.lent (now (sizes .exit)) (now (tables .exit)) (now (sectors .exit)) (now (sized .exit)) (now (left .exit)) (now (right .exit)) (now (parent .exit)) (now (height .exit)) (now (key .exit)) (now (size .exit)) (now (order .exit)) ≡ image.lentAfter (image.asked directories entries (now (first .entry)) (now (share .entry)) (now (start .entry)) (now (len .entry)) (now (kind .entry)) (now (value .entry)) (now (names .entry))) (image.lent (now (sizes .entry)) (now (tables .entry)) (now (sectors .entry)) (now (sized .entry)) (now (left .entry)) (now (right .entry)) (now (parent .entry)) (now (height .entry)) (now (key .entry)) (now (size .entry)) (now (order .entry))) ⌝ }
+{
+    img::plan(
+        directories,
+        entries,
+        first,
+        share,
+        start,
+        len,
+        kind,
+        value,
+        names,
+        sizes,
+        tables,
+        sectors,
+        sized,
+        left,
+        right,
+        parent,
+        height,
+        key,
+        size,
+        order,
     )
 }

@@ -1,7 +1,9 @@
-//! tables IMAGE PATH: lists the root directory of an image, looks a path up in it, and then builds a small image in memory and reads it back.
+//! tables IMAGE PATH: lists the root directory of an image, looks a path up in it, then builds a small image in memory, reads it back, and plans it.
 use std::error::Error;
 use std::process::ExitCode;
-use xdvdfs_tables::{read_descriptor, write_descriptor, write_table, Arena, Entry, Kind, NewEntry, Table, Window};
+use xdvdfs_tables::{
+    plan, read_descriptor, write_descriptor, write_table, Arena, Content, Entry, Kind, NewEntry, PlanEntry, Table, Window,
+};
 
 const SECTOR: usize = 2048;
 const DESCRIPTOR: u32 = 32;
@@ -56,6 +58,22 @@ fn build() -> Result<(Vec<u8>, Table), xdvdfs_tables::Error> {
     Ok((image, table))
 }
 
+/// The plan of the same image; `directory` is the one that the entry "maps" names.
+fn show_plan(directory: u32) -> Result<(), xdvdfs_tables::Error> {
+    let entry = |name: &'static str, content| PlanEntry { name: name.as_bytes(), content };
+    let root = [entry("limits", Content::File(7)), entry("maps", Content::Directory(directory)), entry("save", Content::File(2048))];
+    let maps = [entry("one.bin", Content::File(100)), entry("two.bin", Content::File(5000))];
+    let planned = plan(&[&root, &maps])?;
+    for (i, table) in planned.tables.iter().enumerate() {
+        println!("plan: directory {i} at {}, {} bytes", table.sector, table.size);
+    }
+    for (e, sector) in root.iter().chain(&maps).zip(&planned.sectors) {
+        println!("plan: {} at {sector}", e.name.escape_ascii());
+    }
+    println!("plan: next free sector {}", planned.next_free);
+    Ok(())
+}
+
 fn run(file: &str, path: &str) -> Result<(), Box<dyn Error>> {
     let image = std::fs::read(file)?;
     let bytes = image.get(DESCRIPTOR as usize * SECTOR..).unwrap_or(&[]);
@@ -74,6 +92,9 @@ fn run(file: &str, path: &str) -> Result<(), Box<dyn Error>> {
     let twice = NewEntry { name: b"Ab", kind: Kind::File, size: 1 };
     let refused = write_table(&[twice, NewEntry { name: b"aB", ..twice }], 33).unwrap_err();
     println!("twice: {refused} (refusal {})", refused.number());
+    show_plan(1)?;
+    let refused = show_plan(0).unwrap_err();
+    println!("plan: {refused} (refusal {})", refused.number());
     Ok(())
 }
 
