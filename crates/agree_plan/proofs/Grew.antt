@@ -51,15 +51,15 @@ passes n true x q e = let z : _≡_ {A = ℕ} 0 1 = cc in absurd (omega arith)
 passes n false x q e = (ltb-false _ _ q, e)
 
 -- an entry takes less than a sector and its own bytes
-pub end-most : (entry : ℕ → Entry) (t : Tree) (e : ℕ) → All (FitsAt entry) t → endOf entry e t ≤ e + 2320 * size t
+end-most : (entry : ℕ → Entry) (t : Tree) (e : ℕ) → All (FitsAt entry) t → endOf entry e t ≤ e + 2320 * size t
 unfolding endOf
 end-most entry leaf e a = omega arith
 end-most entry (node l i r) e a =
     omega (arith, start-at entry e i (a .0) .near, a .0 .short, end-most entry l (stopOf entry e i) (a .1), end-most entry r (endOf entry (stopOf entry e i) l) (a .2))
 
-pub size-most : (entry : ℕ → Entry) (t : Tree) → All (FitsAt entry) t → sizeOf entry t ≤ 2048 + 2320 * size t
-size-most entry leaf a = omega arith
-size-most entry (node l i r) a = omega (arith, end-most entry (node l i r) 0 a)
+size-most : (entry : ℕ → Entry) (t : Tree) (n : ℕ) → All (FitsAt entry) t → size t ≤ n → 1 ≤ n → sizeOf entry t ≤ 2320 * n
+size-most entry leaf n a h k = omega arith
+size-most entry (node l i r) n a h k = omega (arith, end-most entry (node l i r) 0 a)
 
 module _ (S : Share) (tab : ℕ → ℕ) where
   abbrev E : ℕ → Entry
@@ -166,6 +166,6 @@ module _ (S : Share) (tab : ℕ → ℕ) where
     pub tree-size : size t ≡ S .count
     tree-size = ap size (all-grew .0) ∙ grown-size E (S .count)
 
-    -- so a table's size is at most 16,384 times 2,320, or the empty table's
-    pub table-small : sizeOf (entryIn S tab) t ≤ 38012928
-    table-small = omega (arith, size-most E t tree-fits, tree-size, count-few)
+    -- so a table's size is at most 16,384 times 2,320
+    pub table-small : sizeOf (entryIn S tab) t ≤ 16384 * 2320
+    table-small = omega (arith, size-most E t 16384 tree-fits (omega (arith, tree-size, count-few)) (omega arith))
