@@ -4,6 +4,8 @@ use std::panic::{catch_unwind, AssertUnwindSafe};
 use xdvdfs::blockdev::{BlockDeviceRead, Window};
 use xdvdfs::layout::{DirectoryEntryNode, DirectoryEntryTable, VolumeDescriptor};
 use xdvdfs::read::{DirectoryEntryReadError, DirectoryTableLookupError, DirectoryTableWalkError};
+use xdvdfs::write::dirtab::{AvlDirectoryEntryTableBuilder, DirtabWriterBuffers};
+use xdvdfs::write::sector::SectorAllocator;
 
 /// The window, with a count of the headers read and the byte of the last one. A header starts at a multiple of four, a name never does.
 struct Counted<'a> {
@@ -131,4 +133,19 @@ pub fn fast_walk(v: View, t: Table) -> usize {
     let mut dev = Window { bytes: v.bytes, first: v.first };
     let answer = table(t).walk_dirent_tree(&mut dev);
     std::hint::black_box(&answer).as_ref().map_or(0, |nodes| nodes.len())
+}
+
+/// A whole list written as a table, as the Rust's own image writer does it: room for the entries reserved, the buffers used again from call to call. The
+/// i-th entry is a file of i bytes. Its size and the next free sector; the bytes are in the buffers.
+#[inline]
+pub fn write_list(names: &[String], buffers: &mut DirtabWriterBuffers) -> Option<(u32, u32)> {
+    let mut builder = AvlDirectoryEntryTableBuilder::default();
+    builder.reserve(names.len());
+    for (i, name) in names.iter().enumerate() {
+        builder.add_file(name, i as u32).ok()?;
+    }
+    let mut writer = builder.build().ok()?;
+    let mut sectors = SectorAllocator::default();
+    writer.disk_repr(&mut sectors, buffers).ok()?;
+    Some((writer.dirtab_size(), sectors.allocate_contiguous(0)))
 }

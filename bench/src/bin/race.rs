@@ -1,4 +1,5 @@
-//! race [TURNS]: this repository's readers and the Rust's in turn on the same tables, and the ratios of their times.
+//! race [TURNS [WORDS]]: this repository's code and the Rust's in turn on the same tables and lists, and the ratios of their times. With WORDS only the
+//! tasks that have one of them in their name are raced (words parted by +).
 //!
 //! Time is the thread's processor time, so that waiting for a busy machine does not count. A task is cut into pieces of at most a thousand names; in each turn
 //! each piece is done by both, one right after the other, now the one first, now the other. A task's least time is the sum of its pieces' least
@@ -49,8 +50,16 @@ fn least_and_middle(mut list: Vec<f64>) -> (f64, f64) {
     (list[0], list[list.len() / 2])
 }
 
+/// Whether a task is to be raced.
+fn wanted(what: &str) -> bool {
+    std::env::args().nth(2).map_or(true, |words| words.split('+').any(|word| what.contains(word)))
+}
+
 /// Both in turn, on so many pieces of a task over so many entries.
 fn race(what: &str, turns: usize, pieces: usize, per: usize, mine: &mut dyn FnMut(usize) -> u64, rust: &mut dyn FnMut(usize) -> u64) {
+    if !wanted(what) {
+        return;
+    }
     let (m, r) = (enough(mine), enough(rust));
     let mut times = vec![(vec![], vec![]); pieces];
     for turn in 0..turns {
@@ -79,7 +88,8 @@ fn race(what: &str, turns: usize, pieces: usize, per: usize, mine: &mut dyn FnMu
 fn compare(v: View, t: Table, list: &[String]) {
     let Said::Listed(offsets) = theirs::walk(v, t) else { panic!("the Rust refuses the table") };
     assert_eq!(offsets.len(), list.len());
-    assert_eq!(ours::walk(v, t, list.len()), Said::Listed(offsets));
+    assert_eq!(ours::walk(v, t, list.len()), Said::Listed(offsets.clone()));
+    assert_eq!(ours::check(v, t, list.len()), Said::Listed(offsets));
     for name in list {
         let rust = theirs::look_up(v, t, name);
         assert!(ours::look_up(v, t, name.as_bytes()).agrees(&rust) && plain::look_up(v, t, name.as_bytes()).agrees(&rust));
@@ -98,6 +108,7 @@ fn table(label: &str, turns: usize, list: &[String], order: &[String]) {
     let mut mine = |i: usize| parts[i].iter().map(|name| ours::fast_path(v, t, name.as_bytes())).sum();
     race(&format!("{label}: path of one part"), turns, parts.len(), count, &mut mine, &mut rust);
     let (mut list, mut scratch) = (vec![0u32; count], vec![0u32; count + 1]);
+    let mut stack = vec![0u64; count + 1];
     let mut rust = |_| theirs::fast_walk(v, t) as u64;
     race(&format!("{label}: walk"), 4 * turns, 1, count, &mut |_| ours::fast_walk(v, t, &mut list, &mut scratch) as u64, &mut rust);
     let mut mine = |_| {
@@ -105,6 +116,34 @@ fn table(label: &str, turns: usize, list: &[String], order: &[String]) {
         list[..n].iter().map(|offset| ours::fast_entry(v, t, *offset)).sum()
     };
     race(&format!("{label}: walk, then each entry read"), 4 * turns, 1, count, &mut mine, &mut rust);
+    let mut mine = |_| ours::fast_check(v, t, &mut list, &mut stack) as u64;
+    race(&format!("{label}: strict check, the Rust's walk"), 4 * turns, 1, count, &mut mine, &mut rust);
+}
+
+/// A whole list written as a table, with the bytes, the size and the next free sector compared first.
+fn whole(label: &str, turns: usize, list: &[String]) {
+    let entries = ours::Entries::of(list);
+    let (mut lent, mut buffers, mut out) = (ours::Lent::new(list.len()), Default::default(), vec![7; 262_144 + 2_048]);
+    let rust = theirs::write_list(list, &mut buffers).unwrap_or_else(|| panic!("the Rust refuses {label}"));
+    assert_eq!(ours::write_list(&entries, 33, &mut lent, &mut out), Ok(rust), "{label}");
+    let (round, lent_bytes) = (buffers.dirtab_bytes.len(), lent.bytes());
+    assert!(out[..round] == buffers.dirtab_bytes && out[round..].iter().all(|&x| x == 7) && lent.is_zero(), "{label}");
+    assert_eq!(lent_bytes, 15 * list.len(), "memory lent for an entry");
+    let mut mine = |_| ours::write_list(&entries, 33, &mut lent, &mut out).map_or(0, |(size, next)| size as u64 + next as u64);
+    let mut rust = |_| {
+        let answer = theirs::write_list(list, &mut buffers).map_or(0, |(size, next)| size as u64 + next as u64);
+        black_box(&buffers.dirtab_bytes);
+        answer
+    };
+    race(&format!("{label}: whole table"), 2 * turns, 1, list.len(), &mut mine, &mut rust);
+}
+
+/// A list in the order that it has, and sorted.
+fn both_orders(label: &str, turns: usize, list: &[String]) {
+    whole(label, turns, list);
+    let mut sorted = list.to_vec();
+    sorted.sort_by_key(|name| name.to_ascii_uppercase());
+    whole(&format!("{label}, in order"), turns, &sorted);
 }
 
 fn main() {
@@ -133,4 +172,16 @@ fn main() {
         let order = shuffled(&mut dice, &list);
         table(&format!("{count} names of 26 bytes, 22 of them common"), turns, &list, &order);
     }
+    let list = names(&mut dice, 1, "", 4..=4);
+    table("1 name of 4 bytes", turns, &list, &list);
+    for count in [100, 1_000, 8_000] {
+        both_orders(&format!("{count} names of 4 to 8 bytes"), turns, &names(&mut dice, count, "", 4..=8));
+    }
+    both_orders("15000 names of 1 to 3 bytes", turns, &shuffled(&mut dice, &shortest_names(15_000)));
+    for count in [100, 1_000, 6_500] {
+        let list = names(&mut dice, count, "track_of_the_main_ring", 4..=4);
+        both_orders(&format!("{count} names of 26 bytes, 22 of them common"), turns, &list);
+    }
+    let (whole, word, long) = (ours::Lent::new(1).bytes(), std::mem::size_of::<u32>(), std::mem::size_of::<u64>());
+    println!("\nLent for an entry, besides the caller's own list: {whole} bytes for a whole table, {} for a walk, {} for a strict check.", 2 * word, word + long);
 }

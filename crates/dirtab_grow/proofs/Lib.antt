@@ -4,4 +4,5 @@ pub mod Columns
 pub mod Growth
 pub mod Hung
 pub mod Prefix
+pub mod Rightmost
 pub mod Turn

@@ -1,26 +1,30 @@
 -- The first places of columns hold a tree of the first numbers exactly where the whole columns do. Assumes nothing.
-use Prim.Native.Nat.{ℕ, _+_, _<_}
+use Prim.Native.Nat.{ℕ, _+_, _-_, _<_}
 use native.Mathlib.Omega.{arith}
-use mathlib.Core.Path.{_≡_, refl, sym, ap, _∙_}
+use mathlib.Core.Path.{_≡_, refl, sym, ap, subst, _∙_}
+use mathlib.Core.Bool.{Bool}
 use mathlib.Core.List.{List, _++_}
 use lib.ListN.{length, take, drop, List·getD-append}
 use lib.Seq.{length-take-le, getD-take}
 use Rattle.units.specs.Told.{Told, gives}
 use Rattle.dirtab_entry.specs.Entry.{checkOf}
-use Rattle.avl_model.specs.declared.Place.the-variants.{Root}
+use Rattle.avl_model.specs.declared.Place.the-variants.{Root, Right}
 use Rattle.avl_model.specs.declared.Spot.{Spot}
+use Rattle.avl_model.specs.declared.Spot.the-variants.{Free}
 use Rattle.avl_model.specs.Tree.{Tree, none, ins}
 use Rattle.avl_model.specs.Lists.{Lists, lists}
 use Rattle.avl_model.specs.Names.{Names, names, byName, isLess}
 use Rattle.avl_model.specs.Held.{Long, arrOf}
-use Rattle.avl_model.specs.Seek.{spotIn}
+use Rattle.avl_model.specs.Seek.{spotIn, treeAt}
 use Rattle.dirtab_arena.proofs.Fine.{fine-of}
 use Rattle.avl_model.proofs.Adding.{below}
 use Rattle.avl_model.proofs.Counted.{all-at}
 use Rattle.avl_model.proofs.Frame.{Agree, frame}
 use Rattle.dirtab_grow.specs.declared.Step.{Step}
+use Rattle.dirtab_grow.proofs.Columns.{sought-in}
+use Rattle.dirtab_grow.proofs.Rightmost.{links-tree}
 use Rattle.dirtab_grow.specs.Listing.{Listing, givenIn}
-use Rattle.dirtab_grow.specs.Growing.{stepOf, Grown, Growing, Hangable, Lent, Wide, Stepped}
+use Rattle.dirtab_grow.specs.Growing.{stepOf, After, Grown, Growing, Hangable, Lent, Wide, Stepped}
 
 -- columns that agree on the first n places hold the same tree of n numbers
 pub frame-grown : (S T : Lists) (N : Names) (n : ℕ) (t : Tree) → T .root ≡ S .root → ((j : ℕ) → j < n → Agree (arrOf S) (arrOf T) j) → Grown S N n t → Grown T N n t
@@ -76,6 +80,11 @@ module _ (S : Lists) (K : List ℕ) (L : Listing) (i end : ℕ) (end-is : end �
     inside = record { starts = lent .in-start; ends = lent .in-len; fits = g .inside };
     short = g .short;
   }
+
+  -- where the entry is known to come after the one before it, it does so there
+  pub after-front : {after : Bool} (w : Growing S K N i) → After after N (w .t) i → After after N (treeAt 100 (take end (S .L)) (take end (S .R)) (S .root)) i
+  unfolding growing-front sought-in
+  after-front w f = λ e. (f e .0, subst (λ (t : Tree). spotIn (byName N i) t Root ≡ Free (Right (i - 1))) (sym (links-tree (sought-in front K N i long-front (growing-front w)))) (f e .1))
 
   abbrev spot : Tree → Spot
   spot t = spotIn (byName N i) t Root

@@ -2,13 +2,18 @@
 use Prim.Native.Nat.{ℕ, suc, _+_, _-_, _≤_, _<_}
 use native.Mathlib.Omega.{arith}
 use mathlib.Core.Path.{_≡_, refl, sym, ap, subst, _∙_}
+use mathlib.Core.Bool.{Bool, true, false, _||_}
 use mathlib.Core.List.{List, [], _∷_}
+use lib.Dec.{eqb}
 use lib.ListN.{length}
+use borrow.Author.Tests.{eqb-true}
+use Rattle.layout_name.specs.declared.Order.the-variants.{Greater}
 use Rattle.units.specs.Told.{Told, refuses}
 use Rattle.dirtab_entry.specs.Entry.{checkOf}
 use Rattle.avl_model.specs.declared.Place.the-variants.{Root}
-use Rattle.avl_model.specs.Tree.{Tree, leaf, ins}
+use Rattle.avl_model.specs.Tree.{Tree, leaf, none, ins}
 use Rattle.avl_model.specs.Lists.{Lists, lists}
+use Rattle.avl_model.specs.Held.{arrOf}
 use Rattle.avl_model.specs.Names.{Names, names, byName, toName, isLess}
 use Rattle.avl_model.specs.Seek.{spotIn}
 use Rattle.avl_model.specs.Laws.{All}
@@ -18,7 +23,8 @@ use Rattle.dirtab_grow.specs.declared.Step.{Step}
 use Rattle.dirtab_grow.specs.declared.Step.the-variants as step
 use Rattle.dirtab_grow.specs.Listing.{Listing, listing, givenIn}
 use Rattle.dirtab_grow.specs.Grow.{growFrom, orderIn, grow}
-use Rattle.dirtab_grow.specs.Growing.{numberOf, goOn, stepOf, Grown, Growing, Lent, Wide, Roomy, Stepped, Holding}
+use Rattle.dirtab_grow.specs.Growing.{numberOf, goOn, stepOf, After, Grown, Growing, Lent, Wide, Roomy, Stepped, Holding}
+use Rattle.dirtab_grow.proofs.Rightmost.{Rightmost, first-in, goes-right, one-after}
 
 module _ (L : Listing) where
   abbrev pub named : Names
@@ -69,6 +75,25 @@ module _ (L : Listing) where
     pub low-number : i ≤ 16384
     low-number = b .grown .low
 
+    -- the next entry is known to come after the last, where so did those before it
+    module _ {up after : Bool} (so-far : up ≡ true → Rightmost named (b .t) i) (f : after ≡ true → (up ≡ true) × (byName named at (at - 1) ≡ Greater)) where
+      here-after : after ≡ true → byName named i (i - 1) ≡ Greater
+      here-after e = subst (λ (v : ℕ). byName named v (v - 1) ≡ Greater) is (f e .1)
+
+      pub growing-after : (w : Growing S K named at) × After after named (w .t) at
+      growing-after = subst (λ (v : ℕ). (w : Growing S K named v) × After after named (w .t) v) (sym is) (
+        record { t = b .t; grown = b .grown; keyed = b .keyed },
+        λ e. (so-far (f e .0) .some, goes-right named (b .t) i (b .grown .low) (so-far (f e .0)) (here-after e)),
+      )
+
+      up-by : (x y : Bool) → after ≡ x → eqb i 0 ≡ y → (x || y) ≡ true → Rightmost named (more i (b .t)) (i + 1)
+      up-by true y ex ey e = one-after named (b .t) i (b .grown .low) (so-far (f ex .0)) (here-after ex)
+      up-by false true ex ey e = first-in named (arrOf S) none (λ j. isLess (byName named i j)) (b .t) i (eqb-true i 0 ey) (b .grown .held .rep)
+      up-by false false ex ey e = let z : _≡_ {A = ℕ} 0 1 = cc in absurd (omega arith)
+
+      pub still-up : (after || eqb i 0) ≡ true → Rightmost named (more i (b .t)) (i + 1)
+      still-up = up-by after (eqb i 0) refl refl
+
     module _ (h : i < L .count) {r : Step} {T : Lists} {J : List ℕ}
         (f : (w : Growing S K named at) → Stepped r (check at) (spotIn (byName named at) (w .t) Root) at T J named (more at (w .t))) where
       here : Stepped r (check i) (spotIn (byName named i) (b .t) Root) i T J named (more i (b .t))
@@ -81,7 +106,7 @@ module _ (L : Listing) where
           ∙ ap (λ (k : ℕ). rest k i (b .t)) {x = suc (L .count - (i + 1))} {y = L .count - i} (omega arith)
           ∙ b .whole
 
-      pub one-more : r ≡ step.Taken → Building T J (i + 1)
+      unfoldable one-more : r ≡ step.Taken → Building T J (i + 1)
       one-more e = record {
         t = more i (b .t);
         grown = here .taken e;
@@ -89,6 +114,11 @@ module _ (L : Listing) where
         to = omega arith;
         whole = ap (λ (s : Step). goOn s i (rest (L .count - (i + 1)) (i + 1) (more i (b .t)))) (sym e) ∙ stepped;
       }
+
+      pub one-more-up : {up after : Bool} → (up ≡ true → Rightmost named (b .t) i) → (after ≡ true → (up ≡ true) × (byName named at (at - 1) ≡ Greater)) → r ≡ step.Taken
+          → (n : Building T J (i + 1)) × ((after || eqb i 0) ≡ true → Rightmost named (n .t) (i + 1))
+      unfolding one-more
+      one-more-up so-far g e = (one-more e, still-up so-far g)
 
       pub stops : {c : Cause} → r ≡ step.Refused c → grow (L .bytes) (givenIn L) (L .count) ≡ refuses (numberOf c) (i ∷ [])
       stops e = sym stepped ∙ ap (λ (s : Step). goOn s i (rest (L .count - (i + 1)) (i + 1) (more i (b .t)))) e

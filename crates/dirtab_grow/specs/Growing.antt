@@ -1,10 +1,12 @@
 -- What columns hold while a list's entries are put in one after another, and what each step answers. Assumes nothing.
-use Prim.Native.Nat.{ℕ, _+_, _≤_, _<_}
+use Prim.Native.Nat.{ℕ, _+_, _-_, _≤_, _<_}
 use mathlib.Core.Path.{_≡_}
+use mathlib.Core.Bool.{Bool, true}
 use mathlib.Core.List.{List, [], _∷_}
 use lib.Dec.{ltb}
 use lib.ListN.{length, getD}
 use Rattle.units.specs.Told.{Told, gives, refuses, pick}
+use Rattle.avl_model.specs.declared.Place.the-variants.{Root, Right}
 use Rattle.avl_model.specs.declared.Spot.{Spot}
 use Rattle.avl_model.specs.declared.Spot.the-variants.{Free}
 use Rattle.avl_model.specs.Tree.{Tree, cnt}
@@ -12,7 +14,8 @@ use Rattle.avl_model.specs.Laws.{Avl, All}
 use Rattle.avl_model.specs.Rep.{hole}
 use Rattle.avl_model.specs.Lists.{Lists}
 use Rattle.avl_model.specs.Held.{Long, arrOf, Held}
-use Rattle.avl_model.specs.Names.{Names, nameAt, Inside}
+use Rattle.avl_model.specs.Names.{Names, nameAt, byName, Inside}
+use Rattle.avl_model.specs.Seek.{spotIn}
 use Rattle.avl_keyed.specs.Key.{keyFor, Keyed}
 use Rattle.dirtab_grow.specs.declared.Cause.{Cause}
 use Rattle.dirtab_grow.specs.declared.Cause.the-variants.{EmptyName, BadByte, NameTooLong, SizeOverflow, DuplicateFileName, Room}
@@ -56,6 +59,10 @@ pub record Growing (S : Lists) (K : List ℕ) (N : Names) (n : ℕ) : Type 0 whe
   pub t : Tree
   pub grown : Grown S N n t
   pub keyed : All (Keyed K N) t
+
+-- where the flag is set, the name of the entry `new` goes to the right of the entry before it, in the tree t
+abbrev pub After : Bool → Names → Tree → ℕ → Type 0
+After after N t new = after ≡ true → (0 < new) × (spotIn (byName N new) t Root ≡ Free (Right (new - 1)))
 
 -- what putting the entry `new` in takes, on columns of just so many places
 pub record Hangable (S : Lists) (K : List ℕ) (N : Names) (new : ℕ) : Type 0 where

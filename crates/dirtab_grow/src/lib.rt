@@ -1,18 +1,22 @@
 // A list's entries are put one after another into a tree that lent columns hold, without a check of what the columns held before.
 ghost use mathlib.Core.Path.{_≡_};
-ghost use Prim.Native.Nat.{_≤_, _<_};
-ghost use lib.ListN.{getD};
+ghost use mathlib.Core.Bool.{true};
+ghost use Prim.Native.Nat.{_-_, _≤_, _<_};
+ghost use lib.ListN.{length, getD};
 ghost use Rattle.units.specs.Told.{Told, gives};
 ghost use Rattle.dirtab_entry.specs.Entry.{checkOf};
-ghost use Rattle.avl_model.specs.declared.Place.the-variants.{Root};
+ghost use Rattle.layout_name.specs.declared.Order.the-variants.{Greater};
+ghost use Rattle.avl_model.specs.declared.Place.the-variants.{Root, Right};
+ghost use Rattle.avl_model.specs.declared.Spot.{Spot};
+ghost use Rattle.avl_model.specs.declared.Spot.the-variants.{Free};
 ghost use Rattle.avl_model.specs.Tree.{Tree, ins};
 ghost use Rattle.avl_model.specs.Lists.{lists};
 ghost use Rattle.avl_model.specs.Names.{names, byName, isLess, Inside};
-ghost use Rattle.avl_model.specs.Seek.{spotIn};
+ghost use Rattle.avl_model.specs.Seek.{spotIn, treeAt};
 ghost use Rattle.avl_keyed.specs.Key.{KeySought};
 ghost use Rattle.dirtab_grow.specs.Listing.{listing, givenIn};
 ghost use Rattle.dirtab_grow.specs.Grow.{ifTaken, grow};
-ghost use Rattle.dirtab_grow.specs.Growing.{goOn, Growing, Hangable, Lent, Wide, Roomy, Seated, Stepped, Outcome};
+ghost use Rattle.dirtab_grow.specs.Growing.{goOn, After, Growing, Hangable, Lent, Wide, Roomy, Seated, Stepped, Outcome};
 use avl_insert::name_of;
 use avl_insert::put_in;
 use avl_keyed::key_of;
@@ -24,6 +28,8 @@ use dirtab_entry::Entry;
 use dirtab_entry::EntryChecked;
 use dirtab_entry::check_entry;
 use dirtab_entry::kind_of;
+use layout_name::Order;
+use layout_name::compare;
 use layout_name::raise_name;
 
 // Why an entry is refused.
@@ -108,6 +114,45 @@ fn find_seat(
     }
 }
 
+// Where the entry `new` goes, whose name goes to the right of the entry before it: 6 where 16,384 entries are there.
+fn seat_after(bytes: &[u8], start: &[u32], len: &[u32], new: u16) -> Seat
+    requires { ⌜ Inside (names (now bytes) (now start) (now len)) new × (getD (now len) new 0 ≤ 255) ⌝ }
+    requires { ⌜ 0 < new ⌝ }
+    ensures { λ r. ⌜ ((s : Spot) → s ≡ Free (Right (new - 1)) → Seated r (names (now (bytes .entry)) (now (start .entry)) (now (len .entry))) s new) ⌝ }
+{
+    let name = name_of(bytes, start, len, new);
+    let copy = raise_name(name);
+    let k = key_of(&copy);
+    if 16384 <= new {
+        return Seat::Refused(Cause::Room);
+    }
+    Seat::At(Place::Right(new - 1), k)
+}
+
+// Where the entry `new` goes in the tree, with no search where it is known to come after the entry before it.
+fn choose_seat(
+    left: &[u16],
+    right: &[u16],
+    key: &[u32],
+    bytes: &[u8],
+    start: &[u32],
+    len: &[u32],
+    root: u16,
+    new: u16,
+    after: bool,
+) -> Seat
+    requires { ⌜ KeySought (now left) (now right) (now key) root (names (now bytes) (now start) (now len)) ⌝ }
+    requires { ⌜ Inside (names (now bytes) (now start) (now len)) new × (getD (now len) new 0 ≤ 255) ⌝ }
+    requires { ⌜ After after (names (now bytes) (now start) (now len)) (treeAt 100 (now left) (now right) root) new ⌝ }
+    ensures { λ r. ⌜ ((w : KeySought (now (left .entry)) (now (right .entry)) (now (key .entry)) root (names (now (bytes .entry)) (now (start .entry)) (now (len .entry)))) →
+        Seated r (names (now (bytes .entry)) (now (start .entry)) (now (len .entry))) (spotIn (byName (names (now (bytes .entry)) (now (start .entry)) (now (len .entry))) new) (w .linked .t) Root) new) ⌝ }
+{
+    if after {
+        return seat_after(bytes, start, len, new);
+    }
+    find_seat(left, right, key, bytes, start, len, root, new)
+}
+
 // Puts the entry `new`, the last that the columns have a place for, into the tree.
 pub fn hang_entry(
     root: &mut u16,
@@ -120,14 +165,16 @@ pub fn hang_entry(
     start: &[u32],
     len: &[u32],
     new: u16,
+    after: bool,
 ) -> Step
     requires { ⌜ Hangable (lists (now root) (now left) (now right) (now parent) (now height)) (now key) (names (now bytes) (now start) (now len)) new ⌝ }
+    requires { ⌜ After after (names (now bytes) (now start) (now len)) (treeAt 100 (now left) (now right) (now root)) new ⌝ }
     ensures { λ r. ⌜ ((w : Growing (lists (now (root .entry)) (now (left .entry)) (now (right .entry)) (now (parent .entry)) (now (height .entry))) (now (key .entry)) (names (now (bytes .entry)) (now (start .entry)) (now (len .entry))) new) →
         Stepped r (gives tt) (spotIn (byName (names (now (bytes .entry)) (now (start .entry)) (now (len .entry))) new) (w .t) Root) new
         (lists (now (root .exit)) (now (left .exit)) (now (right .exit)) (now (parent .exit)) (now (height .exit))) (now (key .exit)) (names (now (bytes .entry)) (now (start .entry)) (now (len .entry)))
         (ins (λ i. isLess (byName (names (now (bytes .entry)) (now (start .entry)) (now (len .entry))) new i)) new (w .t))) ⌝ }
 {
-    match find_seat(left, right, key, bytes, start, len, *root, new) {
+    match choose_seat(left, right, key, bytes, start, len, *root, new, after) {
         Seat::Refused(cause) => Step::Refused(cause),
         Seat::At(place, k) => {
             let i = index(new);
@@ -152,10 +199,11 @@ fn add_entry(
     height: &mut [u8],
     key: &mut [u32],
     i: u16,
+    after: bool,
 ) -> Step
     requires { ⌜ Lent (listing 0 (now start) (now len) (now size) (now kind) (now bytes)) i ⌝ }
     requires { ⌜ Wide (lists (now root) (now left) (now right) (now parent) (now height)) (now key) i ⌝ }
-    requires { ⌜ Growing (lists (now root) (now left) (now right) (now parent) (now height)) (now key) (names (now bytes) (now start) (now len)) i ⌝ }
+    requires { ⌜ ((w : Growing (lists (now root) (now left) (now right) (now parent) (now height)) (now key) (names (now bytes) (now start) (now len)) i) × After after (names (now bytes) (now start) (now len)) (w .t) i) ⌝ }
     ensures { λ r. ⌜ ((w : Growing (lists (now (root .entry)) (now (left .entry)) (now (right .entry)) (now (parent .entry)) (now (height .entry))) (now (key .entry)) (names (now (bytes .entry)) (now (start .entry)) (now (len .entry))) i) →
         Stepped r (checkOf (now (bytes .entry)) (givenIn (listing 0 (now (start .entry)) (now (len .entry)) (now (size .entry)) (now (kind .entry)) (now (bytes .entry))) i))
         (spotIn (byName (names (now (bytes .entry)) (now (start .entry)) (now (len .entry))) i) (w .t) Root) i
@@ -177,9 +225,58 @@ fn add_entry(
                 start,
                 len,
                 i,
+                after,
             )
         }
     }
+}
+
+fn wide(x: u32) -> usize
+    ensures { λ r. ⌜ (r ≡ x) × (r < 4294967296) ⌝ }
+{
+    x as usize
+}
+
+// The name of an entry stands inside the bytes lent for names.
+fn has_name(bytes: &[u8], start: &[u32], len: &[u32], at: u16) -> bool
+    requires { ⌜ (at < length (now start)) × (at < length (now len)) ⌝ }
+    ensures { λ r. ⌜ (r ≡ true → Inside (names (now (bytes .entry)) (now (start .entry)) (now (len .entry))) at) ⌝ }
+{
+    let i = index(at);
+    let from = wide(start[i]);
+    let n = wide(len[i]);
+    from + n <= bytes.len()
+}
+
+// The name of an entry is greater than that of the entry before it.
+fn comes_after(bytes: &[u8], start: &[u32], len: &[u32], at: u16) -> bool
+    requires { ⌜ (at < length (now start)) × (at < length (now len)) × (0 < at) ⌝ }
+    ensures { λ r. ⌜ (r ≡ true → byName (names (now (bytes .entry)) (now (start .entry)) (now (len .entry))) at (at - 1) ≡ Greater) ⌝ }
+{
+    let before = at - 1;
+    if has_name(bytes, start, len, at) {
+        if has_name(bytes, start, len, before) {
+            let name = name_of(bytes, start, len, at);
+            let other = name_of(bytes, start, len, before);
+            match compare(name, other) {
+                Order::Greater => return true,
+                Order::Less => return false,
+                Order::Equal => return false,
+            }
+        }
+    }
+    false
+}
+
+// The entries so far came in order (`up`), and the next one goes on so.
+fn goes_up(bytes: &[u8], start: &[u32], len: &[u32], at: u16, up: bool) -> bool
+    requires { ⌜ (at < length (now start)) × (at < length (now len)) × (up ≡ true → 0 < at) ⌝ }
+    ensures { λ r. ⌜ (r ≡ true → (up ≡ true) × (byName (names (now (bytes .entry)) (now (start .entry)) (now (len .entry))) at (at - 1) ≡ Greater)) ⌝ }
+{
+    if up {
+        return comes_after(bytes, start, len, at);
+    }
+    false
 }
 
 // A number as an index of the tree.
@@ -210,9 +307,11 @@ pub fn build(
         (lists (now (root .exit)) (now (left .exit)) (now (right .exit)) (now (parent .exit)) (now (height .exit))) (names (now (bytes .entry)) (now (start .entry)) (now (len .entry))) count ⌝ }
 {
     *root = 65535;
+    let mut up = false;
     let mut i: u32 = 0;
     while i < count {
         let at = narrow(i);
+        let after = goes_up(bytes, start, len, at, up);
         match add_entry(
             bytes,
             start,
@@ -226,8 +325,12 @@ pub fn build(
             height,
             key,
             at,
+            after,
         ) {
-            Step::Taken => i += 1,
+            Step::Taken => {
+                up = after | (i == 0);
+                i += 1;
+            }
             Step::Refused(cause) => return Built::Refused(cause, i),
         }
     }

@@ -1,6 +1,8 @@
 -- Laws of the definitions of planning.
 pub mod Every
 pub mod Rule
+pub mod Trees
+pub mod Sizes
 pub mod Cases
 pub mod Trees
 pub mod Sizes

@@ -4,3 +4,4 @@ pub mod Cases
 pub mod Bytes
 pub mod Turn
 pub mod Raised
+pub mod Front

@@ -1,7 +1,9 @@
 // Names of entries: their order, and the raised copy that insertion compares with.
 ghost use mathlib.Core.Path.{_≡_};
-ghost use Prim.Native.Nat.{_≤_};
-ghost use lib.ListN.{length, take};
+ghost use mathlib.Core.Bool.{_&&_};
+ghost use Prim.Native.Nat.{_+_, _≤_, min};
+ghost use lib.Dec.{eqb};
+ghost use lib.ListN.{length, take, drop, getD};
 ghost use Rattle.layout_name.specs.Order.{raised, byteOrder, nameOrder, raisedCopy};
 
 // How one name stands to another.
@@ -39,11 +41,45 @@ pub fn byte_order(p: u8, q: u8) -> Order
     Order::Equal
 }
 
+// Four bytes of two names, from a place on, are the same as they stand. There is no branch between them, so that they are compared at once.
+fn same_four(a: &[u8], b: &[u8], at: usize) -> bool
+    requires { ⌜ (at + 4 ≤ length (now a)) × (at + 4 ≤ length (now b)) ⌝ }
+    ensures { λ r. ⌜ r ≡ ((eqb (getD (now (a .entry)) at 0) (getD (now (b .entry)) at 0) && eqb (getD (now (a .entry)) (at + 1) 0) (getD (now (b .entry)) (at + 1) 0)) && eqb (getD (now (a .entry)) (at + 2) 0) (getD (now (b .entry)) (at + 2) 0)) && eqb (getD (now (a .entry)) (at + 3) 0) (getD (now (b .entry)) (at + 3) 0) ⌝ }
+{
+    (a[at] == b[at])
+        & (a[at + 1] == b[at + 1])
+        & (a[at + 2] == b[at + 2])
+        & (a[at + 3] == b[at + 3])
+}
+
+// The lesser of two lengths.
+fn shorter(n: usize, m: usize) -> usize
+    ensures { λ r. ⌜ r ≡ min n m ⌝ }
+{
+    if n <= m { n } else { m }
+}
+
+// How many bytes are the same at the front of two names, counted by fours: what is left of the names decides.
+fn same_front(a: &[u8], b: &[u8]) -> usize
+    ensures { λ r. ⌜ (r ≤ length (now (a .entry))) × (r ≤ length (now (b .entry))) × (nameOrder (now (a .entry)) (now (b .entry)) ≡ nameOrder (drop r (now (a .entry))) (drop r (now (b .entry)))) ⌝ }
+{
+    let n = shorter(a.len(), b.len());
+    let mut i = 0;
+    while 4 <= n - i {
+        if same_four(a, b, i) {
+            i += 4;
+        } else {
+            return i;
+        }
+    }
+    i
+}
+
 // The order of two names: byte by byte, raised; a proper prefix is less.
 pub fn compare(a: &[u8], b: &[u8]) -> Order
     ensures { λ r. ⌜ r ≡ nameOrder (now (a .entry)) (now (b .entry)) ⌝ }
 {
-    let mut i = 0;
+    let mut i = same_front(a, b);
     while i < a.len() {
         if b.len() <= i {
             return Order::Greater;
@@ -98,7 +134,7 @@ pub fn compare_raised(copy: &[u8; 255], name: &[u8], other: &[u8]) -> Order
     requires { ⌜ (length (now name) ≤ 255) × (now copy ≡ raisedCopy (now name)) ⌝ }
     ensures { λ r. ⌜ r ≡ nameOrder (now (name .entry)) (now (other .entry)) ⌝ }
 {
-    let mut i = 0;
+    let mut i = same_front(name, other);
     while i < name.len() {
         if other.len() <= i {
             return Order::Greater;

@@ -8,9 +8,12 @@ pub use dirtab_add::Added;
 pub use dirtab_arena::Held;
 pub use dirtab_entry::Entry;
 pub use dirtab_entry::Kind;
+pub use dirtab_entry::kind_of;
+pub use dirtab_list::ListWritten;
 pub use layout_node::Header;
 pub use layout_sector::SectorCounter;
 pub use layout_sector::Taken;
+pub use layout_sector::required_sectors;
 pub use layout_volume::Descriptor;
 pub use layout_volume::DescriptorRead;
 pub use layout_volume::DescriptorWritten;
@@ -20,6 +23,7 @@ pub use read_path::PathFound;
 pub use read_walk::Walked;
 pub use strict::Checked;
 pub use units::Link;
+pub use units::Located;
 pub use units::Offset;
 pub use units::Region;
 pub use units::Sector;
@@ -28,6 +32,7 @@ ghost use lib.ListN.{length};
 ghost use Rattle.dirtab.specs.Serialise as serialising;
 ghost use Rattle.dirtab_add.specs.Add as adding;
 ghost use Rattle.dirtab_arena.specs.Arena.{arena, columns};
+ghost use Rattle.dirtab_list.specs.Whole as whole;
 ghost use Rattle.layout_volume.specs.Descriptor as volume;
 ghost use Rattle.read_entry.specs.Entry as entry;
 ghost use Rattle.read_lookup.specs.Lookup as lookup;
@@ -97,6 +102,10 @@ pub fn check_table(
 }
 
 // WRITING
+//
+// Sectors are handed out by a counter: `SectorCounter::new()` stands at the first, 33 (`SectorCounter::FIRST`), `SectorCounter::starting_at` at a given one. `take` gives the first
+// of the sectors that a length takes (`required_sectors`) and the counter past the last of them, or 8 (`Taken`); `next_free` is where it stands. Their contracts are in
+// `layout_sector`.
 
 // Writes a volume descriptor into the first 2,048 bytes of the output. 9 where it is shorter.
 pub fn write_descriptor(out: &mut [u8], d: Descriptor) -> DescriptorWritten
@@ -175,6 +184,55 @@ pub fn serialise(
         kind,
         names,
         first,
+        order,
+        place,
+        out,
+    )
+}
+
+// Writes the table of the first `count` entries of a list in one call, with sectors from `first` on: the bytes and the numbers that adding each entry in turn and serialising
+// give. The list's columns are as those of an arena (place and length of the name, size, kind); the columns from `left` to `place` are scratch, zero afterwards.
+// 6 where any column is shorter than the count, and then all is unchanged; then for the first entry that adding refuses 1, 2, 3, 5, 4, 6 with its number; then 7, 8, 9.
+pub fn write_list(
+    count: u32,
+    start: &[u32],
+    len: &[u32],
+    size: &[u32],
+    kind: &[u8],
+    names: &[u8],
+    first: Sector,
+    left: &mut [u16],
+    right: &mut [u16],
+    parent: &mut [u16],
+    height: &mut [u8],
+    key: &mut [u32],
+    order: &mut [u16],
+    place: &mut [u16],
+    out: &mut [u8],
+) -> ListWritten
+    ensures { λ r. ⌜ whole.told r ≡ whole.wholeOf (whole.listing count (now (start .entry)) (now (len .entry)) (now (size .entry)) (now (kind .entry)) (now (names .entry))) (whole.shortest (now (left .entry)) (now (right .entry)) (now (parent .entry)) (now (height .entry)) (now (key .entry)) (now (order .entry)) (now (place .entry))) (first .0) (length (now (out .entry))) ⌝ }
+    ensures { λ _. ⌜ now (out .exit) ≡ whole.outAfter (whole.listing count (now (start .entry)) (now (len .entry)) (now (size .entry)) (now (kind .entry)) (now (names .entry))) (whole.shortest (now (left .entry)) (now (right .entry)) (now (parent .entry)) (now (height .entry)) (now (key .entry)) (now (order .entry)) (now (place .entry))) (first .0) (now (out .entry)) ⌝ }
+    ensures { λ _. ⌜ now (left .exit) ≡ whole.scratchAfter (whole.listing count (now (start .entry)) (now (len .entry)) (now (size .entry)) (now (kind .entry)) (now (names .entry))) (whole.shortest (now (left .entry)) (now (right .entry)) (now (parent .entry)) (now (height .entry)) (now (key .entry)) (now (order .entry)) (now (place .entry))) (now (left .entry)) ⌝ }
+    ensures { λ _. ⌜ now (right .exit) ≡ whole.scratchAfter (whole.listing count (now (start .entry)) (now (len .entry)) (now (size .entry)) (now (kind .entry)) (now (names .entry))) (whole.shortest (now (left .entry)) (now (right .entry)) (now (parent .entry)) (now (height .entry)) (now (key .entry)) (now (order .entry)) (now (place .entry))) (now (right .entry)) ⌝ }
+    ensures { λ _. ⌜ now (parent .exit) ≡ whole.scratchAfter (whole.listing count (now (start .entry)) (now (len .entry)) (now (size .entry)) (now (kind .entry)) (now (names .entry))) (whole.shortest (now (left .entry)) (now (right .entry)) (now (parent .entry)) (now (height .entry)) (now (key .entry)) (now (order .entry)) (now (place .entry))) (now (parent .entry)) ⌝ }
+    ensures { λ _. ⌜ now (height .exit) ≡ whole.scratchAfter (whole.listing count (now (start .entry)) (now (len .entry)) (now (size .entry)) (now (kind .entry)) (now (names .entry))) (whole.shortest (now (left .entry)) (now (right .entry)) (now (parent .entry)) (now (height .entry)) (now (key .entry)) (now (order .entry)) (now (place .entry))) (now (height .entry)) ⌝ }
+    ensures { λ _. ⌜ now (key .exit) ≡ whole.scratchAfter (whole.listing count (now (start .entry)) (now (len .entry)) (now (size .entry)) (now (kind .entry)) (now (names .entry))) (whole.shortest (now (left .entry)) (now (right .entry)) (now (parent .entry)) (now (height .entry)) (now (key .entry)) (now (order .entry)) (now (place .entry))) (now (key .entry)) ⌝ }
+    ensures { λ _. ⌜ now (order .exit) ≡ whole.scratchAfter (whole.listing count (now (start .entry)) (now (len .entry)) (now (size .entry)) (now (kind .entry)) (now (names .entry))) (whole.shortest (now (left .entry)) (now (right .entry)) (now (parent .entry)) (now (height .entry)) (now (key .entry)) (now (order .entry)) (now (place .entry))) (now (order .entry)) ⌝ }
+    ensures { λ _. ⌜ now (place .exit) ≡ whole.scratchAfter (whole.listing count (now (start .entry)) (now (len .entry)) (now (size .entry)) (now (kind .entry)) (now (names .entry))) (whole.shortest (now (left .entry)) (now (right .entry)) (now (parent .entry)) (now (height .entry)) (now (key .entry)) (now (order .entry)) (now (place .entry))) (now (place .entry)) ⌝ }
+{
+    dirtab_list::write_list(
+        count,
+        start,
+        len,
+        size,
+        kind,
+        names,
+        first,
+        left,
+        right,
+        parent,
+        height,
+        key,
         order,
         place,
         out,

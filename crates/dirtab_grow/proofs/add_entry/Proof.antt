@@ -11,7 +11,7 @@ use Rattle.avl_model.specs.Seek.{spotIn}
 use Rattle.dirtab_grow.specs.Listing.{listing, givenIn}
 use Rattle.dirtab_grow.proofs.Checked.{passes, refused-by}
 use Rattle.dirtab_grow.proofs.Hung.{refused-step}
-use Rattle.dirtab_grow.proofs.Prefix.{hangable, out-hung}
+use Rattle.dirtab_grow.proofs.Prefix.{hangable, after-front, out-hung}
 use borrow.Author.Needs.{needs}
 use Rattle.dirtab_grow.proofs.add_entry.Statement.{statement}
 use Rattle.dirtab_grow.proofs.add_entry.Tie as tie
@@ -57,9 +57,11 @@ slice-aggregate-hang-entry-4 c = let s = c .before .before .before .before .befo
 
 hang-entry-requires : tie.Need-hang-entry-requires
 hang-entry-requires c κs = let s = c .before .before .before .before .before .before .before .before .before .before .before .before .before .before .before .before .before .before .before .before in let a = s .args in
-    let L = listing 0 (a .start .now) (a .len .now) (a .size .now) (a .kind .now) (a .bytes .now) in
-    hangable (lists (a .root .now) (a .left .now) (a .right .now) (a .parent .now) (a .height .now)) (a .key .now) L (a .i) (c .before .before .before .before .before .before .index .result + 1) (omega (arith, c .before .before .before .before .before .before .index .ensures .0)) (s .pre .1 .0) (s .pre .0)
-    (passes (a .i) (checkOf (a .bytes .now) (givenIn L (a .i))) (c .before .before .before .before .before .before .before .before .before .check-at .ensures) (c .before .before .before .before .before .before .before .enum-told .given .1)) (s .pre .1 .1)
+    let L = listing 0 (a .start .now) (a .len .now) (a .size .now) (a .kind .now) (a .bytes .now) in (
+      hangable (lists (a .root .now) (a .left .now) (a .right .now) (a .parent .now) (a .height .now)) (a .key .now) L (a .i) (c .before .before .before .before .before .before .index .result + 1) (omega (arith, c .before .before .before .before .before .before .index .ensures .0)) (s .pre .1 .0) (s .pre .0)
+          (passes (a .i) (checkOf (a .bytes .now) (givenIn L (a .i))) (c .before .before .before .before .before .before .before .before .before .check-at .ensures) (c .before .before .before .before .before .before .before .enum-told .given .1)) (s .pre .1 .1 .0),
+      after-front (lists (a .root .now) (a .left .now) (a .right .now) (a .parent .now) (a .height .now)) (a .key .now) L (a .i) (c .before .before .before .before .before .before .index .result + 1) (omega (arith, c .before .before .before .before .before .before .index .ensures .0)) (s .pre .1 .0) (s .pre .1 .1 .0) (s .pre .1 .1 .1),
+    )
 
 returns : tie.Need-returns
 returns c = λ w. let a = c .before .before .before .before .before .before .before .before .before .before .before .before .before .before .args in

@@ -7,9 +7,9 @@ use borrow.Author.Needs.{needs}
 use Rattle.dirtab_grow.proofs.hang_entry.Statement.{statement}
 use Rattle.dirtab_grow.proofs.hang_entry.Tie as tie
 
-find-seat-requires : tie.Need-find-seat-requires
-find-seat-requires c κs = let s = c .before .before .before .before .before .before .before .before .before .before .before .before in let a = s .args in
-    (sought-in (lists (a .root .now) (a .left .now) (a .right .now) (a .parent .now) (a .height .now)) (a .key .now) (names (a .bytes .now) (a .start .now) (a .len .now)) (a .new) (s .pre .long) (s .pre .growing), (s .pre .inside, s .pre .short))
+choose-seat-requires : tie.Need-choose-seat-requires
+choose-seat-requires c κs = let s = c .before .before .before .before .before .before .before .before .before .before .before .before in let a = s .args in
+    (sought-in (lists (a .root .now) (a .left .now) (a .right .now) (a .parent .now) (a .height .now)) (a .key .now) (names (a .bytes .now) (a .start .now) (a .len .now)) (a .new) (s .pre .0 .long) (s .pre .0 .growing), ((s .pre .0 .inside, s .pre .0 .short), s .pre .1))
 
 enum-known-cause : tie.Need-enum-known-cause
 enum-known-cause c = search needs
@@ -28,7 +28,7 @@ slice-write-key c = search needs
 
 put-in-requires : tie.Need-put-in-requires
 put-in-requires c κs = let s = c .before .before .before .before .before .before .before .before .before .before .before .before .before .before .before .before .before .before .before .before .before .before in let a = s .args in
-    placed (lists (a .root .now) (a .left .now) (a .right .now) (a .parent .now) (a .height .now)) (a .key .now) (names (a .bytes .now) (a .start .now) (a .len .now)) (a .new) (s .pre .long) (c .before .before .before .before .before .before .before .before .before .find-seat .result) (c .before .before .before .before .before .before .before .before .before .find-seat .ensures) (c .before .before .before .before .before .before .before .place .given .1) (s .pre .growing)
+    placed (lists (a .root .now) (a .left .now) (a .right .now) (a .parent .now) (a .height .now)) (a .key .now) (names (a .bytes .now) (a .start .now) (a .len .now)) (a .new) (s .pre .0 .long) (c .before .before .before .before .before .before .before .before .before .choose-seat .result) (c .before .before .before .before .before .before .before .before .before .choose-seat .ensures) (c .before .before .before .before .before .before .before .place .given .1) (s .pre .0 .growing)
 
 same-length : tie.Need-same-length
 same-length c = search needs
@@ -41,7 +41,7 @@ same-length-3 c = search needs
 
 returns : tie.Need-returns
 returns c = λ w. let s = c .before .before .before .before .before .before .before .before .before .before .before .before .before .before .before .before in let a = s .args in
-    out-refused (lists (a .root .now) (a .left .now) (a .right .now) (a .parent .now) (a .height .now)) (a .key .now) (names (a .bytes .now) (a .start .now) (a .len .now)) (a .new) (s .pre .long) (c .before .before .before .find-seat .result) (c .before .before .before .find-seat .ensures) (c .before .cause .given .1) w
+    out-refused (lists (a .root .now) (a .left .now) (a .right .now) (a .parent .now) (a .height .now)) (a .key .now) (names (a .bytes .now) (a .start .now) (a .len .now)) (a .new) (s .pre .0 .long) (c .before .before .before .choose-seat .result) (c .before .before .before .choose-seat .ensures) (c .before .cause .given .1) w
 
 same-length-4 : tie.Need-same-length-4
 same-length-4 c = search needs
@@ -60,13 +60,13 @@ same-length-8 c = search needs
 
 returns-2 : tie.Need-returns-2
 returns-2 c = λ w. let s = c .before .before .before .before .before .before .before .before .before .before .before .before .before .before .before .before .before .before .before .before .before .before .before .before .before .before .before .before .before .before .before in let a = s .args in
-    out-taken (lists (a .root .now) (a .left .now) (a .right .now) (a .parent .now) (a .height .now)) (a .key .now) (names (a .bytes .now) (a .start .now) (a .len .now)) (a .new) (s .pre .long) (c .before .before .before .before .before .before .before .before .before .before .before .before .before .before .before .before .before .before .find-seat .result) (c .before .before .before .before .before .before .before .before .before .before .before .before .before .before .before .before .before .before .find-seat .ensures) (c .before .before .before .before .before .before .before .before .before .before .before .before .before .before .before .before .place .given .1) w (c .before .before .before .before .before .before .before .before .before .before .before .before .before .before .index .ensures .0) (s .pre .inside) (s .pre .has) (c .before .before .before .before .before .before .before .before .put-in .ensures)
+    out-taken (lists (a .root .now) (a .left .now) (a .right .now) (a .parent .now) (a .height .now)) (a .key .now) (names (a .bytes .now) (a .start .now) (a .len .now)) (a .new) (s .pre .0 .long) (c .before .before .before .before .before .before .before .before .before .before .before .before .before .before .before .before .before .before .choose-seat .result) (c .before .before .before .before .before .before .before .before .before .before .before .before .before .before .before .before .before .before .choose-seat .ensures) (c .before .before .before .before .before .before .before .before .before .before .before .before .before .before .before .before .place .given .1) w (c .before .before .before .before .before .before .before .before .before .before .before .before .before .before .index .ensures .0) (s .pre .0 .inside) (s .pre .0 .has) (c .before .before .before .before .before .before .before .before .put-in .ensures)
 
 pub hang-entry-spec : {M : Type 1} → statement M
 hang-entry-spec =
     tie.close
     (tie.spec
-    find-seat-requires
+    choose-seat-requires
     enum-known-cause
     enum-known-place
     index-requires

@@ -1,7 +1,6 @@
 -- `layout_name::compare` meets its contract. The invariant: the bytes passed are alike, so that what is left decides. The measure is what is left. Assumes nothing.
 use Prim.Native.Nat.{_≤_, _-_}
-use mathlib.Core.Path.{_≡_, refl}
-use native.Mathlib.Omega.{arith}
+use mathlib.Core.Path.{_≡_}
 use borrow.Author.Needs.{needs}
 use lib.ListN.{length, drop}
 use Rattle.layout_name.specs.Order.{nameOrder}
@@ -18,8 +17,11 @@ Inv-loop a b i₀ i = (i ≤ length a) × (i ≤ length b) × (nameOrder a b ≡
 abbrev μ-loop : tie.MeasureT-loop
 μ-loop a b i₀ i = length a - i
 
+same-front-requires : tie.Need-same-front-requires Inv-loop μ-loop
+same-front-requires c κs = search needs
+
 loop-holds : tie.Need-loop-holds Inv-loop μ-loop
-loop-holds c = (omega arith, omega arith, refl)
+loop-holds c = search needs
 
 returns : tie.Need-returns Inv-loop μ-loop
 returns c = search b-ended
@@ -69,6 +71,7 @@ compare-spec =
     (tie.spec
     Inv-loop
     μ-loop
+    same-front-requires
     loop-holds
     returns
     shared-slice-read-byte-order

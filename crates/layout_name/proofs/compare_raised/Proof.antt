@@ -1,7 +1,6 @@
 -- `layout_name::compare_raised` meets its contract: the loop of `compare`, with each byte of the first name at hand raised. Assumes nothing.
 use Prim.Native.Nat.{_≤_, _-_}
-use mathlib.Core.Path.{_≡_, refl}
-use native.Mathlib.Omega.{arith}
+use mathlib.Core.Path.{_≡_}
 use borrow.Author.Needs.{needs}
 use lib.ListN.{length, drop}
 use Rattle.layout_name.specs.Order.{nameOrder, raisedCopy}
@@ -19,8 +18,11 @@ Inv-loop copy name other i₀ i = (i ≤ length name) × (i ≤ length other) ×
 abbrev μ-loop : tie.MeasureT-loop
 μ-loop copy name other i₀ i = length name - i
 
+same-front-requires : tie.Need-same-front-requires Inv-loop μ-loop
+same-front-requires c κs = search needs
+
 loop-holds : tie.Need-loop-holds Inv-loop μ-loop
-loop-holds c = (omega arith, omega arith, search needs, search needs, refl)
+loop-holds c = search needs
 
 returns : tie.Need-returns Inv-loop μ-loop
 returns c = search b-ended
@@ -74,6 +76,7 @@ compare-raised-spec =
     (tie.spec
     Inv-loop
     μ-loop
+    same-front-requires
     loop-holds
     returns
     shared-slice-read-raised-byte-order

@@ -1,0 +1,194 @@
+//! The refusals, with what each carries and what it means in words.
+use std::fmt;
+
+/// Why a call was refused. [`Error::number`] is document 01's number. After a refusal all memory that was lent is as the function's own words say: unchanged, but for
+/// scratch and the lists of a walk.
+///
+/// `entry` is the number of an entry in a list; there is none where a single entry was added. `offset` is a byte offset in a table.
+#[derive(Clone, Copy, Debug, PartialEq, Eq)]
+pub enum Error {
+    EmptyName {
+        entry: Option<u32>,
+    },
+    BadByte {
+        entry: Option<u32>,
+    },
+    /// The same number, of a name or path that was sought.
+    BadByteSought,
+    NameTooLong {
+        entry: Option<u32>,
+    },
+    DuplicateFileName {
+        entry: Option<u32>,
+    },
+    SizeOverflow {
+        entry: Option<u32>,
+    },
+    /// Lent memory is too short.
+    Room,
+    /// The same number: as many entries are held as can be.
+    Full {
+        entry: Option<u32>,
+    },
+    TooManyDirectoryEntries,
+    SectorOverflow,
+    BufferTooSmall,
+    BadArena,
+    NoVolume,
+    DirectoryEmpty,
+    /// With the number of entry headers read, where a single name was looked up.
+    DoesNotExist {
+        headers: Option<u32>,
+    },
+    OutOfBounds {
+        offset: u32,
+    },
+    Truncated {
+        offset: u32,
+    },
+    Looped,
+    WalkFull,
+    IsNotDirectory,
+    NoDirent,
+    Shared {
+        offset: u32,
+    },
+    OutOfOrder {
+        offset: u32,
+    },
+    BadPlace {
+        offset: u32,
+    },
+}
+
+impl Error {
+    /// The number in document 01 and in include/xdvdfs.h.
+    pub fn number(self) -> u32 {
+        match self {
+            Error::EmptyName { .. } => 1,
+            Error::BadByte { .. } | Error::BadByteSought => 2,
+            Error::NameTooLong { .. } => 3,
+            Error::DuplicateFileName { .. } => 4,
+            Error::SizeOverflow { .. } => 5,
+            Error::Room | Error::Full { .. } => 6,
+            Error::TooManyDirectoryEntries => 7,
+            Error::SectorOverflow => 8,
+            Error::BufferTooSmall => 9,
+            Error::BadArena => 12,
+            Error::NoVolume => 20,
+            Error::DirectoryEmpty => 21,
+            Error::DoesNotExist { .. } => 22,
+            Error::OutOfBounds { .. } => 23,
+            Error::Truncated { .. } => 24,
+            Error::Looped => 25,
+            Error::WalkFull => 26,
+            Error::IsNotDirectory => 27,
+            Error::NoDirent => 28,
+            Error::Shared { .. } => 30,
+            Error::OutOfOrder { .. } => 31,
+            Error::BadPlace { .. } => 32,
+        }
+    }
+
+    /// A refusal of a single entry, or of one of a list.
+    pub(crate) fn adding(number: u32, entry: Option<u32>) -> Error {
+        match number {
+            1 => Error::EmptyName { entry },
+            2 => Error::BadByte { entry },
+            3 => Error::NameTooLong { entry },
+            4 => Error::DuplicateFileName { entry },
+            5 => Error::SizeOverflow { entry },
+            6 => Error::Full { entry },
+            12 => Error::BadArena,
+            n => ruled_out(n),
+        }
+    }
+
+    /// A refusal to write a table.
+    pub(crate) fn writing(number: u32) -> Error {
+        match number {
+            6 => Error::Room,
+            7 => Error::TooManyDirectoryEntries,
+            8 => Error::SectorOverflow,
+            9 => Error::BufferTooSmall,
+            12 => Error::BadArena,
+            n => ruled_out(n),
+        }
+    }
+
+    /// A refusal of a reader.
+    pub(crate) fn reading(number: u32, offset: u32, headers: Option<u32>) -> Error {
+        match number {
+            2 => Error::BadByteSought,
+            6 => Error::Room,
+            20 => Error::NoVolume,
+            21 => Error::DirectoryEmpty,
+            22 => Error::DoesNotExist { headers },
+            23 => Error::OutOfBounds { offset },
+            24 => Error::Truncated { offset },
+            25 => Error::Looped,
+            26 => Error::WalkFull,
+            27 => Error::IsNotDirectory,
+            28 => Error::NoDirent,
+            30 => Error::Shared { offset },
+            31 => Error::OutOfOrder { offset },
+            32 => Error::BadPlace { offset },
+            n => ruled_out(n),
+        }
+    }
+}
+
+/// The contracts leave no other number.
+fn ruled_out(number: u32) -> ! {
+    unreachable!("the library answered {number}, which its contract rules out")
+}
+
+impl fmt::Display for Error {
+    fn fmt(&self, f: &mut fmt::Formatter<'_>) -> fmt::Result {
+        if let Error::EmptyName { entry: Some(i) }
+        | Error::BadByte { entry: Some(i) }
+        | Error::NameTooLong { entry: Some(i) }
+        | Error::DuplicateFileName { entry: Some(i) }
+        | Error::SizeOverflow { entry: Some(i) }
+        | Error::Full { entry: Some(i) } = self
+        {
+            write!(f, "entry {i} of the list: ")?;
+        }
+        match self {
+            Error::EmptyName { .. } => write!(f, "the name is empty"),
+            Error::BadByte { .. } => {
+                write!(f, "a byte of the name is 0 or above 127, or the name's place reaches past the bytes lent for names")
+            }
+            Error::BadByteSought => write!(f, "a byte of what is sought is above 127"),
+            Error::NameTooLong { .. } => write!(f, "the name has more than 255 bytes"),
+            Error::DuplicateFileName { .. } => write!(f, "an entry of that name is there already, upper and lower case being one"),
+            Error::SizeOverflow { .. } => write!(f, "the directory's size is above 4294965248 bytes"),
+            Error::Room => write!(f, "the memory lent for the call is too short"),
+            Error::Full { .. } => write!(f, "the table is full: no place is left, or it holds 16384 entries"),
+            Error::TooManyDirectoryEntries => {
+                write!(f, "the table is too long: an entry would stand at offset 262144 or past it, where no link reaches")
+            }
+            Error::SectorOverflow => write!(f, "the next free sector would exceed 4294967295"),
+            Error::BufferTooSmall => write!(f, "the output is shorter than what is to be written"),
+            Error::BadArena => write!(f, "the arena does not hold one ordered, balanced tree of entries that adding takes"),
+            Error::NoVolume => write!(f, "no volume descriptor: one of its two marks differs or is cut short"),
+            Error::DirectoryEmpty => write!(f, "the directory is empty: its table has size 0"),
+            Error::DoesNotExist { headers: Some(1) } => write!(f, "no entry has that name (1 header read)"),
+            Error::DoesNotExist { headers: Some(n) } => write!(f, "no entry has that name ({n} headers read)"),
+            Error::DoesNotExist { headers: None } => write!(f, "no entry has that name"),
+            Error::OutOfBounds { offset } => write!(f, "offset {offset} is not below the table's size"),
+            Error::Truncated { offset } => write!(f, "the entry at offset {offset} of its table is not whole in the bytes at hand"),
+            Error::Looped => write!(f, "the table's links lead round in a circle: the lookup would never end"),
+            Error::WalkFull => write!(f, "the table has more entries than the list has places"),
+            Error::IsNotDirectory => write!(f, "a part of the path, not its last, is no directory"),
+            Error::NoDirent => write!(f, "the path has no part"),
+            Error::Shared { offset } => write!(f, "the entry at offset {offset} is reached twice"),
+            Error::OutOfOrder { offset } => write!(f, "the name of the entry at offset {offset} is on the wrong side of its parent's"),
+            Error::BadPlace { offset } => {
+                write!(f, "the entry at offset {offset} overlaps another, crosses a sector line or leaves the table")
+            }
+        }
+    }
+}
+
+impl std::error::Error for Error {}

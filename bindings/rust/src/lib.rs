@@ -1,0 +1,28 @@
+//! XDVDFS directory tables, read and written by proved code.
+//!
+//! A safe skin over libcapi.a (`rt staticlib capi`): slices in, `Result<_, Error>` out. Every number and every byte is accepted: bad input is an [`Error`], whose message
+//! says in words what is wrong.
+//!
+//! ```
+//! use xdvdfs_tables::{write_table, Kind, NewEntry, Table, Window};
+//!
+//! let (bytes, written) = write_table(&[NewEntry { name: b"ab", kind: Kind::File, size: 5 }], 33)?;
+//! let table = Table { sector: 100, size: written.size };
+//! let window = Window { bytes: &bytes, first: 100 };
+//! let found = window.look_up(table, b"AB")?;
+//! assert_eq!((found.entry.name, found.entry.header.sector, found.headers), (&b"ab"[..], 33, 1));
+//! # Ok::<(), xdvdfs_tables::Error>(())
+//! ```
+mod error;
+mod read;
+mod sys;
+mod write;
+
+pub use error::Error;
+pub use read::{read_descriptor, Entry, Found, Header, Table, Window};
+pub use write::{
+    required_sectors, write_descriptor, write_list, write_table, Arena, Kind, List, NewEntry, Scratch, SectorCounter, Written,
+};
+
+#[cfg(test)]
+mod tests;

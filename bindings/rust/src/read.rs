@@ -1,0 +1,210 @@
+//! Reading tables out of a window of image bytes.
+use crate::{sys, Error};
+
+/// A directory table: its first sector, and its size in bytes.
+#[derive(Clone, Copy, Debug, PartialEq, Eq)]
+pub struct Table {
+    pub sector: u32,
+    pub size: u32,
+}
+
+/// The header of an entry. Links are in units of four bytes.
+#[derive(Clone, Copy, Debug, PartialEq, Eq)]
+pub struct Header {
+    pub left: u16,
+    pub right: u16,
+    pub sector: u32,
+    pub size: u32,
+    pub attributes: u8,
+    pub name_len: u8,
+}
+
+impl Header {
+    fn from_fields(fields: sys::Fields) -> Header {
+        let [left, right, sector, size, attributes, name_len] = fields;
+        // the contract: each number is that of a u16 or u8 field
+        Header { left: left as u16, right: right as u16, sector, size, attributes: attributes as u8, name_len: name_len as u8 }
+    }
+
+    /// The attribute bit 0x10 marks a directory.
+    pub fn is_directory(&self) -> bool {
+        self.attributes & 0x10 != 0
+    }
+
+    /// A directory's table; none for a file.
+    pub fn table(&self) -> Option<Table> {
+        self.is_directory().then_some(Table { sector: self.sector, size: self.size })
+    }
+}
+
+/// An entry: its header, the place of its first byte in the window, and its name, which is that part of the window.
+#[derive(Clone, Copy, Debug, PartialEq, Eq)]
+pub struct Entry<'a> {
+    pub header: Header,
+    pub place: usize,
+    pub name: &'a [u8],
+}
+
+/// What a lookup gives: the entry, its offset in the table, and the number of entry headers read.
+#[derive(Clone, Copy, Debug, PartialEq, Eq)]
+pub struct Found<'a> {
+    pub entry: Entry<'a>,
+    pub offset: u32,
+    pub headers: u32,
+}
+
+/// A run of image bytes that starts at the sector `first`.
+#[derive(Clone, Copy, Debug)]
+pub struct Window<'a> {
+    pub bytes: &'a [u8],
+    pub first: u32,
+}
+
+/// Reads the volume descriptor that the bytes start with: the root table.
+pub fn read_descriptor(bytes: &[u8]) -> Result<Table, Error> {
+    let (mut sector, mut size) = (0, 0);
+    match unsafe { sys::xdvdfs_read_descriptor(bytes.as_ptr(), bytes.len(), &mut sector, &mut size) } {
+        0 => Ok(Table { sector, size }),
+        n => Err(Error::reading(n, 0, None)),
+    }
+}
+
+impl<'a> Window<'a> {
+    fn entry(&self, fields: sys::Fields, place: usize) -> Entry<'a> {
+        let header = Header::from_fields(fields);
+        Entry { header, place, name: self.name(place, header.name_len) }
+    }
+
+    /// The name of an entry whose first byte stands at a place of the window.
+    pub fn name(&self, place: usize, name_len: u8) -> &'a [u8] {
+        let (mut start, mut len) = (0, 0);
+        unsafe { sys::xdvdfs_entry_name(self.bytes.as_ptr(), self.bytes.len(), place, name_len, &mut start, &mut len) };
+        &self.bytes[start..start + len]
+    }
+
+    /// Reads the entry at an offset of a table; `None` where no entry stands there.
+    pub fn read_entry(&self, table: Table, offset: u32) -> Result<Option<Entry<'a>>, Error> {
+        let (mut found, mut fields, mut place) = (0, [0; 6], 0);
+        let n = unsafe {
+            sys::xdvdfs_read_entry(
+                self.bytes.as_ptr(),
+                self.bytes.len(),
+                self.first,
+                table.sector,
+                table.size,
+                offset,
+                &mut found,
+                &mut fields,
+                &mut place,
+            )
+        };
+        match n {
+            0 => Ok((found == 1).then(|| self.entry(fields, place))),
+            n => Err(Error::reading(n, offset, None)),
+        }
+    }
+
+    /// Looks a name up in a table; a to z count as A to Z.
+    pub fn look_up(&self, table: Table, name: &[u8]) -> Result<Found<'a>, Error> {
+        let (mut fields, mut place, mut offset, mut headers) = ([0; 6], 0, 0, 0);
+        let n = unsafe {
+            sys::xdvdfs_look_up(
+                self.bytes.as_ptr(),
+                self.bytes.len(),
+                self.first,
+                table.sector,
+                table.size,
+                name.as_ptr(),
+                name.len(),
+                &mut fields,
+                &mut place,
+                &mut offset,
+                &mut headers,
+            )
+        };
+        match n {
+            0 => Ok(Found { entry: self.entry(fields, place), offset, headers }),
+            n => Err(Error::reading(n, offset, Some(headers))),
+        }
+    }
+
+    /// Follows a path from a table.
+    pub fn find_path(&self, table: Table, path: &[u8]) -> Result<Entry<'a>, Error> {
+        let (mut fields, mut place, mut offset) = ([0; 6], 0, 0);
+        let n = unsafe {
+            sys::xdvdfs_find_path(
+                self.bytes.as_ptr(),
+                self.bytes.len(),
+                self.first,
+                table.sector,
+                table.size,
+                path.as_ptr(),
+                path.len(),
+                &mut fields,
+                &mut place,
+                &mut offset,
+            )
+        };
+        match n {
+            0 => Ok(self.entry(fields, place)),
+            n => Err(Error::reading(n, offset, None)),
+        }
+    }
+
+    /// Lists the offsets of a table's entries in preorder, and says how many they are; the list is zero past them. The scratch has to be longer than the list, and is zero
+    /// afterwards. After [`Error::Room`] both are unchanged; after another refusal the list is all zero.
+    pub fn walk(&self, table: Table, list: &mut [u32], scratch: &mut [u32]) -> Result<usize, Error> {
+        let (mut count, mut offset) = (0, 0);
+        let n = unsafe {
+            sys::xdvdfs_walk(
+                self.bytes.as_ptr(),
+                self.bytes.len(),
+                self.first,
+                table.sector,
+                table.size,
+                list.as_mut_ptr(),
+                list.len(),
+                scratch.as_mut_ptr(),
+                scratch.len(),
+                &mut count,
+                &mut offset,
+            )
+        };
+        match n {
+            0 => Ok(count),
+            n => Err(Error::reading(n, offset, None)),
+        }
+    }
+
+    /// Checks that a table is of the form on which all readers agree, and lists it as [`Window::walk`] does.
+    pub fn check_table(&self, table: Table, list: &mut [u32], scratch: &mut [u64]) -> Result<usize, Error> {
+        let (mut count, mut offset) = (0, 0);
+        let n = unsafe {
+            sys::xdvdfs_check_table(
+                self.bytes.as_ptr(),
+                self.bytes.len(),
+                self.first,
+                table.sector,
+                table.size,
+                list.as_mut_ptr(),
+                list.len(),
+                scratch.as_mut_ptr(),
+                scratch.len(),
+                &mut count,
+                &mut offset,
+            )
+        };
+        match n {
+            0 => Ok(count),
+            n => Err(Error::reading(n, offset, None)),
+        }
+    }
+
+    /// The entries of a table in walk order, at most so many ([`Error::WalkFull`] where there are more).
+    pub fn list(&self, table: Table, most: usize) -> Result<Vec<Entry<'a>>, Error> {
+        let mut list = vec![0; most];
+        let count = self.walk(table, &mut list, &mut vec![0; most + 1])?;
+        let read = |&offset: &u32| self.read_entry(table, offset).map(|e| e.expect("what the walk lists is an entry"));
+        list[..count].iter().map(read).collect()
+    }
+}

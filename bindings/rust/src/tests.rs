@@ -1,0 +1,200 @@
+//! What the skin hands on: each operation answered and refused, with the values that the answer carries and the memory that it leaves.
+use crate::*;
+
+fn file(name: &str) -> NewEntry<'_> {
+    NewEntry { name: name.as_bytes(), kind: Kind::File, size: 1 }
+}
+
+fn table_of(names: &[&str], first: u32) -> (Vec<u8>, Written) {
+    write_table(&names.iter().map(|n| file(n)).collect::<Vec<_>>(), first).unwrap()
+}
+
+/// A root with a directory `d` that has a file `x`, and a file `limits`: sectors 33 and 34 are the tables.
+fn image() -> (Vec<u8>, Table) {
+    let (inner, i) = write_table(&[NewEntry { name: b"x", kind: Kind::File, size: 9 }], 36).unwrap();
+    let entries = [NewEntry { name: b"d", kind: Kind::Directory, size: i.size }, NewEntry { name: b"limits", kind: Kind::File, size: 7 }];
+    let (root, r) = write_table(&entries, 34).unwrap();
+    assert_eq!((i, r), (Written { size: 16, next_free: 37 }, Written { size: 36, next_free: 36 }));
+    let mut bytes = vec![0; 2048];
+    let table = Table { sector: 33, size: r.size };
+    write_descriptor(&mut bytes, table).unwrap();
+    bytes.extend_from_slice(&root);
+    bytes.extend_from_slice(&inner);
+    (bytes, table)
+}
+
+#[test]
+fn document_01_first_cases() {
+    assert_eq!(write_table(&[], 33).unwrap(), (vec![0xff; 2048], Written { size: 2048, next_free: 33 }));
+    let (bytes, w) = write_table(&[NewEntry { name: b"ab", kind: Kind::File, size: 5 }], 33).unwrap();
+    assert_eq!(bytes[..16], [0, 0, 0, 0, 0x21, 0, 0, 0, 5, 0, 0, 0, 0x20, 2, 0x61, 0x62]);
+    assert!(bytes[16..].iter().all(|&b| b == 0xff) && bytes.len() == 2048);
+    assert_eq!(w, Written { size: 16, next_free: 34 });
+    for order in [["a", "b", "c"], ["c", "a", "b"]] {
+        let (bytes, w) = table_of(&order, 34);
+        let window = Window { bytes: &bytes, first: 70 };
+        let list = window.list(Table { sector: 70, size: w.size }, 9).unwrap();
+        assert_eq!(list.iter().map(|e| e.name).collect::<Vec<_>>(), [b"b", b"a", b"c"]);
+        assert_eq!(list.iter().map(|e| e.header.sector).collect::<Vec<_>>(), [34, 35, 36]);
+        assert_eq!((list[0].header.left, list[0].header.right, w.size), (4, 8, 48));
+    }
+}
+
+#[test]
+fn reading() {
+    let (bytes, root) = image();
+    assert_eq!(read_descriptor(&bytes), Ok(root));
+    assert_eq!(read_descriptor(&bytes[..2047]), Err(Error::NoVolume));
+    assert_eq!(read_descriptor(&[]), Err(Error::NoVolume));
+    let window = Window { bytes: &bytes, first: 32 };
+    let found = window.look_up(root, b"LIMITS").unwrap();
+    assert_eq!((found.entry.name, found.offset, found.headers, found.entry.place), (&b"limits"[..], 16, 2, 2048 + 16));
+    assert_eq!(window.read_entry(root, 16), Ok(Some(found.entry)));
+    assert_eq!(window.read_entry(Table { size: 2048, ..root }, 36), Ok(None));
+    assert_eq!(window.read_entry(root, 36), Err(Error::OutOfBounds { offset: 36 }));
+    assert_eq!(window.look_up(root, b"nothing"), Err(Error::DoesNotExist { headers: Some(2) }));
+    assert_eq!(window.look_up(root, b""), Err(Error::DoesNotExist { headers: Some(1) }));
+    assert_eq!(window.look_up(root, b"\x80"), Err(Error::BadByteSought));
+    assert_eq!(window.look_up(Table { size: 0, ..root }, b"d"), Err(Error::DirectoryEmpty));
+    let cut = Window { bytes: &bytes[..2048 + 20], first: 32 };
+    assert_eq!(cut.look_up(root, b"limits"), Err(Error::Truncated { offset: 16 }));
+    assert_eq!(window.name(usize::MAX, 255), b"");
+}
+
+#[test]
+fn paths() {
+    let (bytes, root) = image();
+    let window = Window { bytes: &bytes, first: 32 };
+    let x = window.find_path(root, b"/d/x").unwrap();
+    assert_eq!((x.name, x.header.sector, x.header.size), (&b"x"[..], 36, 9));
+    let d = window.find_path(root, b"d/").unwrap();
+    assert_eq!(d.header.table(), Some(Table { sector: 34, size: 2048 }));
+    assert_eq!(window.find_path(root, b"limits/x"), Err(Error::IsNotDirectory));
+    assert_eq!(window.find_path(root, b"/"), Err(Error::NoDirent));
+    assert_eq!(window.find_path(root, b"d/y"), Err(Error::DoesNotExist { headers: None }));
+    let cut = Window { bytes: &bytes[..4096], first: 32 };
+    assert_eq!(cut.find_path(root, b"d/x"), Err(Error::Truncated { offset: 0 }));
+}
+
+#[test]
+fn walking_and_lent_memory() {
+    let (bytes, root) = image();
+    let window = Window { bytes: &bytes, first: 32 };
+    let (mut list, mut scratch) = (vec![7; 4], vec![7; 5]);
+    assert_eq!(window.walk(root, &mut list, &mut scratch), Ok(2));
+    assert_eq!((&list[..], &scratch[..]), (&[0, 16, 0, 0][..], &[0; 5][..]));
+    let (mut list, mut scratch) = (vec![7; 4], vec![7; 4]);
+    assert_eq!(window.walk(root, &mut list, &mut scratch), Err(Error::Room));
+    assert_eq!((&list[..], &scratch[..]), (&[7; 4][..], &[7; 4][..]));
+    let (mut list, mut scratch) = (vec![7; 1], vec![7; 2]);
+    assert_eq!(window.walk(root, &mut list, &mut scratch), Err(Error::WalkFull));
+    assert_eq!((&list[..], &scratch[..]), (&[0][..], &[0; 2][..]));
+    assert_eq!(window.walk(Table { size: 0, ..root }, &mut [], &mut [1]), Ok(0));
+    assert_eq!(window.walk(root, &mut [], &mut []), Err(Error::Room));
+    assert_eq!(window.list(root, 1), Err(Error::WalkFull));
+}
+
+#[test]
+fn strict_faults() {
+    let (mut bytes, w) = table_of(&["a", "b", "c"], 34);
+    let table = Table { sector: 0, size: w.size };
+    let check = |bytes: &[u8]| Window { bytes, first: 0 }.check_table(table, &mut [7; 8], &mut [7; 9]);
+    assert_eq!(check(&bytes), Ok(3));
+    bytes[2] = 4; // the right link leads where the left one does
+    assert_eq!(check(&bytes), Err(Error::Shared { offset: 16 }));
+    bytes[2] = 8;
+    bytes[32 + 14] = b'A'; // the right child's name
+    assert_eq!(check(&bytes), Err(Error::OutOfOrder { offset: 32 }));
+    bytes[32 + 14] = b'c';
+    bytes[16 + 13] = 3; // the left child's name runs into the next entry
+    assert_eq!(check(&bytes), Err(Error::BadPlace { offset: 32 }));
+}
+
+#[test]
+fn a_circle() {
+    let (mut bytes, w) = table_of(&["a", "b", "c"], 34);
+    bytes[16..18].copy_from_slice(&4u16.to_le_bytes()); // a is its own left child
+    let window = Window { bytes: &bytes, first: 0 };
+    assert_eq!(window.look_up(Table { sector: 0, size: w.size }, b"0"), Err(Error::Looped));
+}
+
+#[test]
+fn adding_in_turn_is_writing_a_list() {
+    let mut arena = Arena::with_room(3);
+    for name in ["a", "b", "c"] {
+        arena.add(name.as_bytes(), Kind::File, 1).unwrap();
+    }
+    assert_eq!(arena.add(b"B", Kind::File, 1), Err(Error::DuplicateFileName { entry: None }));
+    assert_eq!(arena.add(b"d", Kind::File, 1), Err(Error::Full { entry: None }));
+    assert_eq!(arena.add(b"", Kind::File, 1), Err(Error::EmptyName { entry: None }));
+    assert_eq!(arena.add(b"a\0", Kind::File, 1), Err(Error::BadByte { entry: None }));
+    assert_eq!(arena.add(&[b'x'; 256], Kind::File, 1), Err(Error::NameTooLong { entry: None }));
+    assert_eq!(arena.add(b"d", Kind::Directory, 4294965249), Err(Error::SizeOverflow { entry: None }));
+    assert_eq!(arena.count(), 3);
+    let mut out = vec![7; 2049];
+    assert_eq!(arena.serialise(34, &mut out), Ok(Written { size: 48, next_free: 37 }));
+    assert_eq!((&out[..2048], out[2048]), (&table_of(&["a", "b", "c"], 34).0[..], 7));
+    assert_eq!(arena.serialise(34, &mut [0; 2047]), Err(Error::BufferTooSmall));
+    assert_eq!(arena.serialise(u32::MAX - 2, &mut out), Err(Error::SectorOverflow));
+    assert_eq!(Arena::with_room(0).serialise(9, &mut out), Ok(Written { size: 2048, next_free: 9 }));
+}
+
+#[test]
+fn a_list_refused() {
+    let entries = [file("a"), file("b"), file("A")];
+    assert_eq!(write_table(&entries, 33).unwrap_err(), Error::DuplicateFileName { entry: Some(2) });
+    let list = List { start: &[0, 1], len: &[1, 2], size: &[1, 1], kind: &[0, 0], names: b"ab" };
+    let mut out = [7; 2048];
+    assert_eq!(write_list(2, list, 33, &mut Scratch::with_room(2), &mut out), Err(Error::BadByte { entry: Some(1) }));
+    assert_eq!(write_list(3, list, 33, &mut Scratch::with_room(3), &mut out), Err(Error::Room));
+    assert_eq!(write_list(1, list, 33, &mut Scratch::with_room(0), &mut out), Err(Error::Room));
+    assert_eq!(write_list(1, list, 33, &mut Scratch::with_room(1), &mut out[..9]), Err(Error::BufferTooSmall));
+    assert!(out.iter().all(|&b| b == 7));
+    let names: Vec<String> = (0..16385).map(|i| format!("{i:05}")).collect();
+    let many: Vec<NewEntry> = names.iter().map(|n| file(n)).collect();
+    assert_eq!(write_table(&many, 33).unwrap_err(), Error::Full { entry: Some(16384) });
+    assert_eq!(write_table(&many[..16384], 33).unwrap_err(), Error::TooManyDirectoryEntries);
+    let (bytes, w) = write_table(&many[..10000], 33).unwrap();
+    let window = Window { bytes: &bytes, first: 5 };
+    let table = Table { sector: 5, size: w.size };
+    assert_eq!(window.list(table, 10000).unwrap().len(), 10000);
+    assert_eq!(window.check_table(table, &mut vec![0; 10000], &mut vec![0; 10001]), Ok(10000));
+}
+
+#[test]
+fn sectors() {
+    assert_eq!([0, 1, 2048, 2049].map(required_sectors), [1, 1, 1, 2]);
+    let mut counter = SectorCounter::new();
+    assert_eq!((counter.take(2049), counter.take(0), counter.next_free()), (Ok(33), Ok(35), 36));
+    let mut last = SectorCounter::starting_at(u32::MAX);
+    assert_eq!((last.take(1), last.next_free()), (Err(Error::SectorOverflow), u32::MAX));
+}
+
+#[test]
+fn descriptors() {
+    let mut out = vec![7; 2050];
+    assert_eq!(write_descriptor(&mut out[..2047], Table { sector: 1, size: 2 }), Err(Error::BufferTooSmall));
+    assert!(out.iter().all(|&b| b == 7));
+    write_descriptor(&mut out, Table { sector: 1, size: 2 }).unwrap();
+    assert_eq!((read_descriptor(&out), &out[2048..]), (Ok(Table { sector: 1, size: 2 }), &[7, 7][..]));
+}
+
+#[test]
+fn words() {
+    assert_eq!(
+        Error::DuplicateFileName { entry: Some(2) }.to_string(),
+        "entry 2 of the list: an entry of that name is there already, upper and lower case being one"
+    );
+    assert_eq!(Error::Truncated { offset: 16 }.to_string(), "the entry at offset 16 of its table is not whole in the bytes at hand");
+    assert_eq!(Error::DoesNotExist { headers: Some(3) }.to_string(), "no entry has that name (3 headers read)");
+    let numbers = (1..=9).chain([12]).chain(20..=28).chain(30..=32);
+    for n in numbers {
+        let e = match n {
+            1..=6 => Error::adding(n, None),
+            7..=12 => Error::writing(n),
+            _ => Error::reading(n, 0, None),
+        };
+        assert_eq!(e.number(), n);
+        assert!(e.to_string().len() > 10);
+    }
+}

@@ -1,0 +1,2 @@
+-- Where a name stands in a window.
+pub mod Name

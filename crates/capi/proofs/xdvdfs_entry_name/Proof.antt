@@ -1,0 +1,23 @@
+-- `xdvdfs_entry_name` meets its contract: what starts there and is so long is the name (`name-is`).
+use mathlib.Core.Path.{ap}
+use Prim.Native.Nat.{ℕ}
+use mathlib.Core.List.{List}
+use lib.ListN.{length}
+use Rattle.capi.proofs.Name.{name-is}
+use borrow.Author.Needs.{needs}
+use Rattle.capi.proofs.xdvdfs_entry_name.Statement.{statement}
+use Rattle.capi.proofs.xdvdfs_entry_name.Tie as tie
+
+name-start-requires : tie.Need-name-start-requires
+name-start-requires c κs = search needs
+
+entry-name-requires : tie.Need-entry-name-requires
+entry-name-requires c κs = search needs
+
+returns : tie.Need-returns
+returns c =
+    let a = c .before .before .before .args in
+    (c .before .name-start .ensures, (ap (λ (r : List ℕ). length r) (c .entry-name .ensures), name-is (a .w .now) (a .place) (a .n) _ _ (c .entry-name .ensures) (c .before .name-start .ensures)))
+
+pub xdvdfs-entry-name-spec : {M : Type 1} → statement M
+xdvdfs-entry-name-spec = tie.close (tie.spec name-start-requires entry-name-requires returns)

@@ -1,0 +1,52 @@
+-- `xdvdfs_serialise` meets its contract: the answer is what `serialise` gives, and is stored as it is told.
+use mathlib.Core.Path.{ap, _∙_}
+use Rattle.dirtab.specs.Serialise as serialising
+use Rattle.capi_cells.specs.Parts.{tableSize, nextFree}
+use Rattle.capi_cells.proofs.Cells.{given-by, number-by}
+use Prim.Native.Nat.{ℕ}
+use lib.ListN.{length}
+use Rattle.units.specs.declared.Sector.{Sector}
+use Rattle.dirtab_arena.specs.Arena.{arena, columns}
+use borrow.Author.Needs.{needs}
+use Rattle.capi.proofs.xdvdfs_serialise.Statement.{statement}
+use Rattle.capi.proofs.xdvdfs_serialise.Tie as tie
+
+sector-of-requires : tie.Need-sector-of-requires
+sector-of-requires c κs = search needs
+
+serialise-requires : tie.Need-serialise-requires
+serialise-requires c κs = search needs
+
+store-serialised-requires : tie.Need-store-serialised-requires
+store-serialised-requires c κs = search needs
+
+same-length : tie.Need-same-length
+same-length c = search needs
+
+same-length-2 : tie.Need-same-length-2
+same-length-2 c = search needs
+
+same-length-3 : tie.Need-same-length-3
+same-length-3 c = search needs
+
+returns : tie.Need-returns
+returns c =
+    let a = c .before .before .before .before .before .before .before .before .before .before .before .before .before .before .before .before .before .before .before .before .before .before .before .before .before .before .args in
+    let A = arena (a .root) (a .count) (columns (a .left .now) (a .right .now) (a .parent .now) (a .height .now) (a .start .now) (a .len .now) (a .size .now) (a .kind .now)) (a .names .now) in
+    let k = c .before .before .before .before .before .before .before .before .before .serialise .ensures in
+    let f = ap (λ (x : Sector). x .0) (c .before .before .before .before .before .before .before .before .before .before .before .before .before .sector-of .ensures) in
+    let e = k .0 ∙ ap (λ (n : ℕ). serialising.serialiseOf A n (length (a .order .now)) (length (a .place .now)) (length (a .out .now))) f in
+    let s = c .store-serialised .ensures in
+    (number-by e (s .0), (given-by tableSize _ e (s .1 .0), (given-by nextFree _ e (s .1 .1), (k .1 .0 ∙ ap (λ (n : ℕ). serialising.outAfter A n (length (a .order .now)) (length (a .place .now)) (a .out .now)) f, (k .1 .1 .0, k .1 .1 .1)))))
+
+pub xdvdfs-serialise-spec : {M : Type 1} → statement M
+xdvdfs-serialise-spec =
+    tie.close
+    (tie.spec
+    sector-of-requires
+    serialise-requires
+    store-serialised-requires
+    same-length
+    same-length-2
+    same-length-3
+    returns)

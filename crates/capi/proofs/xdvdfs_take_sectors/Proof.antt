@@ -1,0 +1,34 @@
+-- `xdvdfs_take_sectors` meets its contract: the answer is what `SectorCounter::take` gives, and is stored as it is told.
+use mathlib.Core.Path.{ap, _∙_}
+use Rattle.layout_sector.specs.Counter as sectors
+use Rattle.capi_cells.specs.Parts.{runStart, runFree}
+use Rattle.capi_cells.proofs.Cells.{given-by, number-by}
+use Prim.Native.Nat.{ℕ}
+use Rattle.units.specs.declared.Sector.{Sector}
+use borrow.Author.Needs.{needs}
+use Rattle.capi.proofs.xdvdfs_take_sectors.Statement.{statement}
+use Rattle.capi.proofs.xdvdfs_take_sectors.Tie as tie
+
+sector-of-requires : tie.Need-sector-of-requires
+sector-of-requires c κs = search needs
+
+starting-at-requires : tie.Need-starting-at-requires
+starting-at-requires c κs = search needs
+
+take-requires : tie.Need-take-requires
+take-requires c κs = search needs
+
+store-taken-requires : tie.Need-store-taken-requires
+store-taken-requires c κs = search needs
+
+returns : tie.Need-returns
+returns c =
+    let a = c .before .before .before .before .before .before .before .args in
+    let e = c .before .before .before .take .ensures ∙ ap (λ (n : ℕ). sectors.takeOf 1 n (a .length)) (c .before .before .before .before .starting-at .ensures ∙ ap (λ (s : Sector). s .0) (c .before .before .before .before .before .sector-of .ensures)) in
+    let s = c .store-taken .ensures in
+    (number-by e (s .0), (given-by runFree _ e (s .1 .0), given-by runStart _ e (s .1 .1)))
+
+pub xdvdfs-take-sectors-spec : {M : Type 1} → statement M
+xdvdfs-take-sectors-spec =
+    tie.close
+    (tie.spec sector-of-requires starting-at-requires take-requires store-taken-requires returns)

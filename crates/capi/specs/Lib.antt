@@ -1,0 +1,2 @@
+-- The arguments that numbers stand for.
+pub mod Given

@@ -1,0 +1,2 @@
+-- What the cells of an answer hold, case by case.
+pub mod Cells

@@ -1,0 +1,60 @@
+-- The numbers that stand for the parts of what each operation gives. Assumes nothing.
+use Prim.Native.Nat.{ℕ}
+use mathlib.Core.List.{List, [], _∷_}
+use Rattle.layout_node.specs.declared.Header.{Header}
+use Rattle.layout_sector.specs.Counter.{Run}
+use Rattle.layout_volume.specs.declared.Descriptor.{Descriptor}
+use Rattle.read_entry.specs.Entry.{Placed}
+use Rattle.read_lookup.specs.Lookup.{Finding}
+use Rattle.dirtab_add.specs.Add.{Grown}
+use Rattle.table_model.specs.Table.{Placing}
+
+-- the six numbers of an entry's header: left link, right link, sector, size, attributes, length of the name
+abbrev pub fieldsOf : Header → List ℕ
+fieldsOf h = h .left .0 ∷ h .right .0 ∷ h .sector .0 ∷ h .size ∷ h .attributes ∷ h .«name_len» ∷ []
+
+-- the parts of what each operation gives
+abbrev pub placedFields : Placed → List ℕ
+placedFields x = fieldsOf (x .header)
+
+abbrev pub placedAt : Placed → ℕ
+placedAt x = x .place
+
+abbrev pub foundFields : Finding → List ℕ
+foundFields x = fieldsOf (x .entry .header)
+
+abbrev pub foundPlace : Finding → ℕ
+foundPlace x = x .entry .place
+
+abbrev pub foundOffset : Finding → ℕ
+foundOffset x = x .offset
+
+abbrev pub foundHeaders : Finding → ℕ
+foundHeaders x = x .headers
+
+abbrev pub rootSector : Descriptor → ℕ
+rootSector d = d .root .sector .0
+
+abbrev pub rootSize : Descriptor → ℕ
+rootSize d = d .root .size
+
+abbrev pub itself : ℕ → ℕ
+itself n = n
+
+abbrev pub grownRoot : Grown → ℕ
+grownRoot g = g .root
+
+abbrev pub grownCount : Grown → ℕ
+grownCount g = g .count
+
+abbrev pub tableSize : Placing → ℕ
+tableSize p = p .size
+
+abbrev pub nextFree : Placing → ℕ
+nextFree p = p .free
+
+abbrev pub runStart : Run → ℕ
+runStart r = r .start
+
+abbrev pub runFree : Run → ℕ
+runFree r = r .free

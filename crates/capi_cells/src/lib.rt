@@ -1,0 +1,341 @@
+// An answer of `xdvdfs` as a number and cells: for each answer a function that puts its values into lent cells, leaves the others unchanged, and gives document 01's number,
+// 0 for what is no refusal. Each contract is over what the answer is told as (specs/Cells.antt).
+use xdvdfs::Added;
+use xdvdfs::Checked;
+use xdvdfs::DescriptorRead;
+use xdvdfs::DescriptorWritten;
+use xdvdfs::Header;
+use xdvdfs::ListWritten;
+use xdvdfs::Looked;
+use xdvdfs::PathFound;
+use xdvdfs::Read;
+use xdvdfs::Serialised;
+use xdvdfs::Taken;
+use xdvdfs::Walked;
+ghost use mathlib.Core.Path.{_≡_};
+ghost use Rattle.units.specs.Told.{numberOf};
+ghost use Rattle.dirtab.specs.Serialise as serialising;
+ghost use Rattle.dirtab_add.specs.Add as adding;
+ghost use Rattle.dirtab_list.specs.Whole as whole;
+ghost use Rattle.layout_sector.specs.Counter as sectors;
+ghost use Rattle.layout_volume.specs.Descriptor as volume;
+ghost use Rattle.read_entry.specs.Entry as entry;
+ghost use Rattle.read_lookup.specs.Lookup as lookup;
+ghost use Rattle.read_path.specs.Path as following;
+ghost use Rattle.read_walk.specs.Walk as walking;
+ghost use Rattle.strict.specs.Strict as checking;
+ghost use Rattle.capi_cells.specs.Cells.{ofGiven, ofSome, isSome, ofRefusal, atOffset, atFault, afterHeaders, ofEntry};
+ghost use Rattle.capi_cells.specs.Parts.{fieldsOf, placedFields, placedAt, foundFields, foundPlace, foundOffset, foundHeaders, rootSector, rootSize, itself, grownRoot, grownCount, tableSize, nextFree, runStart, runFree};
+
+fn widen_byte(x: u8) -> u32
+    ensures { λ r. ⌜ r ≡ x ⌝ }
+{
+    x as u32
+}
+
+fn widen_link(x: u16) -> u32
+    ensures { λ r. ⌜ r ≡ x ⌝ }
+{
+    x as u32
+}
+
+// The six numbers of a header.
+pub fn store_fields(h: Header, fields: &mut [u32; 6])
+    ensures { λ _. ⌜ now (fields .exit) ≡ fieldsOf h ⌝ }
+{
+    let left = h.left;
+    let right = h.right;
+    let sector = h.sector;
+    *fields = [
+        widen_link(left.number()),
+        widen_link(right.number()),
+        sector.number(),
+        h.size,
+        widen_byte(h.attributes),
+        widen_byte(h.name_len),
+    ];
+}
+
+// Where the root table stands.
+pub fn store_descriptor(r: DescriptorRead, sector: &mut u32, size: &mut u32) -> u32
+    ensures { λ n. ⌜ n ≡ numberOf (volume.readTold r) ⌝ }
+    ensures { λ _. ⌜ now (sector .exit) ≡ ofGiven rootSector (volume.readTold r) (now (sector .entry)) ⌝ }
+    ensures { λ _. ⌜ now (size .exit) ≡ ofGiven rootSize (volume.readTold r) (now (size .entry)) ⌝ }
+{
+    match r {
+        DescriptorRead::Volume(d) => {
+            let root = d.root;
+            let start = root.sector;
+            *sector = start.number();
+            *size = root.size;
+            0
+        }
+        DescriptorRead::NoVolume => 20,
+    }
+}
+
+// Whether an entry is there, its fields and its place in the window.
+pub fn store_entry(r: Read, found: &mut u32, fields: &mut [u32; 6], place: &mut usize) -> u32
+    ensures { λ n. ⌜ n ≡ numberOf (entry.told r) ⌝ }
+    ensures { λ _. ⌜ now (found .exit) ≡ ofGiven isSome (entry.told r) (now (found .entry)) ⌝ }
+    ensures { λ _. ⌜ now (fields .exit) ≡ ofSome placedFields (entry.told r) (now (fields .entry)) ⌝ }
+    ensures { λ _. ⌜ now (place .exit) ≡ ofSome placedAt (entry.told r) (now (place .entry)) ⌝ }
+{
+    match r {
+        Read::Entry(h, p) => {
+            *found = 1;
+            store_fields(h, fields);
+            *place = p;
+            0
+        }
+        Read::Nothing => {
+            *found = 0;
+            0
+        }
+        Read::OutOfBounds(_) => 23,
+        Read::Truncated(_) => 24,
+    }
+}
+
+// The entry's fields, its place in the window, its offset in the table, and the number of headers read; of a refusal the offset or the number of headers.
+pub fn store_looked(
+    r: Looked,
+    fields: &mut [u32; 6],
+    place: &mut usize,
+    offset: &mut u32,
+    headers: &mut u32,
+) -> u32
+    ensures { λ n. ⌜ n ≡ numberOf (lookup.told r) ⌝ }
+    ensures { λ _. ⌜ now (fields .exit) ≡ ofGiven foundFields (lookup.told r) (now (fields .entry)) ⌝ }
+    ensures { λ _. ⌜ now (place .exit) ≡ ofGiven foundPlace (lookup.told r) (now (place .entry)) ⌝ }
+    ensures { λ _. ⌜ now (offset .exit) ≡ ofRefusal atOffset (lookup.told r) (ofGiven foundOffset (lookup.told r) (now (offset .entry))) ⌝ }
+    ensures { λ _. ⌜ now (headers .exit) ≡ ofRefusal afterHeaders (lookup.told r) (ofGiven foundHeaders (lookup.told r) (now (headers .entry))) ⌝ }
+{
+    match r {
+        Looked::Found(h, p, o, n) => {
+            store_fields(h, fields);
+            *place = p;
+            *offset = o.number();
+            *headers = n;
+            0
+        }
+        Looked::BadByte => 2,
+        Looked::DirectoryEmpty => 21,
+        Looked::DoesNotExist(n) => {
+            *headers = n;
+            22
+        }
+        Looked::OutOfBounds(o) => {
+            *offset = o.number();
+            23
+        }
+        Looked::Truncated(o) => {
+            *offset = o.number();
+            24
+        }
+        Looked::Looped => 25,
+    }
+}
+
+// The entry's fields and its place in the window; of a refusal the offset.
+pub fn store_path(r: PathFound, fields: &mut [u32; 6], place: &mut usize, offset: &mut u32) -> u32
+    ensures { λ n. ⌜ n ≡ numberOf (following.told r) ⌝ }
+    ensures { λ _. ⌜ now (fields .exit) ≡ ofGiven placedFields (following.told r) (now (fields .entry)) ⌝ }
+    ensures { λ _. ⌜ now (place .exit) ≡ ofGiven placedAt (following.told r) (now (place .entry)) ⌝ }
+    ensures { λ _. ⌜ now (offset .exit) ≡ ofRefusal atOffset (following.told r) (now (offset .entry)) ⌝ }
+{
+    match r {
+        PathFound::Entry(h, p) => {
+            store_fields(h, fields);
+            *place = p;
+            0
+        }
+        PathFound::BadByte => 2,
+        PathFound::DirectoryEmpty => 21,
+        PathFound::DoesNotExist => 22,
+        PathFound::OutOfBounds(o) => {
+            *offset = o.number();
+            23
+        }
+        PathFound::Truncated(o) => {
+            *offset = o.number();
+            24
+        }
+        PathFound::Looped => 25,
+        PathFound::IsNotDirectory => 27,
+        PathFound::NoDirent => 28,
+    }
+}
+
+// How many offsets are listed; of a refusal the offset.
+pub fn store_walked(r: Walked, count: &mut usize, offset: &mut u32) -> u32
+    ensures { λ n. ⌜ n ≡ numberOf (walking.told r) ⌝ }
+    ensures { λ _. ⌜ now (count .exit) ≡ ofGiven itself (walking.told r) (now (count .entry)) ⌝ }
+    ensures { λ _. ⌜ now (offset .exit) ≡ ofRefusal atOffset (walking.told r) (now (offset .entry)) ⌝ }
+{
+    match r {
+        Walked::Done(n) => {
+            *count = n;
+            0
+        }
+        Walked::Room => 6,
+        Walked::OutOfBounds(o) => {
+            *offset = o.number();
+            23
+        }
+        Walked::Truncated(o) => {
+            *offset = o.number();
+            24
+        }
+        Walked::WalkFull => 26,
+    }
+}
+
+// The same of the strict check.
+pub fn store_checked(r: Checked, count: &mut usize, offset: &mut u32) -> u32
+    ensures { λ n. ⌜ n ≡ numberOf (checking.told r) ⌝ }
+    ensures { λ _. ⌜ now (count .exit) ≡ ofGiven itself (checking.told r) (now (count .entry)) ⌝ }
+    ensures { λ _. ⌜ now (offset .exit) ≡ ofRefusal atFault (checking.told r) (now (offset .entry)) ⌝ }
+{
+    match r {
+        Checked::Done(n) => {
+            *count = n;
+            0
+        }
+        Checked::Room => 6,
+        Checked::OutOfBounds(o) => {
+            *offset = o.number();
+            23
+        }
+        Checked::Truncated(o) => {
+            *offset = o.number();
+            24
+        }
+        Checked::WalkFull => 26,
+        Checked::Shared(o) => {
+            *offset = o.number();
+            30
+        }
+        Checked::OutOfOrder(o) => {
+            *offset = o.number();
+            31
+        }
+        Checked::BadPlace(o) => {
+            *offset = o.number();
+            32
+        }
+    }
+}
+
+// Writing a descriptor has no values.
+pub fn number_of_written(r: DescriptorWritten) -> u32
+    ensures { λ n. ⌜ n ≡ numberOf (volume.writeTold r) ⌝ }
+{
+    match r {
+        DescriptorWritten::Done => 0,
+        DescriptorWritten::BufferTooSmall => 9,
+    }
+}
+
+// The next free sector, and the first of the sectors taken.
+pub fn store_taken(r: Taken, next: &mut u32, start: &mut u32) -> u32
+    ensures { λ n. ⌜ n ≡ numberOf (sectors.told r) ⌝ }
+    ensures { λ _. ⌜ now (next .exit) ≡ ofGiven runFree (sectors.told r) (now (next .entry)) ⌝ }
+    ensures { λ _. ⌜ now (start .exit) ≡ ofGiven runStart (sectors.told r) (now (start .entry)) ⌝ }
+{
+    match r {
+        Taken::Start(s, c) => {
+            let free = c.next_free();
+            *next = free.number();
+            *start = s.number();
+            0
+        }
+        Taken::SectorOverflow => 8,
+    }
+}
+
+// Root and count of the held tree.
+pub fn store_added(r: Added, root: &mut u16, count: &mut u16) -> u32
+    ensures { λ n. ⌜ n ≡ numberOf (adding.told r) ⌝ }
+    ensures { λ _. ⌜ now (root .exit) ≡ ofGiven grownRoot (adding.told r) (now (root .entry)) ⌝ }
+    ensures { λ _. ⌜ now (count .exit) ≡ ofGiven grownCount (adding.told r) (now (count .entry)) ⌝ }
+{
+    match r {
+        Added::Done(tree) => {
+            *root = tree.root;
+            *count = tree.count;
+            0
+        }
+        Added::BadArena => 12,
+        Added::EmptyName => 1,
+        Added::BadByte => 2,
+        Added::NameTooLong => 3,
+        Added::SizeOverflow => 5,
+        Added::DuplicateFileName => 4,
+        Added::Room => 6,
+    }
+}
+
+// The reported size and the next free sector.
+pub fn store_serialised(r: Serialised, table_size: &mut u32, free: &mut u32) -> u32
+    ensures { λ n. ⌜ n ≡ numberOf (serialising.told r) ⌝ }
+    ensures { λ _. ⌜ now («table_size» .exit) ≡ ofGiven tableSize (serialising.told r) (now («table_size» .entry)) ⌝ }
+    ensures { λ _. ⌜ now (free .exit) ≡ ofGiven nextFree (serialising.told r) (now (free .entry)) ⌝ }
+{
+    match r {
+        Serialised::Done(z, f) => {
+            *table_size = z;
+            *free = f.number();
+            0
+        }
+        Serialised::BadArena => 12,
+        Serialised::Room => 6,
+        Serialised::TooManyDirectoryEntries => 7,
+        Serialised::SectorOverflow => 8,
+        Serialised::BufferTooSmall => 9,
+    }
+}
+
+// The same of a whole list; of a refusal the number of the entry.
+pub fn store_written(r: ListWritten, table_size: &mut u32, free: &mut u32, entry: &mut u32) -> u32
+    ensures { λ n. ⌜ n ≡ numberOf (whole.told r) ⌝ }
+    ensures { λ _. ⌜ now («table_size» .exit) ≡ ofGiven tableSize (whole.told r) (now («table_size» .entry)) ⌝ }
+    ensures { λ _. ⌜ now (free .exit) ≡ ofGiven nextFree (whole.told r) (now (free .entry)) ⌝ }
+    ensures { λ _. ⌜ now (entry .exit) ≡ ofRefusal ofEntry (whole.told r) (now (entry .entry)) ⌝ }
+{
+    match r {
+        ListWritten::Done(z, f) => {
+            *table_size = z;
+            *free = f.number();
+            0
+        }
+        ListWritten::Room => 6,
+        ListWritten::EmptyName(i) => {
+            *entry = i;
+            1
+        }
+        ListWritten::BadByte(i) => {
+            *entry = i;
+            2
+        }
+        ListWritten::NameTooLong(i) => {
+            *entry = i;
+            3
+        }
+        ListWritten::SizeOverflow(i) => {
+            *entry = i;
+            5
+        }
+        ListWritten::DuplicateFileName(i) => {
+            *entry = i;
+            4
+        }
+        ListWritten::EntryRoom(i) => {
+            *entry = i;
+            6
+        }
+        ListWritten::TooManyDirectoryEntries => 7,
+        ListWritten::SectorOverflow => 8,
+        ListWritten::BufferTooSmall => 9,
+    }
+}

@@ -1,0 +1,103 @@
+-- `check_tables` meets its contract. The loop's invariant: the rest of the directories comes to what all come to.
+use borrow.Author.Needs.{needs}
+use mathlib.Core.Path.{_≡_, refl}
+use Prim.Native.Nat.{_+_, _-_}
+use lib.ListN.{length, getD, drop}
+use Rattle.layout_sector.specs.Counter.{sectorsFor}
+use Rattle.img_model.specs.Plan.{total}
+use Rattle.img_take.proofs.Turns.{Checked, checked-start, checked-next, checked-far, checked-over, checked-end, turn-at, to-next, to-room}
+use Rattle.img_take.proofs.check_tables.Statement.{statement}
+use Rattle.img_take.proofs.check_tables.Tie as tie
+
+abbrev Inv-loop : tie.InvT-loop
+Inv-loop first share kind value sized order size₀ end free₀ to₀ d₀ size free to d = (to ≡ total (drop d share)) × ((length size ≡ length size₀) × Checked first share kind value sized order (length size₀) d (33 + sectorsFor (getD sized 0 0)) (free .0))
+
+abbrev μ-loop : tie.MeasureT-loop
+μ-loop first share kind value sized order size₀ end free₀ to₀ d₀ size free to d = length first - d
+
+shared-slice-read-free-after-root : tie.Need-shared-slice-read-free-after-root Inv-loop μ-loop
+shared-slice-read-free-after-root c = search needs
+
+free-after-root-requires : tie.Need-free-after-root-requires Inv-loop μ-loop
+free-after-root-requires c κs = search needs
+
+loop-holds : tie.Need-loop-holds Inv-loop μ-loop
+loop-holds c = (search needs, (refl, checked-start (search needs)))
+
+check-table-requires : tie.Need-check-table-requires Inv-loop μ-loop
+check-table-requires c κs = search turn-at
+
+enum-known-x : tie.Need-enum-known-x Inv-loop μ-loop
+enum-known-x c = search needs
+
+same-length : tie.Need-same-length Inv-loop μ-loop
+same-length c = search needs
+
+returns : tie.Need-returns Inv-loop μ-loop
+returns c = λ w tables sectors. search checked-far
+
+enum-known-x-2 : tie.Need-enum-known-x-2 Inv-loop μ-loop
+enum-known-x-2 c = search needs
+
+same-length-2 : tie.Need-same-length-2 Inv-loop μ-loop
+same-length-2 c = search needs
+
+returns-2 : tie.Need-returns-2 Inv-loop μ-loop
+returns-2 c = λ w tables sectors. search checked-over
+
+enum-known-next : tie.Need-enum-known-next Inv-loop μ-loop
+enum-known-next c = search needs
+
+mul-widen : tie.Need-mul-widen Inv-loop μ-loop
+mul-widen c = search needs
+
+shared-slice-read-widen : tie.Need-shared-slice-read-widen Inv-loop μ-loop
+shared-slice-read-widen c = search needs
+
+widen-requires : tie.Need-widen-requires Inv-loop μ-loop
+widen-requires c κs = search needs
+
+sub-to : tie.Need-sub-to Inv-loop μ-loop
+sub-to c = search to-room
+
+add-d : tie.Need-add-d Inv-loop μ-loop
+add-d c = search needs
+
+loop-less : tie.Need-loop-less Inv-loop μ-loop
+loop-less c = search needs
+
+loop-again : tie.Need-loop-again Inv-loop μ-loop
+loop-again c = (search to-next, (search needs, checked-next (c .before .before .before .before .before .before .before .before .before .before .loop .inv .1 .1) (c .before .before .before .before .before .before .before .check-table .result) (c .before .before .before .before .before .before .before .check-table .ensures) (c .before .before .before .before .before .before .before .before .before .before .loop .inv .1 .0) (c .before .before .before .before .before .before .before .before .before .loop-test .taken) (c .before .before .before .next .given .1) refl))
+
+same-length-3 : tie.Need-same-length-3 Inv-loop μ-loop
+same-length-3 c = search needs
+
+returns-3 : tie.Need-returns-3 Inv-loop μ-loop
+returns-3 c = λ w tables sectors. search checked-end
+
+pub check-tables-spec : {M : Type 1} → statement M
+check-tables-spec =
+    tie.close
+    (tie.spec
+    Inv-loop
+    μ-loop
+    shared-slice-read-free-after-root
+    free-after-root-requires
+    loop-holds
+    check-table-requires
+    enum-known-x
+    same-length
+    returns
+    enum-known-x-2
+    same-length-2
+    returns-2
+    enum-known-next
+    mul-widen
+    shared-slice-read-widen
+    widen-requires
+    sub-to
+    add-d
+    loop-less
+    loop-again
+    same-length-3
+    returns-3)

@@ -1,0 +1,24 @@
+-- `sectors_for` meets its contract.
+use borrow.Author.Needs.{needs}
+use native.Mathlib.Omega.{arith}
+use mathlib.Core.Path.{ap, _∙_}
+use Rattle.layout_sector.specs.Counter.{sectorsFor}
+use Rattle.img_take.proofs.Along.{few-sectors}
+use Rattle.img_take.proofs.sectors_for.Statement.{statement}
+use Rattle.img_take.proofs.sectors_for.Tie as tie
+
+widen-size-requires : tie.Need-widen-size-requires
+widen-size-requires c κs = search needs
+
+required-sectors-requires : tie.Need-required-sectors-requires
+required-sectors-requires c κs = search needs
+
+cast-result : tie.Need-cast-result
+cast-result c = omega (arith, few-sectors (c .before .widen-size .result) (omega arith))
+
+returns : tie.Need-returns
+returns c = (c .required-sectors .ensures ∙ ap sectorsFor (c .before .widen-size .ensures), omega (arith, few-sectors (c .before .widen-size .result) (omega arith)))
+
+pub sectors-for-spec : {M : Type 1} → statement M
+sectors-for-spec =
+    tie.close (tie.spec widen-size-requires required-sectors-requires cast-result returns)

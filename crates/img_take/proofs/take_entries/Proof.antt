@@ -1,0 +1,58 @@
+-- `take_entries` meets its contract. The loop's invariant: the rest of the order takes what the whole of it takes.
+use borrow.Author.Needs.{needs}
+use mathlib.Core.Path.{_≡_, refl}
+use Prim.Native.Nat.{_-_}
+use lib.ListN.{length, drop}
+use Rattle.img_take.specs.Forward.{taking, takeAlong}
+use Rattle.img_take.proofs.Along.{along-asks, along-low, along-next, along-last}
+use Rattle.img_take.proofs.take_entries.Statement.{statement}
+use Rattle.img_take.proofs.take_entries.Tie as tie
+
+abbrev Inv-loop : tie.InvT-loop
+Inv-loop order kind value size f free tables₀ sectors₀ next₀ k₀ tables sectors next k = (takeAlong kind value size f (taking tables₀ sectors₀ free) order ≡ takeAlong kind value size f (taking tables sectors next) (drop k order)) × ((length tables ≡ length tables₀) × (length sectors ≡ length sectors₀))
+
+abbrev μ-loop : tie.MeasureT-loop
+μ-loop order kind value size f free tables₀ sectors₀ next₀ k₀ tables sectors next k = length order - k
+
+loop-holds : tie.Need-loop-holds Inv-loop μ-loop
+loop-holds c = (refl, (refl, refl))
+
+entry-at-requires : tie.Need-entry-at-requires Inv-loop μ-loop
+entry-at-requires c κs = search needs
+
+take-entry-requires : tie.Need-take-entry-requires Inv-loop μ-loop
+take-entry-requires c κs = (search along-asks, search along-low)
+
+add-k : tie.Need-add-k Inv-loop μ-loop
+add-k c = search needs
+
+loop-less : tie.Need-loop-less Inv-loop μ-loop
+loop-less c = search needs
+
+loop-again : tie.Need-loop-again Inv-loop μ-loop
+loop-again c = (search along-next, (search needs, search needs))
+
+same-length : tie.Need-same-length Inv-loop μ-loop
+same-length c = search needs
+
+same-length-2 : tie.Need-same-length-2 Inv-loop μ-loop
+same-length-2 c = search needs
+
+returns : tie.Need-returns Inv-loop μ-loop
+returns c = search along-last
+
+pub take-entries-spec : {M : Type 1} → statement M
+take-entries-spec =
+    tie.close
+    (tie.spec
+    Inv-loop
+    μ-loop
+    loop-holds
+    entry-at-requires
+    take-entry-requires
+    add-k
+    loop-less
+    loop-again
+    same-length
+    same-length-2
+    returns)

@@ -1,0 +1,301 @@
+// Sectors are taken from the root forward: first it is seen whether every table can be placed, then every table and entry gets its sector.
+use dirtab_place::Counted;
+use dirtab_place::count_sectors;
+use dirtab_place::stored_at;
+use img_table::fill_sizes;
+use layout_sector::SectorCounter;
+use layout_sector::required_sectors;
+use units::Sector;
+ghost use mathlib.Core.Path.{_≡_};
+ghost use mathlib.Core.Bool.{true};
+ghost use mathlib.Core.List.{List, []};
+ghost use Prim.Native.Nat.{ℕ, _+_, _≤_, _<_};
+ghost use lib.Dec.{eqb};
+ghost use lib.ListN.{length, getD, set};
+ghost use Rattle.units.specs.Told.{gives, pick};
+ghost use Rattle.layout_sector.specs.Counter.{sectorsFor};
+ghost use Rattle.table_model.specs.Place.{freeOf};
+ghost use Rattle.dirtab_place.specs.Places.{toldFree};
+ghost use Rattle.img_model.specs.Plan.{Taking, total, takingUp, rooted};
+ghost use Rattle.img_take.specs.Forward.{Sized, requestOf, taking, freeTold, toldFitting, Turn, Treed, entriesOf, limited, takeOne, takeAlong, Enters, EntersAll};
+
+// What going over the tables answers.
+pub enum Fitting {
+    // The next free sector after all of them.
+    Free(Sector),
+    // 7: the first directory with an offset over 4 that exceeds 65,535.
+    TooManyDirectoryEntries(u32),
+    // 8: the first directory after whose entries the next free sector would exceed 4,294,967,295.
+    SectorOverflow(u32),
+}
+
+fn index_of(i: u16) -> usize
+    ensures { λ r. ⌜ (r ≡ i) × (r < 65536) ⌝ }
+{
+    i as usize
+}
+
+// The number of the k-th entry of an order.
+fn entry_at(order: &[u16], k: usize) -> usize
+    requires { ⌜ k < length (now order) ⌝ }
+    ensures { λ r. ⌜ r ≡ getD (now (order .entry)) k 0 ⌝ }
+{
+    index_of(order[k])
+}
+
+fn widen(n: u32) -> usize
+    ensures { λ r. ⌜ r ≡ n ⌝ }
+{
+    n as usize
+}
+
+fn widen_size(n: u32) -> u64
+    ensures { λ r. ⌜ r ≡ n ⌝ }
+{
+    n as u64
+}
+
+// A directory's place in the list of directories, as an index.
+fn place_in(x: u64) -> usize
+    ensures { λ r. ⌜ r ≡ x ⌝ }
+{
+    x as usize
+}
+
+// The sectors that a size of four bytes takes.
+fn sectors_for(size: u32) -> u32
+    ensures { λ r. ⌜ (r ≡ sectorsFor size) × (r ≤ 2097152) ⌝ }
+{
+    required_sectors(widen_size(size)) as u32
+}
+
+// The next free sector after the root table, which stands first.
+fn free_after_root(size: u32) -> Sector
+    ensures { λ r. ⌜ r .0 ≡ 33 + sectorsFor size ⌝ }
+{
+    Sector::new(SectorCounter::FIRST + sectors_for(size))
+}
+
+// The next free sector after the entries of one directory, which are in preorder.
+fn count_table(
+    order: &[u16],
+    kind: &[u8],
+    value: &[u64],
+    sized: &[u32],
+    size: &mut [u32],
+    free: Sector,
+) -> Counted
+    requires { ⌜ Treed (now order) (now kind) (now value) (now sized) (length (now size)) ⌝ }
+    ensures { λ r. ⌜ ((w : Treed (now (order .entry)) (now (kind .entry)) (now (value .entry)) (now (sized .entry)) (length (now (size .entry)))) → toldFree r ≡ limited (freeOf (entriesOf w) 1 (free .0) (w .t))) ⌝ }
+{
+    fill_sizes(kind, value, sized, size);
+    count_sectors(order, size, kind, free)
+}
+
+// Whether the table of directory d can be placed: the next free sector after its entries. `to` is where its order ends. An offset over 4 exceeds 65,535
+// exactly where the table's size exceeds 262,144, since no entry crosses that sector line.
+fn check_table(
+    d: usize,
+    to: usize,
+    first: &[u32],
+    share: &[u32],
+    kind: &[u8],
+    value: &[u64],
+    sized: &[u32],
+    order: &[u16],
+    size: &mut [u32],
+    free: Sector,
+) -> Fitting
+    requires { ⌜ Turn (now first) (now share) (now kind) (now value) (now sized) (now order) (length (now size)) d to ⌝ }
+    ensures { λ r. ⌜ ((w : Sized (now (first .entry)) (now (share .entry)) (now (kind .entry)) (now (value .entry)) (now (sized .entry)) (now (order .entry)) (length (now (size .entry)))) → toldFitting r ≡ freeTold (takingUp (requestOf w) (now (sized .entry)) 1 d (taking [] [] (free .0)))) ⌝ }
+{
+    if 262144 < sized[d] {
+        return Fitting::TooManyDirectoryEntries(d as u32);
+    }
+    let f = widen(first[d]);
+    let n = widen(share[d]);
+    match count_table(
+        &order[to - n..to],
+        &kind[f..f + n],
+        &value[f..f + n],
+        sized,
+        size,
+        free,
+    ) {
+        Counted::SectorOverflow => Fitting::SectorOverflow(d as u32),
+        Counted::Free(next) => Fitting::Free(next),
+    }
+}
+
+// Whether every table can be placed, in turn from the root on. `end` is where the root's order ends: the last directory's is the first.
+pub fn check_tables(
+    first: &[u32],
+    share: &[u32],
+    kind: &[u8],
+    value: &[u64],
+    sized: &[u32],
+    order: &[u16],
+    size: &mut [u32],
+    end: usize,
+) -> Fitting
+    requires { ⌜ Sized (now first) (now share) (now kind) (now value) (now sized) (now order) (length (now size)) × (end ≡ total (now share)) ⌝ }
+    ensures { λ r. ⌜ ((w : Sized (now (first .entry)) (now (share .entry)) (now (kind .entry)) (now (value .entry)) (now (sized .entry)) (now (order .entry)) (length (now (size .entry)))) (tables sectors : List ℕ) →
+        toldFitting r ≡ freeTold (takingUp (requestOf w) (now (sized .entry)) (length (now (first .entry))) 0 (rooted (requestOf w) (now (sized .entry)) tables sectors))) ⌝ }
+{
+    let mut free = free_after_root(sized[0]);
+    let mut to = end;
+    let mut d = 0;
+    while d < first.len() {
+        match check_table(d, to, first, share, kind, value, sized, order, size, free) {
+            Fitting::TooManyDirectoryEntries(x) => return Fitting::TooManyDirectoryEntries(x),
+            Fitting::SectorOverflow(x) => return Fitting::SectorOverflow(x),
+            Fitting::Free(next) => {
+                free = next;
+                to -= widen(share[d]);
+            }
+        }
+        d += 1;
+    }
+    Fitting::Free(free)
+}
+
+// An entry that names a directory gives its table the sector.
+fn name_table(kind: u8, value: u64, sector: u32, tables: &mut [u32])
+    requires { ⌜ (eqb kind 1 ≡ true → value < length (now tables)) ⌝ }
+    ensures { λ _. ⌜ now (tables .exit) ≡ pick (eqb kind 1) (set (now (tables .entry)) value sector) (now (tables .entry)) ⌝ }
+{
+    if kind == 1 {
+        tables[place_in(value)] = sector;
+    }
+}
+
+// The entry i of the directory whose first stands at f takes its sectors from `free` on: the next free sector.
+fn take_entry(
+    i: usize,
+    kind: &[u8],
+    value: &[u64],
+    size: &[u32],
+    f: usize,
+    free: u32,
+    tables: &mut [u32],
+    sectors: &mut [u32],
+) -> u32
+    requires { ⌜ Enters (now kind) (now value) (now size) f i (length (now tables)) (length (now sectors)) ⌝ }
+    requires { ⌜ takeOne (now kind) (now value) (now size) f (taking (now tables) (now sectors) free) i .free ≤ 4294967295 ⌝ }
+    ensures { λ r. ⌜ taking (now (tables .exit)) (now (sectors .exit)) r ≡ takeOne (now (kind .entry)) (now (value .entry)) (now (size .entry)) f (taking (now (tables .entry)) (now (sectors .entry)) free) i ⌝ }
+{
+    sectors[f + i] = free;
+    name_table(kind[i], value[i], free, tables);
+    free + sectors_for(stored_at(size, kind, i))
+}
+
+// The entries of the directory whose first stands at f take their sectors in the order given, from `free` on: the next free sector.
+fn take_entries(
+    order: &[u16],
+    kind: &[u8],
+    value: &[u64],
+    size: &[u32],
+    f: usize,
+    free: u32,
+    tables: &mut [u32],
+    sectors: &mut [u32],
+) -> u32
+    requires { ⌜ EntersAll (now order) (now kind) (now value) (now size) f (length (now tables)) (length (now sectors)) ⌝ }
+    requires { ⌜ takeAlong (now kind) (now value) (now size) f (taking (now tables) (now sectors) free) (now order) .free ≤ 4294967295 ⌝ }
+    ensures { λ r. ⌜ taking (now (tables .exit)) (now (sectors .exit)) r ≡ takeAlong (now (kind .entry)) (now (value .entry)) (now (size .entry)) f (taking (now (tables .entry)) (now (sectors .entry)) free) (now (order .entry)) ⌝ }
+{
+    let mut next = free;
+    let mut k: usize = 0;
+    while k < order.len() {
+        next = take_entry(
+            entry_at(order, k),
+            kind,
+            value,
+            size,
+            f,
+            next,
+            tables,
+            sectors,
+        );
+        k += 1;
+    }
+    next
+}
+
+// The entries of directory d take their sectors. `to` is where its order ends.
+fn take_table(
+    d: usize,
+    to: usize,
+    first: &[u32],
+    share: &[u32],
+    kind: &[u8],
+    value: &[u64],
+    sized: &[u32],
+    order: &[u16],
+    size: &mut [u32],
+    free: u32,
+    tables: &mut [u32],
+    sectors: &mut [u32],
+) -> u32
+    requires { ⌜ Turn (now first) (now share) (now kind) (now value) (now sized) (now order) (length (now size)) d to × ((length (now tables) ≡ length (now first)) × (length (now sectors) ≡ length (now kind))) ⌝ }
+    requires { ⌜ ((w : Sized (now first) (now share) (now kind) (now value) (now sized) (now order) (length (now size))) × ((p : Taking) × (takingUp (requestOf w) (now sized) 1 d (taking (now tables) (now sectors) free) ≡ gives p))) ⌝ }
+    ensures { λ r. ⌜ ((w : Sized (now (first .entry)) (now (share .entry)) (now (kind .entry)) (now (value .entry)) (now (sized .entry)) (now (order .entry)) (length (now (size .entry)))) (p : Taking) →
+        takingUp (requestOf w) (now (sized .entry)) 1 d (taking (now (tables .entry)) (now (sectors .entry)) free) ≡ gives p → taking (now (tables .exit)) (now (sectors .exit)) r ≡ p) ⌝ }
+{
+    let f = widen(first[d]);
+    let n = widen(share[d]);
+    fill_sizes(&kind[f..f + n], &value[f..f + n], sized, size);
+    take_entries(
+        &order[to - n..to],
+        &kind[f..f + n],
+        &value[f..f + n],
+        size,
+        f,
+        free,
+        tables,
+        sectors,
+    )
+}
+
+// Every table and entry gets its sector, where every table can be placed. `end` is where the root's order ends.
+pub fn take_tables(
+    first: &[u32],
+    share: &[u32],
+    kind: &[u8],
+    value: &[u64],
+    sized: &[u32],
+    order: &[u16],
+    size: &mut [u32],
+    end: usize,
+    tables: &mut [u32],
+    sectors: &mut [u32],
+)
+    requires { ⌜ ((w : Sized (now first) (now share) (now kind) (now value) (now sized) (now order) (length (now size))) × ((p : Taking) × (takingUp (requestOf w) (now sized) (length (now first)) 0 (rooted (requestOf w) (now sized) (now tables) (now sectors)) ≡ gives p))) ⌝ }
+    requires { ⌜ (end ≡ total (now share)) × ((length (now tables) ≡ length (now first)) × (length (now sectors) ≡ length (now kind))) ⌝ }
+    ensures { λ _. ⌜ ((w : Sized (now (first .entry)) (now (share .entry)) (now (kind .entry)) (now (value .entry)) (now (sized .entry)) (now (order .entry)) (length (now (size .entry)))) (p : Taking) →
+        takingUp (requestOf w) (now (sized .entry)) (length (now (first .entry))) 0 (rooted (requestOf w) (now (sized .entry)) (now (tables .entry)) (now (sectors .entry))) ≡ gives p →
+        (now (tables .exit) ≡ p .tables) × (now (sectors .exit) ≡ p .sectors)) ⌝ }
+{
+    tables[0] = SectorCounter::FIRST;
+    let mut free = free_after_root(sized[0]).number();
+    let mut to = end;
+    let mut d: usize = 0;
+    while d < first.len() {
+        free = take_table(
+            d,
+            to,
+            first,
+            share,
+            kind,
+            value,
+            sized,
+            order,
+            size,
+            free,
+            tables,
+            sectors,
+        );
+        to -= widen(share[d]);
+        d += 1;
+    }
+}

@@ -1,0 +1,2 @@
+-- What the functions that hold a reader in a local share.
+mod Opens

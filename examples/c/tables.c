@@ -1,0 +1,190 @@
+/*
+ * tables IMAGE PATH: lists the root directory of an image, looks a path up in it, and then builds a small image in memory and reads it back.
+ * Everything of a directory table is done by libcapi.a; this file only reads a file and prints.
+ */
+#include <stdio.h>
+#include <stdlib.h>
+#include <string.h>
+
+#include "xdvdfs.h"
+
+enum { MOST = 4096 };
+
+struct table {
+    uint32_t sector;
+    uint32_t size;
+};
+
+struct window {
+    const uint8_t *bytes;
+    size_t len;
+    uint32_t first;
+};
+
+static void refuse(const char *what, uint32_t number)
+{
+    printf("%s: refused %u\n", what, (unsigned)number);
+}
+
+/* A line of a listing: `d` or `f`, the sector, the size, the name. */
+static void show(struct window w, struct xdvdfs_fields fields, size_t place)
+{
+    size_t start, len;
+    xdvdfs_entry_name(w.bytes, w.len, place, (uint8_t)fields.name_len, &start, &len);
+    printf("%c %u %u ", fields.attributes & XDVDFS_DIRECTORY ? 'd' : 'f', (unsigned)fields.sector, (unsigned)fields.size);
+    fwrite(w.bytes + start, 1, len, stdout);
+    putchar('\n');
+}
+
+/* Nothing is printed of a table before the walk is known to end well. */
+static void list(struct window w, struct table t)
+{
+    static uint32_t offsets[MOST], scratch[MOST + 1];
+    size_t count = 0, i;
+    uint32_t offset = 0;
+    uint32_t number = xdvdfs_walk(w.bytes, w.len, w.first, t.sector, t.size, offsets, MOST, scratch, MOST + 1, &count, &offset);
+    if (number != XDVDFS_DONE) {
+        refuse("list", number);
+        return;
+    }
+    for (i = 0; i < count; i++) {
+        struct xdvdfs_fields fields;
+        uint32_t found = 0;
+        size_t place = 0;
+        number = xdvdfs_read_entry(w.bytes, w.len, w.first, t.sector, t.size, offsets[i], &found, &fields, &place);
+        if (number == XDVDFS_DONE && found)
+            show(w, fields, place);
+    }
+    printf("entries %lu\n", (unsigned long)count);
+}
+
+static void find(struct window w, struct table t, const char *path)
+{
+    struct xdvdfs_fields fields;
+    size_t place = 0;
+    uint32_t offset = 0;
+    uint32_t number = xdvdfs_find_path(w.bytes, w.len, w.first, t.sector, t.size, (const uint8_t *)path, strlen(path), &fields, &place, &offset);
+    printf("%s: ", path);
+    if (number == XDVDFS_DONE)
+        show(w, fields, place);
+    else if (number == XDVDFS_OUT_OF_BOUNDS || number == XDVDFS_TRUNCATED)
+        printf("refused %u at offset %u\n", (unsigned)number, (unsigned)offset);
+    else
+        printf("refused %u\n", (unsigned)number);
+}
+
+static void check(struct window w, struct table t)
+{
+    static uint32_t offsets[MOST];
+    static uint64_t scratch[MOST + 1];
+    size_t count = 0;
+    uint32_t offset = 0;
+    uint32_t number = xdvdfs_check_table(w.bytes, w.len, w.first, t.sector, t.size, offsets, MOST, scratch, MOST + 1, &count, &offset);
+    if (number == XDVDFS_DONE)
+        printf("check: good, entries %lu\n", (unsigned long)count);
+    else
+        refuse("check", number);
+}
+
+/* Writes a table of up to four entries, names being one after another; out has room for one sector. */
+static uint32_t write_table(const char *names, const uint32_t *len, const uint32_t *size, const uint8_t *kind, uint32_t n, uint32_t first, uint8_t *out,
+                            uint32_t *table_size, uint32_t *next_free)
+{
+    uint32_t start[4], key[4], entry = UINT32_MAX, i;
+    uint16_t left[4], right[4], parent[4], order[4], place[4];
+    uint8_t height[4];
+    uint32_t number;
+    for (i = 0; i < n; i++)
+        start[i] = i == 0 ? 0 : start[i - 1] + len[i - 1];
+    number = xdvdfs_write_list(n, start, n, len, n, size, n, kind, n, (const uint8_t *)names, strlen(names), first, left, 4, right, 4, parent, 4, height, 4,
+                               key, 4, order, 4, place, 4, out, XDVDFS_SECTOR_SIZE, table_size, next_free, &entry);
+    if (entry != UINT32_MAX)
+        printf("entry %u of the list: ", (unsigned)entry);
+    return number;
+}
+
+/* Adds one entry at a time, and writes: the same bytes. */
+static uint32_t add_and_write(const char *names, const uint32_t *len_of, const uint32_t *size_of, const uint8_t *kind_of, uint32_t n, uint32_t first,
+                              uint8_t *out)
+{
+    uint16_t root = XDVDFS_NO_NODE, count = 0, left[4], right[4], parent[4], order[4], place[4];
+    uint32_t start[4], len[4], size[4], at = 0, i, number, table_size, next_free;
+    uint8_t height[4], kind[4];
+    for (i = 0; i < n; i++) {
+        number = xdvdfs_add(&root, &count, left, 4, right, 4, parent, 4, height, 4, start, 4, len, 4, size, 4, kind, 4, (const uint8_t *)names,
+                            strlen(names), at, len_of[i], kind_of[i], size_of[i]);
+        if (number != XDVDFS_DONE)
+            return number;
+        at += len_of[i];
+    }
+    return xdvdfs_serialise(root, count, left, 4, right, 4, parent, 4, height, 4, start, 4, len, 4, size, 4, kind, 4, (const uint8_t *)names, strlen(names),
+                            first, order, 4, place, 4, out, XDVDFS_SECTOR_SIZE, &table_size, &next_free);
+}
+
+/* An image of three sectors from sector 32 on: the descriptor, a root table and the table of its directory. */
+static void build(void)
+{
+    static uint8_t image[3 * XDVDFS_SECTOR_SIZE], again[XDVDFS_SECTOR_SIZE];
+    const uint32_t maps_len[] = {7, 7}, maps_size[] = {100, 5000};
+    const uint8_t maps_kind[] = {XDVDFS_KIND_FILE, XDVDFS_KIND_FILE};
+    uint32_t root_len[] = {6, 4, 4}, root_size[] = {7, 0, 2048};
+    const uint8_t root_kind[] = {XDVDFS_KIND_FILE, XDVDFS_KIND_DIRECTORY, XDVDFS_KIND_FILE};
+    struct window w = {image, sizeof image, 32};
+    struct table root = {33, 0};
+    uint32_t next_free = 0, number;
+
+    /* The root's entries take sectors in walk order, "maps" first: its table is at 34, and the files of "maps" go where the root's end. */
+    number = write_table("one.bintwo.bin", maps_len, maps_size, maps_kind, 2, 37, image + 2 * XDVDFS_SECTOR_SIZE, &root_size[1], &next_free);
+    if (number != XDVDFS_DONE)
+        refuse("maps", number);
+    number = write_table("limitsmapssave", root_len, root_size, root_kind, 3, 34, image + XDVDFS_SECTOR_SIZE, &root.size, &next_free);
+    if (number != XDVDFS_DONE)
+        refuse("root", number);
+    xdvdfs_write_descriptor(image, sizeof image, root.sector, root.size);
+    printf("built: root of %u bytes, next free sector %u\n", (unsigned)root.size, (unsigned)next_free);
+    number = add_and_write("limitsmapssave", root_len, root_size, root_kind, 3, 34, again);
+    printf("one by one: %u, %s\n", (unsigned)number, memcmp(again, image + XDVDFS_SECTOR_SIZE, sizeof again) == 0 ? "the same bytes" : "other bytes");
+
+    list(w, root);
+    check(w, root);
+    find(w, root, "Maps/TWO.bin");
+    find(w, root, "limits/x");
+    find(w, root, "maps/three.bin");
+    number = write_table("aabA", maps_len, maps_size, maps_kind, 2, 37, again, &root.size, &next_free);
+    refuse("a name past the names lent", number);
+}
+
+static void read_image(const char *file, const char *path)
+{
+    static uint8_t image[1 << 21];
+    FILE *f = fopen(file, "rb");
+    size_t n = f == NULL ? 0 : fread(image, 1, sizeof image, f);
+    size_t skip = (size_t)XDVDFS_DESCRIPTOR_SECTOR * XDVDFS_SECTOR_SIZE;
+    struct window w = {image, 0, XDVDFS_DESCRIPTOR_SECTOR};
+    struct table root = {0, 0};
+    uint32_t number;
+    if (f != NULL)
+        fclose(f);
+    if (n > skip) {
+        w.bytes = image + skip;
+        w.len = n - skip;
+    }
+    number = xdvdfs_read_descriptor(w.bytes, w.len, &root.sector, &root.size);
+    if (number != XDVDFS_DONE) {
+        refuse(file, number);
+        return;
+    }
+    list(w, root);
+    find(w, root, path);
+}
+
+int main(int argc, char **argv)
+{
+    if (argc != 3) {
+        fprintf(stderr, "usage: tables IMAGE PATH\n");
+        return 2;
+    }
+    read_image(argv[1], argv[2]);
+    build();
+    return 0;
+}

@@ -1,0 +1,276 @@
+/*
+ * xdvdfs.h: XDVDFS directory tables, read and written.
+ *
+ * The functions below are those of crates/capi, which are proved to answer and to leave in memory what their contracts say; this file says the same in words.
+ * `rt staticlib capi` writes target/staticlib/libcapi.a, which links into C, C++ and Rust programs on x86-64 Linux. Of other libraries it calls memset alone.
+ *
+ * WHAT A CALL DOES. It returns a number, 0 (XDVDFS_DONE) where nothing is refused, else one of `enum xdvdfs_number`. Values of the answer are stored where the
+ * parameters marked [out] point. A place for which the answer has no value is left as it was: after a refusal that is every [out] place but those that the function's
+ * comment names for that number. No call keeps a pointer, allocates, prints, or has state of its own: calls from several threads do not disturb each other,
+ * so long as none writes what another reads.
+ *
+ * WHAT A CALL ASKS. Any numbers and any bytes will do: bad input gets a number. Of pointers it asks what C cannot check:
+ *   - a pointer that comes with a length points to that many elements, which stay there during the call; one with no length points to one element;
+ *   - each is aligned for its type;
+ *   - what a call may write ([out], [in,out], [scratch]) overlaps nothing else that is lent to the same call. What it only reads may overlap what it only reads;
+ *   - no pointer is NULL, but where the length is 0: then nothing is read or written through it, and NULL will do.
+ * No array is longer than PTRDIFF_MAX bytes.
+ *
+ * WORDS. A window is a run of image bytes that starts at a sector, whose number is `first`; a sector has 2,048 bytes. A table is given by its first sector and its size in
+ * bytes. Sectors are numbered from the start of the image, wherever the window starts. An offset is a byte offset in a table, a place is an index into the window.
+ *
+ * STACK. xdvdfs_check_table takes 66 KiB of stack, xdvdfs_add and xdvdfs_serialise at most 10 KiB, every other call less than 2 KiB. (Read off the object code and
+ * measured; no theorem speaks of the stack.)
+ */
+#ifndef XDVDFS_H
+#define XDVDFS_H
+
+#include <stddef.h>
+#include <stdint.h>
+
+#ifdef __cplusplus
+extern "C" {
+#endif
+
+/* What a call returns. */
+enum xdvdfs_number {
+    XDVDFS_DONE = 0,
+    /* adding an entry, and writing a list */
+    XDVDFS_EMPTY_NAME = 1,                 /* the name has no bytes */
+    XDVDFS_BAD_BYTE = 2,                   /* a byte of the name is 0 or above 127, or its place reaches past the names lent; in a name or path sought: above 127 */
+    XDVDFS_NAME_TOO_LONG = 3,              /* more than 255 bytes */
+    XDVDFS_DUPLICATE_FILE_NAME = 4,        /* an equal name is there; a to z count as A to Z */
+    XDVDFS_SIZE_OVERFLOW = 5,              /* a directory's size is above 4,294,965,248 */
+    XDVDFS_ROOM = 6,                       /* lent memory is too short, or 16,384 entries are held */
+    XDVDFS_TOO_MANY_DIRECTORY_ENTRIES = 7, /* an entry would stand past 262,143, where no link reaches */
+    XDVDFS_SECTOR_OVERFLOW = 8,            /* the next free sector would exceed 4,294,967,295 */
+    XDVDFS_BUFFER_TOO_SMALL = 9,           /* the output is shorter than what is to be written */
+    XDVDFS_FILE_TOO_LARGE = 10,            /* a file's length is above 4,294,967,295 */
+    XDVDFS_BAD_TREE = 11,                  /* the directories of a plan are not one tree, each after the one that names it */
+    XDVDFS_BAD_ARENA = 12,                 /* the arena's held nodes are not one ordered, balanced tree of entries that adding takes */
+    /* reading */
+    XDVDFS_NO_VOLUME = 20,                 /* no descriptor: a mark differs or is cut */
+    XDVDFS_DIRECTORY_EMPTY = 21,           /* a lookup in a table of size 0 */
+    XDVDFS_DOES_NOT_EXIST = 22,            /* no entry has the name */
+    XDVDFS_OUT_OF_BOUNDS = 23,             /* an offset is not below the table's size */
+    XDVDFS_TRUNCATED = 24,                 /* an entry's header or name is not in the window */
+    XDVDFS_LOOPED = 25,                    /* the entries' links lead a lookup round for ever */
+    XDVDFS_WALK_FULL = 26,                 /* there are more entries than places in the list */
+    XDVDFS_IS_NOT_DIRECTORY = 27,          /* a part of the path, not its last, is a file */
+    XDVDFS_NO_DIRENT = 28,                 /* the path has no part */
+    /* the strict check */
+    XDVDFS_SHARED = 30,                    /* an entry is reached twice */
+    XDVDFS_OUT_OF_ORDER = 31,              /* a left child's name is not less than its parent's, or a right child's not greater */
+    XDVDFS_BAD_PLACE = 32                  /* an entry overlaps another, crosses a sector line or leaves the table */
+};
+
+#define XDVDFS_SECTOR_SIZE 2048u      /* the bytes of a sector, and of a volume descriptor */
+#define XDVDFS_DESCRIPTOR_SECTOR 32u  /* the sector of the volume descriptor */
+#define XDVDFS_DIRECTORY 0x10u        /* the attribute bit of a directory */
+#define XDVDFS_KIND_FILE 0u           /* the kinds of an entry to write; any number but 1 is a file */
+#define XDVDFS_KIND_DIRECTORY 1u
+#define XDVDFS_NO_NODE 65535u         /* the root of an arena that holds nothing; its count is 0 */
+
+/* The header of an entry. Links are in units of four bytes. A directory is an entry with the attribute bit XDVDFS_DIRECTORY; sector and size are then its table. */
+struct xdvdfs_fields {
+    uint32_t left;
+    uint32_t right;
+    uint32_t sector;
+    uint32_t size;
+    uint32_t attributes;
+    uint32_t name_len;
+};
+
+/* READING */
+
+/*
+ * Reads the volume descriptor that `s` starts with: sector 32 of an image.
+ * 0: *sector and *size are those of the root table. XDVDFS_NO_VOLUME.
+ */
+uint32_t xdvdfs_read_descriptor(
+    const uint8_t *s, size_t s_len,
+    uint32_t *sector,  /* [out] */
+    uint32_t *size);   /* [out] */
+
+/*
+ * Reads the entry at an offset of a table.
+ * 0, *found = 1: *fields is its header and *place its first byte in the window. 0, *found = 0: no entry stands there (fourteen bytes of 0xff, or of 0).
+ * XDVDFS_OUT_OF_BOUNDS, XDVDFS_TRUNCATED: of the offset that was asked for.
+ */
+uint32_t xdvdfs_read_entry(
+    const uint8_t *w, size_t w_len, uint32_t first,
+    uint32_t sector, uint32_t size,
+    uint32_t offset,
+    uint32_t *found,               /* [out] */
+    struct xdvdfs_fields *fields,  /* [out] */
+    size_t *place);                /* [out] */
+
+/*
+ * Where the name of an entry stands: `place` and `name_len` are as an entry's answer has them. The name is w[*start] to w[*start + *len - 1]; it is not ended by a 0.
+ * For a place that is no entry's it is what of the window lies there, so *start + *len is never above w_len.
+ */
+void xdvdfs_entry_name(
+    const uint8_t *w, size_t w_len,
+    size_t place, uint8_t name_len,
+    size_t *start,  /* [out] */
+    size_t *len);   /* [out] */
+
+/*
+ * Looks a name up in a table; a to z count as A to Z.
+ * 0: *fields and *place as xdvdfs_read_entry has them, *offset is the entry's in the table, *headers the number of entry headers read.
+ * XDVDFS_BAD_BYTE, XDVDFS_DIRECTORY_EMPTY; XDVDFS_DOES_NOT_EXIST: *headers is the number of headers read; XDVDFS_OUT_OF_BOUNDS, XDVDFS_TRUNCATED: *offset is the one that
+ * was to be read; XDVDFS_LOOPED.
+ */
+uint32_t xdvdfs_look_up(
+    const uint8_t *w, size_t w_len, uint32_t first,
+    uint32_t sector, uint32_t size,
+    const uint8_t *name, size_t name_len,
+    struct xdvdfs_fields *fields,  /* [out] */
+    size_t *place,                 /* [out] */
+    uint32_t *offset,              /* [out] */
+    uint32_t *headers);            /* [out] */
+
+/*
+ * Follows a path from a table, through directories whose tables are in the window too. Leading slashes and one trailing slash do not count.
+ * 0: *fields and *place of the entry. XDVDFS_BAD_BYTE, XDVDFS_NO_DIRENT; then of each part XDVDFS_DIRECTORY_EMPTY, XDVDFS_DOES_NOT_EXIST, XDVDFS_LOOPED, and
+ * XDVDFS_OUT_OF_BOUNDS, XDVDFS_TRUNCATED with *offset, the one that was to be read in that part's table; XDVDFS_IS_NOT_DIRECTORY.
+ */
+uint32_t xdvdfs_find_path(
+    const uint8_t *w, size_t w_len, uint32_t first,
+    uint32_t sector, uint32_t size,
+    const uint8_t *path, size_t path_len,
+    struct xdvdfs_fields *fields,  /* [out] */
+    size_t *place,                 /* [out] */
+    uint32_t *offset);             /* [out] */
+
+/*
+ * Lists the offsets of a table's entries in preorder, left before right.
+ * 0: *count is how many, list has them, and zeros past them. XDVDFS_ROOM: scratch_len is not above list_len, and nothing is changed.
+ * XDVDFS_OUT_OF_BOUNDS, XDVDFS_TRUNCATED: *offset is the one that was to be read, and list is all zero. XDVDFS_WALK_FULL: list is all zero.
+ * The scratch is all zero afterwards, but after XDVDFS_ROOM.
+ */
+uint32_t xdvdfs_walk(
+    const uint8_t *w, size_t w_len, uint32_t first,
+    uint32_t sector, uint32_t size,
+    uint32_t *list, size_t list_len,        /* [out] */
+    uint32_t *scratch, size_t scratch_len,  /* [scratch] at least list_len + 1 */
+    size_t *count,                          /* [out] */
+    uint32_t *offset);                      /* [out] */
+
+/*
+ * Checks that a table is of the form on which all readers agree, and lists it as xdvdfs_walk does: no entry twice, none over another or over a sector line, each name
+ * on the right side of its parent's.
+ * As xdvdfs_walk, and further XDVDFS_SHARED, XDVDFS_BAD_PLACE, XDVDFS_OUT_OF_ORDER: *offset is that of the entry at fault, and list is all zero.
+ */
+uint32_t xdvdfs_check_table(
+    const uint8_t *w, size_t w_len, uint32_t first,
+    uint32_t sector, uint32_t size,
+    uint32_t *list, size_t list_len,        /* [out] */
+    uint64_t *scratch, size_t scratch_len,  /* [scratch] at least list_len + 1 */
+    size_t *count,                          /* [out] */
+    uint32_t *offset);                      /* [out] */
+
+/* WRITING */
+
+/*
+ * Writes a volume descriptor into the first 2,048 bytes of `out`. XDVDFS_BUFFER_TOO_SMALL: nothing is changed.
+ */
+uint32_t xdvdfs_write_descriptor(
+    uint8_t *out, size_t out_len,  /* [out] */
+    uint32_t sector, uint32_t size);
+
+/* The number of the first sector that an image hands out: 33. */
+uint32_t xdvdfs_first_sector(void);
+
+/* The sectors that a length takes: its 2,048-byte sectors, rounded up; a length of 0 takes one. */
+uint64_t xdvdfs_required_sectors(uint64_t length);
+
+/*
+ * Takes the sectors of a length. *next is the next free sector.
+ * 0: *start is the first of them, *next the one after the last. XDVDFS_SECTOR_OVERFLOW: nothing is changed.
+ */
+uint32_t xdvdfs_take_sectors(
+    uint32_t *next,    /* [in,out] */
+    uint64_t length,
+    uint32_t *start);  /* [out] */
+
+/*
+ * Adds an entry to the table that an arena holds. An arena is eight columns by node, of which the first *count places are held: the tree's (left, right, parent, height) and
+ * the entries' (start and len: where the name stands in `names`; size; kind). An empty one has *root = XDVDFS_NO_NODE, *count = 0 and anything in its columns.
+ * The columns' lengths need not be equal: the shortest says how many entries there is room for.
+ * 0: *root, *count and the columns hold one entry more; a directory's size is stored rounded up to a multiple of 2,048.
+ * XDVDFS_BAD_ARENA, XDVDFS_EMPTY_NAME, XDVDFS_BAD_BYTE, XDVDFS_NAME_TOO_LONG, XDVDFS_SIZE_OVERFLOW, XDVDFS_DUPLICATE_FILE_NAME, XDVDFS_ROOM: nothing is changed.
+ * It looks the whole arena over first (XDVDFS_BAD_ARENA), so adding n entries takes time in n times n; xdvdfs_write_list does not.
+ */
+uint32_t xdvdfs_add(
+    uint16_t *root,                       /* [in,out] */
+    uint16_t *count,                      /* [in,out] */
+    uint16_t *left, size_t left_len,      /* [in,out] */
+    uint16_t *right, size_t right_len,    /* [in,out] */
+    uint16_t *parent, size_t parent_len,  /* [in,out] */
+    uint8_t *height, size_t height_len,   /* [in,out] */
+    uint32_t *start, size_t start_len,    /* [in,out] */
+    uint32_t *len, size_t len_len,        /* [in,out] */
+    uint32_t *size, size_t size_len,      /* [in,out] */
+    uint8_t *kind, size_t kind_len,       /* [in,out] */
+    const uint8_t *names, size_t names_len,
+    uint32_t name_start, uint32_t name_len,
+    uint8_t entry_kind, uint32_t entry_size);
+
+/*
+ * Writes the table that an arena holds. Sectors for the entries are taken from `first` on, in the table's order.
+ * 0: *table_size is the reported size, *next_free the next free sector; out holds the table up to that size rounded up to a multiple of 2,048, and is unchanged past it.
+ * XDVDFS_BAD_ARENA, XDVDFS_ROOM (order or place shorter than count), XDVDFS_TOO_MANY_DIRECTORY_ENTRIES, XDVDFS_SECTOR_OVERFLOW, XDVDFS_BUFFER_TOO_SMALL: out is unchanged.
+ * order and place are all zero afterwards, and unchanged where either is shorter than count.
+ */
+uint32_t xdvdfs_serialise(
+    uint16_t root, uint16_t count,
+    const uint16_t *left, size_t left_len,
+    const uint16_t *right, size_t right_len,
+    const uint16_t *parent, size_t parent_len,
+    const uint8_t *height, size_t height_len,
+    const uint32_t *start, size_t start_len,
+    const uint32_t *len, size_t len_len,
+    const uint32_t *size, size_t size_len,
+    const uint8_t *kind, size_t kind_len,
+    const uint8_t *names, size_t names_len,
+    uint32_t first,
+    uint16_t *order, size_t order_len,  /* [scratch] */
+    uint16_t *place, size_t place_len,  /* [scratch] */
+    uint8_t *out, size_t out_len,       /* [out] */
+    uint32_t *table_size,               /* [out] */
+    uint32_t *next_free);               /* [out] */
+
+/*
+ * Writes the table of the first `count` entries of a list in one call: the same as adding each in turn to an empty arena and then xdvdfs_serialise.
+ * start, len, size and kind are the list: where each name stands in `names`, the size in bytes, the kind. left to place are scratch, each of at least count places.
+ * 0: as xdvdfs_serialise. XDVDFS_ROOM with *entry as it was: a column is shorter than count, and nothing is changed. Of the first entry that adding refuses
+ * XDVDFS_EMPTY_NAME, XDVDFS_BAD_BYTE, XDVDFS_NAME_TOO_LONG, XDVDFS_SIZE_OVERFLOW, XDVDFS_DUPLICATE_FILE_NAME, XDVDFS_ROOM (there are more than 16,384): *entry is its
+ * number in the list. Then XDVDFS_TOO_MANY_DIRECTORY_ENTRIES, XDVDFS_SECTOR_OVERFLOW, XDVDFS_BUFFER_TOO_SMALL. After a refusal out is unchanged.
+ * The scratch is all zero afterwards, but where a column is shorter than count.
+ */
+uint32_t xdvdfs_write_list(
+    uint32_t count,
+    const uint32_t *start, size_t start_len,
+    const uint32_t *len, size_t len_len,
+    const uint32_t *size, size_t size_len,
+    const uint8_t *kind, size_t kind_len,
+    const uint8_t *names, size_t names_len,
+    uint32_t first,
+    uint16_t *left, size_t left_len,      /* [scratch] */
+    uint16_t *right, size_t right_len,    /* [scratch] */
+    uint16_t *parent, size_t parent_len,  /* [scratch] */
+    uint8_t *height, size_t height_len,   /* [scratch] */
+    uint32_t *key, size_t key_len,        /* [scratch] */
+    uint16_t *order, size_t order_len,    /* [scratch] */
+    uint16_t *place, size_t place_len,    /* [scratch] */
+    uint8_t *out, size_t out_len,         /* [out] */
+    uint32_t *table_size,                 /* [out] */
+    uint32_t *next_free,                  /* [out] */
+    uint32_t *entry);                     /* [out] */
+
+#ifdef __cplusplus
+}
+#endif
+
+#endif
