@@ -4,5 +4,3 @@ pub mod Rule
 pub mod Trees
 pub mod Sizes
 pub mod Cases
-pub mod Trees
-pub mod Sizes
