@@ -15,6 +15,7 @@ use Rattle.strict.specs.Strict.{strictOf}
 use Rattle.table_model.specs.Entry.{Entry, Item, attributes}
 use Rattle.img_model.specs.Shares.{Request, shareOf, directoriesOf, countOf, isDirectory, valueOf}
 use Rattle.img_model.specs.Plan.{tableIn, entriesAt, Plan}
+use Rattle.img_model.proofs.Passed.{all-fit}
 use Rattle.agree.specs.Written.{SizedFor, Written}
 use Rattle.agree.specs.Agreement.{offsets, placedAt, Agreement}
 use Rattle.agree.proofs.Sized.{as-reported, as-rounded}
@@ -23,7 +24,7 @@ use Rattle.agree.proofs.Plain.{lookup-0}
 use Rattle.agree_strict.proofs.Passes.{written-passes}
 use Rattle.agree_plan.specs.Planned.{treeAt, startSector, itemsAt, sectorAt}
 use Rattle.agree_plan.specs.Image.{Imaged, rootOf, RegionFor, regionOf}
-use Rattle.agree_plan.proofs.Grew.{tree-ordered, tree-balanced, tree-fits, tree-size}
+use Rattle.agree_plan.proofs.Grew.{tree-ordered, tree-balanced, tree-size}
 use Rattle.agree_plan.proofs.Tables.{table-planned}
 use Rattle.agree_plan.proofs.Sectors.{root-planned, sectors-planned}
 
@@ -48,7 +49,7 @@ module _ (R : Request) (places : ℕ) (tables sectors : List ℕ) (p : Plan) (w 
         record {
           writable = record {
             aligned = omega arith;
-            fits = tree-fits (shareOf R d) (tableIn S) (treeAt R S d) (T .grown);
+            fits = all-fit (shareOf R d) (tableIn S) (T .grown);
             ordered = tree-ordered (shareOf R d) (tableIn S) (treeAt R S d) (T .grown);
             balanced = tree-balanced (shareOf R d) (tableIn S) (treeAt R S d) (T .grown);
             placing = record { size = tableIn S d; free = startSector R S (suc d) };

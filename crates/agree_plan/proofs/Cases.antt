@@ -24,11 +24,11 @@ use Rattle.table_model.proofs.Bytes.{table-length}
 use Rattle.dirtab_grow.specs.Grow.{growFrom}
 use Rattle.img_model.specs.Shares.{Request, columns, directoriesOf, firstOf, countOf, shareOf, isTree}
 use Rattle.img_model.specs.Plan.{Plan, tableIn, sizeAt, total, treeIn, sizesDown, entriesAt, takingAll, takingUp, planOf}
+use Rattle.img_model.proofs.Passed.{all-fit}
 use Rattle.agree.specs.Written.{Stand}
 use Rattle.agree_plan.specs.Planned.{Planned, Disjoint, treeAt, startSector, itemsAt, tableSector}
 use Rattle.agree_plan.specs.InTurn.{SizesFor}
 use Rattle.agree_plan.specs.Image.{Imaged, rootOf, anySlash, Leads, last, into}
-use Rattle.agree_plan.proofs.Grew.{tree-fits}
 use Rattle.agree_plan.proofs.Tables.{table-planned}
 
 abbrev plan : List ℕ → List ℕ → List ℕ → ℕ → Plan
@@ -71,7 +71,7 @@ root-long : length (bytes 0) ≡ 2048
 root-long =
     let T = table-planned request 3 (0 ∷ 0 ∷ []) (0 ∷ 0 ∷ 0 ∷ []) its-plan planned 0 (omega arith) in
     table-length (entriesAt request (its-plan .sizes) 0) 1 (treeAt request (its-plan .sizes) 0) (startSector request (its-plan .sizes) 0)
-    (tree-fits (shareOf request 0) (tableIn (its-plan .sizes)) (treeAt request (its-plan .sizes) 0) (T .grown))
+    (all-fit (shareOf request 0) (tableIn (its-plan .sizes)) (T .grown))
     ∙ ap rounded (sym (T .sized))
 
 both-stand : (d : ℕ) → d < directoriesOf request → Stand window window-first (record { 0 = tableSector its-plan d }) (bytes d)

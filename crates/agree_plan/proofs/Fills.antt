@@ -22,10 +22,10 @@ use Rattle.table_model.proofs.Bytes.{table-length}
 use Rattle.img_model.specs.Shares.{Request, shareOf, directoriesOf, countOf, isDirectory, valueOf, tally, names, namings}
 use Rattle.img_model.specs.Plan.{tableIn, entriesAt, Plan}
 use Rattle.img_model.proofs.Rule.{named-once}
+use Rattle.img_model.proofs.Passed.{all-fit}
 use Rattle.agree.specs.Given.{times}
 use Rattle.agree_plan.specs.Planned.{treeAt, rootSector, startSector, itemsAt, Planned, Disjoint, sectorAt, tableSector}
 use Rattle.agree_plan.specs.Runs.{Run, runOf, runsOf}
-use Rattle.agree_plan.proofs.Grew.{tree-fits}
 use Rattle.agree_plan.proofs.Tables.{rule-kept, table-planned}
 use Rattle.agree_plan.proofs.Sectors.{root-planned, sectors-planned}
 use Rattle.agree_plan.proofs.Follows.{runs-planned}
@@ -111,14 +111,14 @@ module _ (R : Request) (places : ℕ) (tables sectors : List ℕ) (p : Plan) (g 
   size-some : (d : ℕ) → d < directoriesOf R → 0 < tableIn S d
   size-some d h =
       let T = table-planned R places tables sectors p g d h in
-      subst (λ (n : ℕ). 0 < n) (sym (T .sized)) (some-size (entriesAt R S d) (treeAt R S d) (tree-fits (shareOf R d) (tableIn S) (treeAt R S d) (T .grown)))
+      subst (λ (n : ℕ). 0 < n) (sym (T .sized)) (some-size (entriesAt R S d) (treeAt R S d) (all-fit (shareOf R d) (tableIn S) (T .grown)))
 
   -- THE BYTES of a table are as many as its sectors have
   pub table-fills : (d : ℕ) → d < directoriesOf R
       → length (tableBytes (entriesAt R (p .sizes) d) 1 (startSector R (p .sizes) d) (treeAt R (p .sizes) d)) ≡ 2048 * sectorsFor (tableIn (p .sizes) d)
   table-fills d h =
       let T = table-planned R places tables sectors p g d h in
-      table-length (entriesAt R S d) 1 (treeAt R S d) (startSector R S d) (tree-fits (shareOf R d) (tableIn S) (treeAt R S d) (T .grown))
+      table-length (entriesAt R S d) 1 (treeAt R S d) (startSector R S d) (all-fit (shareOf R d) (tableIn S) (T .grown))
       ∙ ap rounded (sym (T .sized)) ∙ sym (rounded-sectors (tableIn S d) (size-some d h) .0)
 
   -- ITS RUN, from its planned sector on, is one of the plan's

@@ -31,11 +31,11 @@ use Rattle.agree.specs.Given.{times}
 use Rattle.agree.proofs.Plain.{listed-found}
 use Rattle.avl_model.proofs.Frame.{δ-apart}
 use Rattle.agree_plan.specs.Planned.{treeAt, startSector, itemsAt, sectorAt}
-use Rattle.agree_plan.specs.Image.{Imaged, rootOf, RegionFor, Part, joined, Leads, last, into, regionOf, here, on, Finds}
+use Rattle.agree_plan.specs.Image.{Imaged, rootOf, RegionFor, Part, joined, Leads, last, into, regionOf, here, on, Finds, AllParts}
 use Rattle.agree_plan.proofs.Tables.{rule-kept}
 use Rattle.agree_plan.proofs.Sectors.{sectors-planned}
 use Rattle.agree_plan.proofs.Agrees.{directory-kind, table-written, table-agrees, root-region, entry-region}
-use Rattle.agree_plan.proofs.Paths.{AllParts, joined-path}
+use Rattle.agree_plan.proofs.Paths.{joined-path}
 
 -- ---- lists
 

@@ -1,4 +1,4 @@
--- What growing a directory's tree gives: the tree of all its entries, ordered by name and balanced, with each entry once and all fit to be written. Assumes nothing.
+-- What growing a directory's tree gives: the tree of all its entries, ordered by name and balanced, with each entry once. Assumes nothing.
 use Prim.Native.Nat.{ℕ, zero, suc, _+_, _*_, _≤_, _<_}
 use native.Mathlib.Omega.{arith}
 use native.Mathlib.Numerals.{add-one}
@@ -6,12 +6,8 @@ use mathlib.Core.Path.{_≡_, refl, sym, ap, subst, _∙_}
 use mathlib.Core.Bool.{Bool, true, false}
 use mathlib.Core.List.{[], _∷_}
 use lib.Dec.{ltb}
-use lib.ListN.{getD, drop, length-take}
-use borrow.Author.Tests.{ltb-false}
 use Rattle.units.specs.Told.{Told, gives, refuses, pick}
 use Rattle.layout_name.specs.declared.Order.{Order}
-use Rattle.dirtab_entry.specs.Entry.{kindFor, checkOf}
-use Rattle.dirtab_arena.proofs.Fine.{Fine, fine-of}
 use Rattle.avl_model.specs.declared.Place.{Place}
 use Rattle.avl_model.specs.declared.Place.the-variants.{Root}
 use Rattle.avl_model.specs.declared.Spot.{Spot}
@@ -21,21 +17,19 @@ use Rattle.avl_model.specs.Laws.{Avl, All, Ordered, size}
 use Rattle.avl_model.specs.Names.{Names, names, nameAt, toName, isLess}
 use Rattle.avl_model.specs.Order.{order}
 use Rattle.avl_model.specs.Seek.{spotIn}
-use Rattle.avl_model.proofs.Avl.{all-map}
 use Rattle.avl_model.proofs.Counted.{all-below}
 use Rattle.avl_model.proofs.Search.{ins-names}
 use Rattle.table_model.specs.Entry.{Entry}
 use Rattle.table_model.specs.Place.{stopOf, endOf}
 use Rattle.table_model.specs.Table.{sizeOf}
-use Rattle.table_model.specs.Said.{Fits}
 use Rattle.table_model.proofs.Places.{FitsAt, start-at}
 use Rattle.dirtab_grow.specs.Grow.{ifTaken, ifFree, growFrom, orderIn}
-use Rattle.dirtab_grow.proofs.Growth.{all-passed, few-grown}
 use Rattle.img_model.specs.Shares.{Share}
-use Rattle.img_model.specs.Plan.{sizeAt, givenAt, entryIn, checkIn, treeIn}
+use Rattle.img_model.specs.Plan.{givenAt, entryIn, checkIn, treeIn}
+use Rattle.img_model.proofs.Passed.{count-few, numbers, all-fit}
 use Rattle.agree.specs.Written.{Before}
 use Rattle.agree.specs.Given.{grown, times}
-use Rattle.agree.proofs.FromList.{grown-below, grown-avl, grown-once, grown-size, times-order, stored-small}
+use Rattle.agree.proofs.FromList.{grown-avl, grown-once, grown-size, times-order}
 
 -- one entry of a growing tree: its name is free, and what follows gives
 took : (i : ℕ) (c : Told (Unit {0})) (q : Spot) (b : Bool) (x : Told Tree) (u : Tree) → ifTaken i c (ifFree i q (pick b x (refuses 6 (i ∷ [])))) ≡ gives u
@@ -45,21 +39,16 @@ took i (gives v) (Free r) false x u e = let z : _≡_ {A = ℕ} 0 1 = cc in absu
 took i (gives v) (Same j) b x u e = let z : _≡_ {A = ℕ} 0 1 = cc in absurd (omega arith)
 took i (refuses k vs) q b x u e = let z : _≡_ {A = ℕ} 0 1 = cc in absurd (omega arith)
 
--- an entry that passes is of four bytes' size, and has passed what adding asks
-passes : (n : ℕ) (b : Bool) (x : Told (Unit {0})) → ltb 4294967295 n ≡ b → pick b (refuses 10 []) x ≡ gives tt → (n ≤ 4294967295) × (x ≡ gives tt)
-passes n true x q e = let z : _≡_ {A = ℕ} 0 1 = cc in absurd (omega arith)
-passes n false x q e = (ltb-false _ _ q, e)
-
 -- an entry takes less than a sector and its own bytes
-pub end-most : (entry : ℕ → Entry) (t : Tree) (e : ℕ) → All (FitsAt entry) t → endOf entry e t ≤ e + 2320 * size t
+end-most : (entry : ℕ → Entry) (t : Tree) (e : ℕ) → All (FitsAt entry) t → endOf entry e t ≤ e + 2320 * size t
 unfolding endOf
 end-most entry leaf e a = omega arith
 end-most entry (node l i r) e a =
     omega (arith, start-at entry e i (a .0) .near, a .0 .short, end-most entry l (stopOf entry e i) (a .1), end-most entry r (endOf entry (stopOf entry e i) l) (a .2))
 
-pub size-most : (entry : ℕ → Entry) (t : Tree) → All (FitsAt entry) t → sizeOf entry t ≤ 2048 + 2320 * size t
-size-most entry leaf a = omega arith
-size-most entry (node l i r) a = omega (arith, end-most entry (node l i r) 0 a)
+size-most : (entry : ℕ → Entry) (t : Tree) (n : ℕ) → All (FitsAt entry) t → size t ≤ n → 1 ≤ n → sizeOf entry t ≤ 2320 * n
+size-most entry leaf n a h k = omega arith
+size-most entry (node l i r) n a h k = omega (arith, end-most entry (node l i r) 0 a)
 
 module _ (S : Share) (tab : ℕ → ℕ) where
   abbrev E : ℕ → Entry
@@ -129,43 +118,16 @@ module _ (S : Share) (tab : ℕ → ℕ) where
     pub tree-balanced : Avl t
     tree-balanced = subst Avl tree-is (grown-avl E (S .count))
 
-    tree-below : All (λ i. i < S .count) t
-    tree-below = subst (All (λ i. i < S .count)) tree-is (grown-below E (S .count))
-
     -- each entry once, and no other number
     pub tree-once : (i : ℕ) → i < S .count → times i (order t) ≡ 1
     tree-once i h = times-order i t ∙ ap (cnt i) (all-grew .0) ∙ grown-once E (S .count) i h
 
     pub tree-others : (i : ℕ) → S .count ≤ i → times i (order t) ≡ 0
-    tree-others i h = times-order i t ∙ all-below (S .count) t i tree-below h
-
-    -- each passed its checks
-    pub all-checked : (j : ℕ) → j < S .count → checkIn S tab j ≡ gives tt
-    unfolding treeIn
-    all-checked j h = all-passed between (checkIn S tab) (S .count) 0 leaf told j (omega arith) (omega arith)
-
-    pub passed : (j : ℕ) → j < S .count → (sizeAt S tab j ≤ 4294967295) × (checkOf (S .bytes) (givenAt S tab j) ≡ gives tt)
-    passed j h = passes (sizeAt S tab j) (ltb 4294967295 (sizeAt S tab j)) _ refl (all-checked j h)
-
-    pub fine : (j : ℕ) → j < S .count → Fine (S .bytes) (givenAt S tab j)
-    fine j h = fine-of (S .bytes) (givenAt S tab j) (passed j h .1)
-
-    fits : (j : ℕ) → j < S .count → Fits (entryIn S tab j)
-    fits j h = record {
-      short = omega (arith, fine j h .short, length-take (getD (S .len) j 0) (drop (getD (S .start) j 0) (S .bytes)));
-      small = stored-small (kindFor (getD (S .kind) j 0)) (sizeAt S tab j) (passed j h .0) (fine j h .small);
-    }
-
-    pub tree-fits : All (λ i. Fits (entryIn S tab i)) t
-    tree-fits = all-map (λ j. j < S .count) (λ i. Fits (entryIn S tab i)) t fits tree-below
-
-    pub count-few : S .count ≤ 16384
-    unfolding treeIn
-    count-few = omega (arith, few-grown between (checkIn S tab) (S .count) 0 leaf (omega arith) told)
+    tree-others i h = times-order i t ∙ all-below (S .count) t i (numbers S tab told) h
 
     pub tree-size : size t ≡ S .count
     tree-size = ap size (all-grew .0) ∙ grown-size E (S .count)
 
-    -- so a table's size is at most 16,384 times 2,320, or the empty table's
-    pub table-small : sizeOf (entryIn S tab) t ≤ 38012928
-    table-small = omega (arith, size-most E t tree-fits, tree-size, count-few)
+    -- so a table's size is at most 16,384 times 2,320
+    pub table-small : sizeOf (entryIn S tab) t ≤ 16384 * 2320
+    table-small = omega (arith, size-most E t 16384 (all-fit S tab told) (omega (arith, tree-size, count-few S tab told)) (omega arith))

@@ -1,4 +1,15 @@
--- What is proved of a plan.
+-- WHAT IS PROVED OF A PLAN that is given (specs/ has the words).
+--     Tables      table-planned, free-is: every table has the planned size and can be written from the sector where the one before ended
+--     Sectors     sectors-planned, root-planned: the planned sectors are those of the tables
+--     Follows     runs-follow, runs-apart, free-counts, runs-planned: all runs of sectors follow one another, from 33 to the next free sector
+--     Fills       table-fills, table-run: each table's bytes fill a run of the plan
+--     NeverFive   never-5: planning never answers 5
+--     Writes      table-writes, table-left: the lists of entries, written in turn, answer the planned sizes and sectors
+-- AND OF A WINDOW in which the tables stand at their planned sectors.
+--     Agrees      table-agrees, table-passes: every table is listed and found as it was written, and passes the strict check
+--     Found       path-finds: a path to a planned entry finds it, unless a link of 255 stands on the way; then 22
+--     Only        path-only: no path finds anything else
+--     Cases       a request that meets all that is supposed, computed; and one with an entry in two shares
 mod Grew
 mod Down
 mod Up
@@ -13,4 +24,5 @@ pub mod Agrees
 pub mod Fills
 mod Paths
 pub mod Found
+pub mod Only
 pub mod Cases

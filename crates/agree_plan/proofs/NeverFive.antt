@@ -1,5 +1,5 @@
 -- PLANNING NEVER ANSWERS 5: the size of a directory is its table's, which is far below what cannot be rounded. Assumes nothing.
-use Prim.Native.Nat.{ℕ, zero, suc, _+_, _≤_}
+use Prim.Native.Nat.{ℕ, zero, suc, _+_, _*_, _≤_}
 use native.Mathlib.Omega.{arith}
 use mathlib.Core.Path.{_≡_, refl, sym, subst}
 use mathlib.Core.Bool.{Bool, true, false}
@@ -34,7 +34,7 @@ NotFive (refuses k vs) = k ≡ 5 → ⊥
 
 -- the largest size of a table
 abbrev most : ℕ
-most = 38012928
+most = 16384 * 2320
 
 by-test : {A : Type 0} (b : Bool) (k : ℕ) (x : Told A) → (k ≡ 5 → ⊥) → NotFive x → NotFive (pick b (refuses k []) x)
 by-test true k x f h = f

@@ -11,7 +11,7 @@ use Rattle.units.specs.declared.Sector.{Sector}
 use Rattle.units.specs.declared.Region.{Region}
 use Rattle.read_lookup.specs.Lookup.{anyHigh}
 use Rattle.read_path.specs.Path.{trim, grow, split, unended, partsFrom, pathBy}
-use Rattle.agree_plan.specs.Image.{anySlash, Part, joined}
+use Rattle.agree_plan.specs.Image.{anySlash, Part, joined, AllParts}
 
 -- of two bytes' tests
 first-false : (b c : Bool) → pick b true c ≡ false → (b ≡ false) × (c ≡ false)
@@ -50,12 +50,6 @@ high-append (x ∷ a) rest e g =
 high-slash : (rest : List ℕ) → anyHigh rest ≡ false → anyHigh (47 ∷ rest) ≡ false
 unfolding anyHigh
 high-slash rest e = e
-
--- parts of which each is one, and there is a first
-abbrev pub AllParts : List (List ℕ) → Type 0
-AllParts [] = ⊥
-AllParts (a ∷ []) = Part a
-AllParts (a ∷ b ∷ cs) = Part a × AllParts (b ∷ cs)
 
 high-joined : (cs : List (List ℕ)) → AllParts cs → anyHigh (joined cs) ≡ false
 high-joined [] p = absurd p

@@ -1,5 +1,5 @@
 -- EVERY TABLE OF A PLAN THAT IS GIVEN has the planned size, and can be written from the sector where the one before ended. Assumes nothing.
-use Prim.Native.Nat.{ℕ, _≤_, _<_}
+use Prim.Native.Nat.{ℕ, _*_, _≤_, _<_}
 use native.Mathlib.Omega.{arith}
 use mathlib.Core.Path.{_≡_, refl, sym, ap, subst, _∙_}
 use mathlib.Core.Bool.{Bool, true, false}
@@ -9,9 +9,10 @@ use lib.ListN.{replicate, length-replicate}
 use Rattle.units.specs.Told.{Told, gives, refuses, pick}
 use Rattle.table_model.specs.Table.{sizeOf, placeOf}
 use Rattle.table_model.proofs.Placing.{size-given}
-use Rattle.img_model.specs.Shares.{Request, directoriesOf, isTree}
+use Rattle.img_model.specs.Shares.{Request, shareOf, directoriesOf, isTree}
 use Rattle.img_model.specs.Plan.{tableIn, Taking, entriesAt, sizesDown, takingUp, rooted, Plan, withSizes, ifSized, total, planOf}
 use Rattle.agree_plan.specs.Planned.{treeOr, treeAt, freeGiven, startSector, Planned, Tabled}
+use Rattle.agree_plan.proofs.Grew.{table-small}
 use Rattle.agree_plan.proofs.Down.{down-sized}
 use Rattle.agree_plan.proofs.Up.{takenBefore, all-taken, each-placed, starts-are}
 
@@ -74,6 +75,12 @@ module _ (R : Request) (places : ℕ) (tables sectors : List ℕ) (p : Plan) (g 
         sized = size-is;
         placed = at ∙ λ k. gives (record { size = size k; free = free k });
       }
+
+  -- of a size of at most 16,384 times 2,320 bytes
+  pub size-most : (d : ℕ) → d < directoriesOf R → tableIn (p .sizes) d ≤ 16384 * 2320
+  size-most d h =
+      let T = table-planned d h in
+      subst (λ (n : ℕ). n ≤ 16384 * 2320) (sym (T .sized)) (table-small (shareOf R d) (tableIn (p .sizes)) (treeAt R (p .sizes) d) (T .grown))
 
   -- THE NEXT FREE SECTOR is where the last one ended
   pub free-is : p .taken .free ≡ startSector R (p .sizes) (directoriesOf R)

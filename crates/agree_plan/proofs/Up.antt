@@ -4,33 +4,19 @@ use native.Mathlib.Omega.{arith}
 use native.Mathlib.Numerals.{add-one}
 use native.Mathlib.Decide.{ℕ-discrete}
 use mathlib.Core.Path.{_≡_, refl, sym, ap, subst, _∙_}
-use mathlib.Core.List.{List, [], _∷_, _++_}
+use mathlib.Core.List.{List}
 use Rattle.units.specs.Told.{Told, gives, refuses}
-use Rattle.avl_model.specs.Tree.{Tree, leaf, node}
+use Rattle.avl_model.specs.Tree.{Tree}
 use Rattle.avl_model.specs.Order.{order}
-use Rattle.table_model.specs.Place.{freeOf}
 use Rattle.table_model.specs.Table.{Placing, placeOf}
 use Rattle.table_model.proofs.Placing.{free-given}
 use Rattle.img_model.specs.Shares.{Request, shareOf}
-use Rattle.img_model.specs.Plan.{tableIn, treeIn, Taking, entriesAt, taking, takingAll, ifPlaced, takingUp, rooted}
+use Rattle.img_model.specs.Plan.{tableIn, treeIn, Taking, entriesAt, takingAll, ifPlaced, takingUp, rooted}
+use Rattle.img_model.proofs.Takings.{free-taken}
 use Rattle.agree_plan.specs.Planned.{treeOr, treeAt, freeGiven, startSector}
 use Rattle.agree_plan.proofs.Down.{tree-there}
 
 module _ (R : Request) (s : List ℕ) where
-  take-append : (d : ℕ) (p : Taking) (xs ys : List ℕ) → takingAll R s d p (xs ++ ys) ≡ takingAll R s d (takingAll R s d p xs) ys
-  unfolding takingAll
-  take-append d p [] ys = refl
-  take-append d p (x ∷ xs) ys = take-append d (taking R s d p x) xs ys
-
-  pub free-taken : (d : ℕ) (t : Tree) (p : Taking) → takingAll R s d p (order t) .free ≡ freeOf (entriesAt R s d) 1 (p .free) t
-  unfolding takingAll freeOf
-  free-taken d leaf p = refl
-  free-taken d (node l i r) p =
-      let q : Taking = taking R s d p i in
-      ap (λ (v : Taking). v .free) (take-append d q (order l) (order r))
-      ∙ free-taken d r (takingAll R s d q (order l))
-      ∙ ap (λ (m : ℕ). freeOf (entriesAt R s d) 1 m r) (free-taken d l q)
-
   placed-there : (d : ℕ) (g : Told Placing) (x : Told Taking) (q : Taking) → ifPlaced R s d g x ≡ gives q → (z : Placing) × ((g ≡ gives z) × (x ≡ gives q))
   placed-there d (gives z) x q e = (z, (refl, e))
   placed-there d (refuses k vs) x q e = let z : _≡_ {A = ℕ} 0 1 = cc in absurd (omega arith)
@@ -108,4 +94,4 @@ module _ (R : Request) (s : List ℕ) where
         ap (λ (m : ℕ). freeGiven (placeOf (entriesAt R s d) 1 m (treeAt R s d))) ih
         ∙ ap freeGiven (w .placed)
         ∙ free-given (entriesAt R s d) 1 (takenBefore p d .free) (treeAt R s d) (w .placing) (w .placed)
-        ∙ sym (free-taken d (treeAt R s d) (takenBefore p d))
+        ∙ sym (free-taken R s d (treeAt R s d) (takenBefore p d))

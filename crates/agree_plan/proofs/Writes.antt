@@ -20,9 +20,9 @@ use Rattle.dirtab_grow.proofs.Growth.{same-checks}
 use Rattle.dirtab_list.specs.Whole.{entryIn, hasPlaces, ifFits, ifGrown, wholeOf, tableFor, ifWritten, outAfter}
 use Rattle.img_model.specs.Shares.{Request, Share, shareOf, directoriesOf, firstOf, countOf, part}
 use Rattle.img_model.specs.Plan.{tableIn, sizeAt, givenAt, checkIn, treeIn, entriesAt, Plan}
+use Rattle.img_model.proofs.Passed.{all-checked, passed}
 use Rattle.agree_plan.specs.Planned.{treeAt, startSector, Planned}
 use Rattle.agree_plan.specs.InTurn.{SizesFor, listingOf}
-use Rattle.agree_plan.proofs.Grew.{all-checked, passed}
 use Rattle.agree_plan.proofs.Tables.{table-planned}
 
 -- past a part of a column there is nothing
@@ -63,8 +63,8 @@ module _ (R : Request) (places : ℕ) (tables sectors : List ℕ) (p : Plan) (g 
 
   check-is : (i : ℕ) → i < countOf R d → checkOf (R .bytes) (givenIn L i) ≡ checkIn S tab i
   check-is i k =
-      ap (checkOf (R .bytes)) (given-is i) ∙ passed S tab (treeAt R (p .sizes) d) (table-planned R places tables sectors p g d h .grown) i k .1
-      ∙ sym (all-checked S tab (treeAt R (p .sizes) d) (table-planned R places tables sectors p g d h .grown) i k)
+      ap (checkOf (R .bytes)) (given-is i) ∙ passed S tab (table-planned R places tables sectors p g d h .grown) i k .1
+      ∙ sym (all-checked S tab (table-planned R places tables sectors p g d h .grown) i k)
 
   tree-is : grow (L .bytes) (givenIn L) (L .count) ≡ gives (treeAt R (p .sizes) d)
   unfolding treeIn

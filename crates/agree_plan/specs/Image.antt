@@ -89,3 +89,18 @@ pub record Finds (R : Request) (p : Plan) (w : List ℕ) (first : Sector) (t : R
   -- the answer
   pub found : (List·Memᴰ 255 links → ⊥) → answer ≡ gives (placedAt place item)
   pub lost : List·Memᴰ 255 links → answer ≡ refuses 22 []
+
+-- NOTHING ELSE IS FOUND: what any parts find from directory d on is a planned entry to which they lead; else the answer is 22, or 27 where some first parts of
+-- them lead to a file and more follow
+pub data Only (R : Request) (p : Plan) (first : Sector) (d : ℕ) (parts : List (List ℕ)) : Told Placed → Type 0 where
+  finds : (e j place : ℕ) (item : Item) → Leads R p d parts e j → item .entry ≡ entriesAt R (p .sizes) e j → item .sector ≡ sectorAt R p e j
+      → 2048 * tableSector p e ≡ 2048 * first .0 + place → Only R p first d parts (gives (placedAt place item))
+  misses : Only R p first d parts (refuses 22 [])
+  meets : (e j : ℕ) (front : List (List ℕ)) (b : List ℕ) (cs : List (List ℕ)) → parts ≡ front ++ (b ∷ cs) → Leads R p d front e j → isDirectory (shareOf R e) j ≡ false
+      → Only R p first d parts (refuses 27 [])
+
+-- parts of a path, one or more
+abbrev pub AllParts : List (List ℕ) → Type 0
+AllParts [] = ⊥
+AllParts (a ∷ []) = Part a
+AllParts (a ∷ b ∷ cs) = Part a × AllParts (b ∷ cs)

@@ -3,4 +3,6 @@ pub mod Every
 pub mod Rule
 pub mod Trees
 pub mod Sizes
+pub mod Passed
+pub mod Takings
 pub mod Cases

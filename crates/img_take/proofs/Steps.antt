@@ -3,20 +3,20 @@ use Prim.Native.Nat.{ℕ, zero, suc, _+_, _≤_, _<_}
 use native.Mathlib.Omega.{arith}
 use mathlib.Core.Path.{_≡_, refl, sym, ap, _∙_}
 use mathlib.Core.Bool.{Bool, true, false}
-use mathlib.Core.List.{List, [], _∷_, _++_}
+use mathlib.Core.List.{List, [], _∷_}
 use lib.Dec.{ltb}
 use borrow.Author.Tests.{lt-ltb, le-ltb, ltb-false}
 use Rattle.units.specs.Told.{Told, gives, refuses, pick}
-use Rattle.avl_model.specs.Tree.{Tree, leaf, node}
+use Rattle.avl_model.specs.Tree.{Tree}
 use Rattle.avl_model.specs.Order.{order}
 use Rattle.table_model.specs.Place.{freeOf, items}
 use Rattle.table_model.specs.Table.{Placing, anyFar, sizeOf, placeOf}
 use Rattle.img_model.specs.Shares.{Request, shareOf}
 use Rattle.img_model.specs.Plan.{tableIn, treeIn, ifGrown, Taking, entriesAt, takingAll, ifPlaced, takingUp}
-use Rattle.img_model.specs.Plan as plan
+use Rattle.img_model.proofs.Passed.{all-fit}
+use Rattle.img_model.proofs.Takings.{free-taken}
 use Rattle.img_take.specs.Forward.{taking, freeTold, limited}
 use Rattle.img_take.proofs.Far.{far-is}
-use Rattle.img_take.proofs.Trees.{all-fit}
 
 -- go on with what is given
 abbrev pub andThen : {A B : Type 0} → Told A → (A → Told B) → Told B
@@ -33,22 +33,6 @@ at d (gives x) = gives x
 at d (refuses k vs) = refuses k (d ∷ [])
 
 module _ (R : Request) (s : List ℕ) where
-  -- ---- the next free sector after the entries of an order
-
-  take-append : (d : ℕ) (p : Taking) (xs ys : List ℕ) → takingAll R s d p (xs ++ ys) ≡ takingAll R s d (takingAll R s d p xs) ys
-  unfolding takingAll
-  take-append d p [] ys = refl
-  take-append d p (x ∷ xs) ys = take-append d (plan.taking R s d p x) xs ys
-
-  pub free-taken : (d : ℕ) (t : Tree) (p : Taking) → takingAll R s d p (order t) .free ≡ freeOf (entriesAt R s d) 1 (p .free) t
-  unfolding takingAll freeOf
-  free-taken d leaf p = refl
-  free-taken d (node l i r) p =
-      let q : Taking = plan.taking R s d p i in
-      ap (λ (v : Taking). v .free) (take-append d q (order l) (order r))
-      ∙ free-taken d r (takingAll R s d q (order l))
-      ∙ ap (λ (m : ℕ). freeOf (entriesAt R s d) 1 m r) (free-taken d l q)
-
   -- ---- one directory
 
   abbrev next : ℕ → ℕ → Taking → Tree → Told Taking
@@ -98,7 +82,7 @@ module _ (R : Request) (s : List ℕ) where
   same-grown k d p q ih e (gives t) =
       ap (λ (m : ℕ). freeTold (ifPlaced R s d (placeOf (entriesAt R s d) 1 m t) (takingUp R s k (d + 1) (takingAll R s d p (order t))))) e
       ∙ same-placed k d p q t (placeOf (entriesAt R s d) 1 (q .free) t)
-      (ih (takingAll R s d p (order t)) (takingAll R s d q (order t)) (free-taken d t p ∙ ap (λ (m : ℕ). freeOf (entriesAt R s d) 1 m t) e ∙ sym (free-taken d t q)))
+      (ih (takingAll R s d p (order t)) (takingAll R s d q (order t)) (free-taken R s d t p ∙ ap (λ (m : ℕ). freeOf (entriesAt R s d) 1 m t) e ∙ sym (free-taken R s d t q)))
   same-grown k d p q ih e (refuses c vs) = refl
 
   pub same-free : (k d : ℕ) (p q : Taking) → p .free ≡ q .free → freeTold (takingUp R s k d p) ≡ freeTold (takingUp R s k d q)
@@ -124,7 +108,7 @@ module _ (R : Request) (s : List ℕ) where
       → freeTold (ifPlaced R s d (pick over (refuses 8 []) (gives (record { size = z; free = freeOf (entriesAt R s d) 1 (p .free) t }))) (gives (takingAll R s d p (order t))))
       ≡ at d (pick over (refuses 8 []) (gives (freeOf (entriesAt R s d) 1 (p .free) t)))
   placed-by d p t true z = refl
-  placed-by d p t false z = ap gives (free-taken d t p)
+  placed-by d p t false z = ap gives (free-taken R s d t p)
 
   module _ (d : ℕ) (p : Taking) {t : Tree} (told : treeIn (shareOf R d) (tableIn s) ≡ gives t) where
     far-by-size : anyFar (items (entriesAt R s d) 1 0 (p .free) t) ≡ ltb 262144 (sizeOf (entriesAt R s d) t)

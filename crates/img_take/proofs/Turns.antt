@@ -17,6 +17,7 @@ use Rattle.dirtab_place.specs.Places.{toldFree}
 use Rattle.dirtab_place.proofs.Along.{SameSize}
 use Rattle.img_model.specs.Shares.{Request, Share, shareOf, part}
 use Rattle.img_model.specs.Plan.{tableIn, sizeAt, entryIn, treeIn, Taking, total, entriesAt, takingAll, takingUp, rooted}
+use Rattle.img_model.proofs.Takings.{free-taken}
 use Rattle.img_take.specs.declared.Fitting.{Fitting}
 use Rattle.img_take.specs.declared.Fitting.the-variants as fitting
 use Rattle.img_table.specs.Arranging.{shareBy, Fillable}
@@ -25,7 +26,7 @@ use Rattle.img_take.specs.Forward.{Sized, requestOf, Turn, Treed, entrie
 use Rattle.img_take.proofs.Trees.{listed-at, all-filled, sized-at, same-at}
 use Rattle.img_size.proofs.Orders.{total-step}
 use Rattle.img_take.proofs.Cut.{re-place, part-is, order-is, mine, share-is, mine-kind, mine-value}
-use Rattle.img_take.proofs.Steps.{andThen, then-given, at, free-taken, split, split-free, same-free, none-left, far-step, near-step, given-step}
+use Rattle.img_take.proofs.Steps.{andThen, then-given, at, split, split-free, same-free, none-left, far-step, near-step, given-step}
 use Rattle.img_take.proofs.Along.{along-is}
 
 same-given : {p q : Taking} → _≡_ {A = Told Taking} (gives p) (gives q) → p ≡ q
