@@ -4,6 +4,7 @@ pub mod inputs;
 pub mod lists;
 pub mod ours;
 pub mod plain;
+pub mod plans;
 pub mod theirs;
 
 /// A window: bytes, and the number of the sector that they start with.

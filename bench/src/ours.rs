@@ -1,11 +1,13 @@
 //! The boundary: the only place that knows how this repository's code is called, which is by libcapi.a. Every cell that an answer does not fill is looked at too: it
 //! has to be as it was.
+mod plan;
 #[path = "../../bindings/rust/src/sys.rs"]
 #[allow(dead_code)]
 mod sys;
 mod write;
 
 use crate::{Entry, Said, Table, View};
+pub use plan::plan;
 use sys::Fields;
 pub use write::{add_in_turn, whole, write_list, Entries, Lent};
 

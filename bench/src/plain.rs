@@ -1,6 +1,8 @@
 //! The readers once more, written from document 01 with no thought of speed: they tell beforehand where the Rust would never return, and are compared too.
+mod plan;
 mod write;
 
+pub use plan::plan;
 pub use write::{add_in_turn, sectors_for, stored, whole, MOST};
 
 use crate::{Entry, Said, Table, View};

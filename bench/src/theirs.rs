@@ -1,7 +1,9 @@
 //! The Rust original behind the same answers.
+mod plan;
 mod write;
 
 use crate::{Entry, Said, Table, View};
+pub use plan::plan;
 use std::panic::{catch_unwind, AssertUnwindSafe};
 pub use write::{add_in_turn, hear_panics, heard, write_list, Heard};
 use xdvdfs::blockdev::{BlockDeviceRead, Window};

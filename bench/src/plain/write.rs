@@ -194,6 +194,18 @@ pub fn add_in_turn(job: &Job) -> Turns {
     Turns { numbers, end: table(&list, &tree, job.first, job.room), tree: Some(told) }
 }
 
+/// The preorder of a list of entries that are taken, where each starts, and the last end.
+pub fn laid(list: &[New]) -> (Vec<usize>, Vec<u64>, u64) {
+    let keys: Vec<Vec<u8>> = list.iter().map(|new| raised(&new.name)).collect();
+    let (mut tree, mut order) = (None, Vec::new());
+    for i in 0..list.len() {
+        tree = Some(inserted(tree, i, &|other| keys[i].cmp(&keys[other])));
+    }
+    preorder(&tree, &mut order);
+    let (at, end) = places(&list.iter().collect::<Vec<_>>(), &order);
+    (order, at, end)
+}
+
 /// A whole list: the first entry that is refused, else its table.
 pub fn whole(turns: &Turns) -> Wrote {
     match turns.numbers.iter().position(|&number| number != 0) {

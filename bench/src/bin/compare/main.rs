@@ -1,5 +1,6 @@
-//! compare [WHAT [ROUNDS [SEED]]]: this repository's code, the Rust's, and the plain code, on the same inputs. WHAT is `reads`, `tables` or `all`. Prints the seed, counts,
+//! compare [WHAT [ROUNDS [SEED]]]: this repository's code, the Rust's, and the plain code, on the same inputs. WHAT is `reads`, `tables`, `plans` or `all`. Prints the seed, counts,
 //! each difference that is not one of those listed, shrunk where it is a list's, and ends with exit status 1 where there is one.
+mod plans;
 mod reads;
 mod tables;
 mod tally;
@@ -12,21 +13,24 @@ fn main() {
     let words: Vec<String> = std::env::args().skip(1).collect();
     let number = |at: usize, or: u64| words.get(at).map_or(or, |word| word.parse().expect("a number"));
     let (what, rounds, seed) = (words.first().map_or("all", |word| word), number(1, 1) as usize, number(2, 2024));
-    assert!(["all", "reads", "tables"].contains(&what), "reads, tables or all");
+    assert!(["all", "reads", "tables", "plans"].contains(&what), "reads, tables, plans or all");
     println!("seed {seed}");
     let mut tally = Tally::default();
-    if what != "tables" {
+    if ["all", "reads"].contains(&what) {
         reads::all(&mut tally, &mut Dice(seed), rounds);
     }
-    if what != "reads" {
+    if ["all", "tables"].contains(&what) {
         tables::all(&mut tally, &mut Dice(seed), rounds);
+    }
+    if ["all", "plans"].contains(&what) {
+        plans::all(&mut tally, &mut Dice(seed), rounds);
     }
     let mut all = 0;
     for ((what, how), count) in &tally.counts {
         println!("{what}: {how}: {count}");
         all += count;
     }
-    println!("{} tables written or refused", tally.tables);
+    println!("{} tables written or refused, {} plans", tally.tables, tally.plans);
     println!("{all} answers compared, {} of them with the Rust, {} differ", tally.asked, tally.wrong);
     std::process::exit((tally.wrong > 0) as i32);
 }

@@ -8,6 +8,7 @@ pub struct Tally {
     pub asked: u64,
     /// Tables that were written, or refused.
     pub tables: u64,
+    pub plans: u64,
     pub wrong: u64,
 }
 

