@@ -7,7 +7,7 @@ mod sys;
 mod write;
 
 use crate::{Entry, Said, Table, View};
-pub use plan::plan;
+pub use plan::{plan, Prepared};
 use sys::Fields;
 pub use write::{add_in_turn, whole, write_list, Entries, Lent};
 

@@ -135,3 +135,21 @@ pub fn broken(dice: &mut Dice, mut request: Request) -> Request {
     }
     request
 }
+
+/// A tree of so many directories, eight in each that has any, with so many entries in all, evenly shared: names of 4 to 8 letters.
+pub fn even_request(dice: &mut Dice, count: usize, entries: usize) -> Request {
+    let mut directories: Vec<Vec<Member>> = vec![Vec::new(); count];
+    for child in 1..count {
+        directories[(child - 1) / 8].push(Member { name: vec![], directory: true, value: child as u64 });
+    }
+    for (d, list) in directories.iter_mut().enumerate() {
+        let share = entries / count + usize::from(d < entries % count);
+        while list.len() < share {
+            list.push(Member { name: vec![], directory: false, value: dice.below(5_000) as u64 });
+        }
+        dice.shuffle(list);
+        let names = crate::inputs::names(dice, list.len(), "", 4..=8);
+        list.iter_mut().zip(names).for_each(|(member, name)| member.name = name.into());
+    }
+    Request { directories }
+}

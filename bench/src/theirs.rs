@@ -3,7 +3,7 @@ mod plan;
 mod write;
 
 use crate::{Entry, Said, Table, View};
-pub use plan::plan;
+pub use plan::{fast_plan, listed, plan};
 use std::panic::{catch_unwind, AssertUnwindSafe};
 pub use write::{add_in_turn, hear_panics, heard, write_list, Heard};
 use xdvdfs::blockdev::{BlockDeviceRead, Window};

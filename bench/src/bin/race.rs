@@ -5,6 +5,7 @@
 //! each piece is done by both, one right after the other, now the one first, now the other. A task's least time is the sum of its pieces' least
 //! times over the turns, its middle time the sum of their medians.
 use bench::inputs::{names, shortest_names, written, Dice};
+use bench::plans::even_request;
 use bench::{ours, plain, theirs, Said, Table, View};
 use std::hint::black_box;
 
@@ -146,6 +147,22 @@ fn both_orders(label: &str, turns: usize, list: &[String]) {
     whole(&format!("{label}, in order"), turns, &sorted);
 }
 
+/// A plan: the answers are compared first. The Rust makes its list of directories within its time, so both are raced with that making, and the making by itself too.
+fn planned(turns: usize, dice: &mut Dice, count: usize, entries: usize) {
+    let label = format!("{count} directories, {entries} entries");
+    if !wanted(&format!("{label}: plan")) {
+        return;
+    }
+    let request = even_request(dice, count, entries);
+    assert!(ours::plan(&request, None).agrees(&theirs::plan(&request)), "{label}");
+    let mut ready = ours::Prepared::of(&request);
+    let mut rust = |_| theirs::fast_plan(&request);
+    race(&format!("{label}: plan, both from the request"), turns, 1, entries, &mut |_| ours::Prepared::of(&request).plan(), &mut rust);
+    race(&format!("{label}: plan, ours with its columns at hand"), turns, 1, entries, &mut |_| ready.plan(), &mut rust);
+    let mut mine = |_| black_box(ours::Prepared::of(&request)).size() as u64;
+    race(&format!("{label}: plan's input made"), turns, 1, entries, &mut mine, &mut |_| black_box(theirs::listed(&request)).len() as u64);
+}
+
 fn main() {
     let turns: usize = std::env::args().nth(1).map_or(25, |word| word.parse().expect("a number"));
     let mut dice = Dice(7);
@@ -181,6 +198,9 @@ fn main() {
     for count in [100, 1_000, 6_500] {
         let list = names(&mut dice, count, "track_of_the_main_ring", 4..=4);
         both_orders(&format!("{count} names of 26 bytes, 22 of them common"), turns, &list);
+    }
+    for (count, entries) in [(10, 10_000), (1_000, 10_000), (6_000, 100_000), (65_535, 1_000_000)] {
+        planned(turns.div_ceil(5), &mut dice, count, entries);
     }
     let (whole, word, long) = (ours::Lent::new(1).bytes(), std::mem::size_of::<u32>(), std::mem::size_of::<u64>());
     println!("\nLent for an entry, besides the caller's own list: {whole} bytes for a whole table, {} for a walk, {} for a strict check.", 2 * word, word + long);

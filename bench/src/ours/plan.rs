@@ -162,3 +162,30 @@ pub fn plan(request: &Request, short: Option<usize>) -> Planned {
     assert!(other == BEFORE, "the other cell after {number}");
     Planned::Refused { number, entry: told(entry) }
 }
+
+/// A request as columns, with what is lent for its plan: what the race calls again and again.
+pub struct Prepared {
+    columns: Columns,
+    lent: Lent,
+}
+
+impl Prepared {
+    pub fn of(request: &Request) -> Prepared {
+        let columns = Columns::of(request);
+        let most = columns.share.iter().max().map_or(0, |&most| most as usize);
+        let lent = Lent::new(columns.first.len(), columns.start.len(), most);
+        Prepared { columns, lent }
+    }
+
+    /// How many entries it has.
+    pub fn size(&self) -> usize {
+        self.columns.start.len()
+    }
+
+    /// The next free sector.
+    pub fn plan(&mut self) -> u64 {
+        let (number, cells) = call(&self.columns, &mut self.lent);
+        assert_eq!(number, 0, "a plan that is raced");
+        cells.next as u64
+    }
+}

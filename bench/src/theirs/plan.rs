@@ -45,14 +45,19 @@ impl FilesystemHierarchy for Tree<'_> {
     }
 
     fn arranged(&mut self, _: Vec<DirectoryTreeEntry>) -> Vec<DirectoryTreeEntry> {
-        let entry = |member: &crate::plans::Member| {
-            let (file_type, len) = if member.directory { (FileType::Directory, 0) } else { (FileType::File, member.value) };
-            let name = String::from_utf8(member.name.clone()).expect("an ASCII name");
-            (FileEntry { name, file_type, len }, if member.directory { member.value as usize } else { 0 })
-        };
-        let listing = |list: &Vec<_>| list.iter().map(entry).collect();
-        self.0.directories.iter().map(|list| DirectoryTreeEntry { dir: PathVec::default(), listing: listing(list) }).collect()
+        listed(self.0)
     }
+}
+
+/// The request as the Rust's list of directories.
+pub fn listed(request: &Request) -> Vec<DirectoryTreeEntry> {
+    let entry = |member: &crate::plans::Member| {
+        let (file_type, len) = if member.directory { (FileType::Directory, 0) } else { (FileType::File, member.value) };
+        let name = String::from_utf8(member.name.clone()).expect("an ASCII name");
+        (FileEntry { name, file_type, len }, if member.directory { member.value as usize } else { 0 })
+    };
+    let listing = |list: &Vec<_>| list.iter().map(entry).collect();
+    request.directories.iter().map(|list| DirectoryTreeEntry { dir: PathVec::default(), listing: listing(list) }).collect()
 }
 
 impl FilesystemCopier<Log> for Tree<'_> {
@@ -118,4 +123,16 @@ pub fn plan(request: &Request) -> Planned {
         assert!(log.writes.contains(&wanted), "where a table was written: {wanted:?}");
     }
     Planned::Done { sizes, tables, sectors, next: None }
+}
+
+/// The same with nothing asked of the answer, for the race: where the last table or file stands.
+pub fn fast_plan(request: &Request) -> u64 {
+    let (mut log, mut last) = (Log::default(), 0);
+    let visitor = |info: ProgressInfo<'_>| {
+        if let ProgressInfo::FileAdded(_, sector) = info {
+            last = sector as u64;
+        }
+    };
+    create_xdvdfs_image(&mut Tree(request), &mut log, visitor).expect("a plan that is raced");
+    last
 }
