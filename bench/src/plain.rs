@@ -2,7 +2,7 @@
 mod plan;
 mod write;
 
-pub use plan::plan;
+pub use plan::{plan, refused_twice};
 pub use write::{add_in_turn, sectors_for, stored, whole, MOST};
 
 use crate::{Entry, Said, Table, View};

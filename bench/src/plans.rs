@@ -1,5 +1,6 @@
 //! Plans: what is asked, what is answered, and random requests.
 use crate::inputs::Dice;
+use crate::plain;
 
 /// An entry of a directory: a file of so many bytes, or the directory with this number.
 #[derive(Clone, Debug, PartialEq, Eq)]
@@ -35,6 +36,43 @@ impl Planned {
             }
             _ => false,
         }
+    }
+}
+
+/// Whether the Rust may be asked: not for names that document 01 refuses and it does not, nor for what is no tree. `plain` is the plain plan's answer.
+pub fn may_ask(request: &Request, plain: &Planned) -> bool {
+    let named =
+        request.directories.iter().flatten().all(|member| !member.name.is_empty() && member.name.iter().all(|b| (1..128).contains(b)));
+    named && !matches!(plain, Planned::Refused { number: 6 | 11, .. })
+}
+
+/// A request as columns: of each directory the place of its first entry and how many it has, of each entry its name's start and length, its kind (1 is a directory) and its value.
+#[derive(Default)]
+pub struct Columns {
+    pub first: Vec<u32>,
+    pub share: Vec<u32>,
+    pub start: Vec<u32>,
+    pub len: Vec<u32>,
+    pub kind: Vec<u8>,
+    pub value: Vec<u64>,
+    pub names: Vec<u8>,
+}
+
+impl Columns {
+    pub fn of(request: &Request) -> Columns {
+        let mut c = Columns::default();
+        for list in &request.directories {
+            c.first.push(c.start.len() as u32);
+            c.share.push(list.len() as u32);
+            for member in list {
+                c.start.push(c.names.len() as u32);
+                c.len.push(member.name.len() as u32);
+                c.kind.push(member.directory as u8);
+                c.value.push(member.value);
+                c.names.extend(&member.name);
+            }
+        }
+        c
     }
 }
 
@@ -109,12 +147,56 @@ pub fn request_near_top(dice: &mut Dice) -> Request {
     request
 }
 
+/// A directory of 2,048 files after which this is the next free sector; 4,294,967,295 is the last that there is.
+pub fn request_up_to(next: u64) -> Request {
+    let file = |i: usize| Member { name: format!("{i}").into(), directory: false, value: if i < 2_047 { u32::MAX as u64 } else { 0 } };
+    let mut request = Request { directories: vec![(0..2_048).map(file).collect()] };
+    let Planned::Done { next: Some(free), .. } = plain::plan(&request) else { panic!("a plan of 2,048 files") };
+    request.directories[0][2_047].value = 2048 * (next - free as u64 + 1);
+    request
+}
+
 /// A directory with a table about as long as links reach.
 pub fn request_near_end(dice: &mut Dice) -> Request {
     let mut request = Request { directories: vec![vec![Member { name: b"d".into(), directory: true, value: 1 }], Vec::new()] };
     for i in 0..880 + dice.below(40) {
         let name = format!("{i}{}", "x".repeat(238 + dice.below(14)));
         request.directories[1].push(Member { name: name.into(), directory: false, value: 1 });
+    }
+    request
+}
+
+/// One or two directories whose tables take about a sector, or somewhat more: names of 24 to 80 letters.
+pub fn request_near_sector(dice: &mut Dice) -> Request {
+    let count = 1 + dice.below(2);
+    let entries = 30 * count + dice.below(5);
+    let mut request = even_request(dice, count, entries);
+    request.directories.iter_mut().flatten().for_each(|member| member.name.extend(vec![b'x'; 20 + dice.below(53)]));
+    request
+}
+
+/// One directory that is near both ends: so many files of the largest size, with names about so long that links still reach them.
+pub fn request_near_both(dice: &mut Dice) -> Request {
+    let len = 109 + dice.below(10);
+    let file = |i: usize| Member { name: format!("{i:0len$}").into(), directory: false, value: u32::MAX as u64 };
+    Request { directories: vec![(0..2_046 + dice.below(4)).map(file).collect()] }
+}
+
+/// One or two entries that are refused, in most cases: a name of 256 bytes, a name that is there already, a file too large.
+pub fn spoiled(dice: &mut Dice, mut request: Request) -> Request {
+    for _ in 0..1 + dice.below(2) {
+        let at = dice.below(request.directories.len());
+        let list = &mut request.directories[at];
+        if list.is_empty() {
+            continue;
+        }
+        let (i, other) = (dice.below(list.len()), dice.below(list.len()));
+        match dice.below(3) {
+            0 => list[i].name = vec![b'x'; 256],
+            1 => list[i].name = list[other].name.to_ascii_uppercase(),
+            _ if list[i].directory => {}
+            _ => list[i].value = u32::MAX as u64 + 1 + dice.below(2) as u64,
+        }
     }
     request
 }

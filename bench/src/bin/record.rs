@@ -2,6 +2,7 @@
 //! `replay` prints where it gives the same answers. The same in each run. Nothing of this repository's readers and writers is asked.
 use bench::inputs::{damage, image, name, names, noise, written, Dice, Folder};
 use bench::lists::{list_about, list_near_top, random_list, small_lists};
+use bench::plans::{even_request, may_ask, random_request, request_near_sector, request_up_to, spoiled, Columns, Planned, Request};
 use bench::{plain, theirs, Entry, Job, Said, Table, View, Wrote};
 
 const BLOCK: usize = 65_536;
@@ -11,7 +12,7 @@ const PLACES: usize = 256;
 #[derive(Default)]
 struct Records {
     bytes: Vec<u8>,
-    counts: [usize; 4],
+    counts: [usize; 5],
 }
 
 impl Records {
@@ -27,7 +28,7 @@ impl Records {
         self.bytes.extend((length as u16).to_le_bytes());
         self.bytes.push(kind);
         self.bytes.extend(body);
-        let at = b"tlpw".iter().position(|&k| k == kind).expect("a kind");
+        let at = b"tilpw".iter().position(|&k| k == kind).expect("a kind");
         self.counts[at] += 1;
     }
 }
@@ -167,6 +168,50 @@ fn tables(records: &mut Records, dice: &mut Dice) {
     }
 }
 
+/// What the Rust plans; nothing where it is not asked, nor where a table is refused by 7, which docs/DIFFERENCES.md has as another answer where sectors run out too.
+fn plan(records: &mut Records, request: &Request) {
+    let plain = plain::plan(request);
+    if !may_ask(request, &plain) || matches!(plain, Planned::Refused { number: 7, .. }) {
+        return;
+    }
+    let (number, planned) = match theirs::plan(request) {
+        Planned::Done { sizes, tables, sectors, .. } => (0, vec![sizes, tables, sectors]),
+        Planned::Refused { number, .. } => (number, vec![]),
+    };
+    let c = Columns::of(request);
+    let mut body = Vec::new();
+    put(&mut body, &[number]);
+    [c.first.len(), c.start.len(), c.names.len()].iter().for_each(|&n| put_short(&mut body, n));
+    [&c.first, &c.share, &c.start, &c.len].iter().for_each(|column| put(&mut body, column));
+    c.value.iter().for_each(|value| body.extend(value.to_le_bytes()));
+    body.extend(&c.kind);
+    body.extend(&c.names);
+    planned.iter().for_each(|column| put(&mut body, column));
+    records.push(b'i', &body);
+}
+
+fn plans(records: &mut Records, dice: &mut Dice) {
+    plan(records, &request_up_to(u32::MAX as u64));
+    plan(records, &request_up_to(u32::MAX as u64 + 1));
+    for _ in 0..14 {
+        plan(records, &request_near_sector(dice));
+    }
+    while records.counts[1] < 600 {
+        let request = match dice.below(16) {
+            0 => {
+                let count = 1 + dice.below(16);
+                even_request(dice, count, count + 20)
+            }
+            _ => random_request(dice),
+        };
+        let request = if dice.below(4) == 0 { spoiled(dice, request) } else { request };
+        let entries: usize = request.directories.iter().map(Vec::len).sum();
+        if request.directories.len() <= 16 && entries <= [12, 24, 64][dice.below(3)] {
+            plan(records, &request);
+        }
+    }
+}
+
 /// A small table that the Rust wrote, cut behind its last entry, sometimes damaged; its directories lie where it lies itself.
 fn small_table(dice: &mut Dice, round: usize) -> (Vec<u8>, u32, Table, Vec<String>) {
     let count = dice.below(8);
@@ -247,8 +292,9 @@ fn main() {
     tables(&mut records, &mut dice);
     reads(&mut records, &mut dice);
     images(&mut records, &mut dice);
-    let [tables, lookups, paths, walks] = records.counts;
+    plans(&mut records, &mut Dice(2025));
+    let [tables, plans, lookups, paths, walks] = records.counts;
     std::fs::write(file, &records.bytes).expect("the file");
-    let text = format!("{tables} tables\n{lookups} lookups\n{paths} paths\n{walks} walks\n0 differ\n");
+    let text = format!("{tables} tables\n{plans} plans\n{lookups} lookups\n{paths} paths\n{walks} walks\n0 differ\n");
     std::fs::write(summary, text).expect("the summary");
 }

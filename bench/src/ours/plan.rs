@@ -1,37 +1,7 @@
 //! Plans of this repository's code. Lent memory is looked at after each call: scratch is zero, and outputs are as they were where nothing is given back.
 use super::sys;
 use super::BEFORE;
-use crate::plans::{Planned, Request};
-
-/// A request as columns.
-#[derive(Default)]
-struct Columns {
-    first: Vec<u32>,
-    share: Vec<u32>,
-    start: Vec<u32>,
-    len: Vec<u32>,
-    kind: Vec<u8>,
-    value: Vec<u64>,
-    names: Vec<u8>,
-}
-
-impl Columns {
-    fn of(request: &Request) -> Columns {
-        let mut c = Columns::default();
-        for list in &request.directories {
-            c.first.push(c.start.len() as u32);
-            c.share.push(list.len() as u32);
-            for member in list {
-                c.start.push(c.names.len() as u32);
-                c.len.push(member.name.len() as u32);
-                c.kind.push(member.directory as u8);
-                c.value.push(member.value);
-                c.names.extend(&member.name);
-            }
-        }
-        c
-    }
-}
+use crate::plans::{Columns, Planned, Request};
 
 /// What is lent besides: what is given back, and scratch by directory, by node of the largest directory, and by entry.
 struct Lent {

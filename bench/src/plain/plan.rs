@@ -41,24 +41,29 @@ fn sized(request: &Request, starts: &[usize]) -> Result<Vec<u64>, (u32, u32)> {
     Ok(sizes)
 }
 
-pub fn plan(request: &Request) -> Planned {
-    if !is_tree(request) {
-        return Planned::Refused { number: 11, entry: None };
-    }
+/// The place of each directory's first entry in the row of all entries, and how many there are in all.
+fn starts_of(request: &Request) -> Vec<usize> {
     let mut starts = vec![0];
     request.directories.iter().for_each(|list| starts.push(starts[starts.len() - 1] + list.len()));
-    let sizes = match sized(request, &starts) {
-        Ok(sizes) => sizes,
-        Err((number, entry)) => return Planned::Refused { number, entry: Some(entry) },
-    };
+    starts
+}
+
+/// Each table's sector, each entry's sector, and the next free one.
+type Places = (Vec<u32>, Vec<u32>, u32);
+
+/// The first directory whose table cannot be placed: whether links do not reach one of its entries, and whether sectors run out.
+struct Unplaced {
+    directory: u32,
+    unreached: bool,
+    run_out: bool,
+}
+
+fn placed(request: &Request, starts: &[usize], sizes: &[u64]) -> Result<Places, Unplaced> {
     let (mut tables, mut sectors) = (vec![33; sizes.len()], vec![0; starts[sizes.len()]]);
     let mut next = 33 + sectors_for(sizes[0]);
     for (d, list) in request.directories.iter().enumerate() {
-        let entries = entries(list, &sizes);
+        let entries = entries(list, sizes);
         let (order, at, _) = laid(&entries);
-        if at.iter().any(|at| at / 4 > 65_535) {
-            return Planned::Refused { number: 7, entry: Some(d as u32) };
-        }
         for i in order {
             sectors[starts[d] + i] = next as u32;
             if list[i].directory {
@@ -66,9 +71,34 @@ pub fn plan(request: &Request) -> Planned {
             }
             next += sectors_for(stored(&entries[i]) as u64);
         }
-        if next > u32::MAX as u64 {
-            return Planned::Refused { number: 8, entry: Some(d as u32) };
+        let (unreached, run_out) = (at.iter().any(|at| at / 4 > 65_535), next > u32::MAX as u64);
+        if unreached || run_out {
+            return Err(Unplaced { directory: d as u32, unreached, run_out });
         }
     }
-    Planned::Done { sizes: sizes.iter().map(|&size| size as u32).collect(), tables, sectors, next: Some(next as u32) }
+    Ok((tables, sectors, next as u32))
+}
+
+pub fn plan(request: &Request) -> Planned {
+    if !is_tree(request) {
+        return Planned::Refused { number: 11, entry: None };
+    }
+    let starts = starts_of(request);
+    let sizes = match sized(request, &starts) {
+        Ok(sizes) => sizes,
+        Err((number, entry)) => return Planned::Refused { number, entry: Some(entry) },
+    };
+    match placed(request, &starts, &sizes) {
+        Ok((tables, sectors, next)) => {
+            Planned::Done { sizes: sizes.iter().map(|&size| size as u32).collect(), tables, sectors, next: Some(next) }
+        }
+        Err(Unplaced { directory, unreached, .. }) => Planned::Refused { number: if unreached { 7 } else { 8 }, entry: Some(directory) },
+    }
+}
+
+/// Whether a tree is refused for both at once: the table that links do not reach to its end (7) is the one with which sectors run out (8).
+pub fn refused_twice(request: &Request) -> bool {
+    let starts = starts_of(request);
+    let sizes = sized(request, &starts);
+    sizes.is_ok_and(|sizes| matches!(placed(request, &starts, &sizes), Err(Unplaced { unreached: true, run_out: true, .. })))
 }

@@ -1,16 +1,11 @@
 //! Planning on the same trees.
 use crate::tally::Tally;
 use bench::inputs::Dice;
-use bench::plans::{broken, random_request, request_near_end, request_near_top, Planned, Request};
+use bench::plans::{
+    broken, may_ask, random_request, request_near_both, request_near_end, request_near_top, request_up_to, Planned, Request,
+};
 use bench::theirs::heard;
 use bench::{ours, plain, theirs};
-
-/// The Rust cannot be asked for names that document 01 refuses and it does not, nor for what is no tree.
-fn may_ask(request: &Request, plain: &Planned) -> bool {
-    let named =
-        request.directories.iter().flatten().all(|member| !member.name.is_empty() && member.name.iter().all(|b| (1..128).contains(b)));
-    named && !matches!(plain, Planned::Refused { number: 6 | 11, .. })
-}
 
 fn kind(planned: &Planned) -> String {
     match planned {
@@ -30,7 +25,9 @@ fn answers(request: &Request) -> Result<(String, bool), String> {
     }
     let rust = theirs::plan(request);
     match (&want, &rust) {
-        (Planned::Refused { number: 7, .. }, Planned::Refused { number: 8, .. }) => Ok(("7 and 8 together".into(), true)),
+        (Planned::Refused { number: 7, .. }, Planned::Refused { number: 8, .. }) if plain::refused_twice(request) => {
+            Ok(("7 and 8 together".into(), true))
+        }
         (a, b) if a.agrees(b) => Ok((kind(&want), true)),
         _ => Err(format!("the Rust {rust:?}, plain {want:?}")),
     }
@@ -129,4 +126,10 @@ pub fn all(tally: &mut Tally, dice: &mut Dice, rounds: usize) {
         tally.plan("plan with a table of about 262,144 bytes", &request_near_end(dice));
     }
     short_columns(tally, dice, 2_000 * rounds);
+    for _ in 0..40 * rounds {
+        tally.plan("plan near both ends", &request_near_both(dice));
+    }
+    for next in u32::MAX as u64 - 3..u32::MAX as u64 + 4 {
+        tally.plan("plan up to the last sector", &request_up_to(next));
+    }
 }

@@ -12,10 +12,10 @@ use Rattle.replay.proofs.run_next.Reads as run-next-reads
 use Rattle.replay.proofs.show.Reads as show-reads
 
 abbrev Inv-loop : tie.InvT-loop
-Inv-loop file t₀ i₀ t6 t7 t8 t9 t10 t i = Unit {0}
+Inv-loop file t₀ i₀ t6 t7 t8 t9 t10 t11 t i = Unit {0}
 
 abbrev μ-loop : tie.MeasureT-loop
-μ-loop file t₀ i₀ t6 t7 t8 t9 t10 t i = 32 - i
+μ-loop file t₀ i₀ t6 t7 t8 t9 t10 t11 t i = 32 - i
 
 slice-aggregate-open-read : tie.Need-slice-aggregate-open-read Inv-loop μ-loop
 slice-aggregate-open-read c = search needs
@@ -80,6 +80,12 @@ slice-aggregate-show-5 c = search needs
 show-requires-5 : tie.Need-show-requires-5 Inv-loop μ-loop
 show-requires-5 c κs = search needs
 
+slice-aggregate-show-6 : tie.Need-slice-aggregate-show-6 Inv-loop μ-loop
+slice-aggregate-show-6 c = search needs
+
+show-requires-6 : tie.Need-show-requires-6 Inv-loop μ-loop
+show-requires-6 c κs = search needs
+
 returns-2 : tie.Need-returns-2 Inv-loop μ-loop
 returns-2 c = search needs
 
@@ -110,4 +116,6 @@ main-spec =
     show-requires-4
     slice-aggregate-show-5
     show-requires-5
+    slice-aggregate-show-6
+    show-requires-6
     returns-2)

@@ -7,9 +7,9 @@ use Rattle.replay.proofs.run_block.Statement.{statement}
 use Rattle.replay.proofs.run_block.Tie as tie
 use Rattle.replay.proofs.run_block.Reads as reads
 use Rattle.replay.proofs.run_block.Lts as lts
-use Rattle.replay.proofs.part.Reads as part-reads
+use Rattle.replay_record.proofs.part.Reads as part-reads
 use Rattle.replay.proofs.run.Reads as run-reads
-use Rattle.replay.proofs.short_at.Reads as short-at-reads
+use Rattle.replay_record.proofs.short_at.Reads as short-at-reads
 use Rattle.replay.proofs.with.Reads as with-reads
 
 abbrev Inv-loop : tie.InvT-loop

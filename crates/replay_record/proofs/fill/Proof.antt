@@ -1,14 +1,14 @@
--- `replay::fill` stays in bounds and ends. Assumes nothing.
+-- `replay_record::fill` stays in bounds and ends. Assumes nothing.
 use Prim.Native.Nat.{_-_}
 use mathlib.Core.Path.{_≡_}
 use native.Mathlib.Omega.{arith}
 use lib.ListN.{length, length-set}
 use borrow.Author.Needs.{needs}
-use Rattle.replay.proofs.fill.Statement.{statement}
-use Rattle.replay.proofs.fill.Tie as tie
-use Rattle.replay.proofs.fill.Reads as reads
-use Rattle.replay.proofs.fill.Lts as lts
-use Rattle.replay.proofs.number_at.Reads as number-at-reads
+use Rattle.replay_record.proofs.fill.Statement.{statement}
+use Rattle.replay_record.proofs.fill.Tie as tie
+use Rattle.replay_record.proofs.fill.Reads as reads
+use Rattle.replay_record.proofs.fill.Lts as lts
+use Rattle.replay_record.proofs.number_at.Reads as number-at-reads
 
 abbrev Inv-loop : tie.InvT-loop
 Inv-loop s at to₀ i₀ to i = length to ≡ length to₀
