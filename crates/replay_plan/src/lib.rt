@@ -6,10 +6,16 @@ use replay_record::is_row;
 use replay_record::part;
 use replay_record::short_at;
 use xdvdfs::Planned;
+ghost use mathlib.Core.Path.{_≡_};
 ghost use Prim.Native.Nat.{_<_, _≤_};
 ghost use lib.ListN.{length};
+ghost use Rattle.units.specs.Told.{numberOf};
+ghost use Rattle.img_model.specs.Plan as planning;
 
-fn number_of(r: Planned) -> u32 {
+// Document 01's number of a refused plan; 0 where it is planned.
+fn number_of(r: Planned) -> u32
+    ensures { λ n. ⌜ n ≡ numberOf (planning.told r) ⌝ }
+{
     match r {
         Planned::Done(_) => 0,
         Planned::Room => 6,

@@ -1,8 +1,6 @@
 -- `replay_record::is_row` stays in bounds and ends. Assumes nothing.
 use Prim.Native.Nat.{_-_}
-use mathlib.Core.Path.{_≡_}
-use native.Mathlib.Omega.{arith}
-use lib.ListN.{length, length-set}
+use lib.ListN.{length}
 use borrow.Author.Needs.{needs}
 use Rattle.replay_record.proofs.is_row.Statement.{statement}
 use Rattle.replay_record.proofs.is_row.Tie as tie
