@@ -3,7 +3,8 @@ use scratch::clear_words;
 ghost use mathlib.Core.Path.{_≡_};
 ghost use mathlib.Core.Bool.{true};
 ghost use lib.ListN.{length};
-ghost use Rattle.img_model.specs.Shares.{every, part, isTree};
+ghost use Rattle.avl_arena.specs.Test.{every};
+ghost use Rattle.img_model.specs.Shares.{part, isTree};
 ghost use Rattle.img_tree.specs.Marks.{shares, Even, entries, isFree, markedAt, isEntryFree, entryMarked, Marks, isMarkable, Marked, isPartMarkable, isNamed};
 
 // Marks the directory x, which an entry of directory d names: false where it is d, an earlier one or none, or is marked.

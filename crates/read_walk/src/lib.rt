@@ -8,7 +8,7 @@ use units::Region;
 use units::Sector;
 ghost use mathlib.Core.Path.{_≡_};
 ghost use mathlib.Core.List.{[], _∷_};
-ghost use Prim.Native.Nat.{_+_, _≤_, _<_};
+ghost use Prim.Native.Nat.{_<_};
 ghost use lib.ListN.{length};
 ghost use Rattle.read_entry.specs.Entry.{readAt};
 ghost use Rattle.read_entry.specs.Links.{walkAbsent};
