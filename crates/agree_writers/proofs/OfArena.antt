@@ -1,10 +1,9 @@
 -- WHAT SERIALISING AN ARENA LEAVES, where it answers a size, is what is listed and found. Assumes nothing.
-use Prim.Native.Nat.{ℕ, zero, suc, _+_, _≤_, _<_}
-use mathlib.Core.Path.{_≡_, refl, sym, ap, subst, _∙_}
+use Prim.Native.Nat.{ℕ, _+_, _≤_, _<_}
+use mathlib.Core.Path.{_≡_, refl, sym, ap, _∙_}
 use mathlib.Core.Bool.{Bool, true, false, _&&_}
 use mathlib.Core.List.{List, [], _∷_, _++_}
 use native.Mathlib.Omega.{arith}
-use native.Mathlib.Decide.{ℕ-discrete}
 use lib.Dec.{leb}
 use lib.ListN.{length, getD, drop}
 use Rattle.units.specs.Told.{Told, gives, refuses, pick}
@@ -20,7 +19,7 @@ use Rattle.avl_model.proofs.Avl.{all-map}
 use Rattle.avl_model.proofs.Counted.{all-below, rep-below}
 use Rattle.avl_arena.specs.Test.{every, holdsTree, decoded}
 use Rattle.avl_arena.specs.HeldTree.{HeldTree}
-use Rattle.avl_arena.proofs.Tested.{and-l, and-r}
+use Rattle.avl_arena.proofs.Tested.{and-l, and-r, every-at}
 use Rattle.avl_arena.proofs.Sound.{sound}
 use Rattle.avl_model.specs.Held.{arrOf}
 use Rattle.table_model.specs.Entry.{Entry, Item}
@@ -42,14 +41,6 @@ use Rattle.agree.proofs.FromList.{times-order}
 use Rattle.agree_strict.proofs.Passes.{written-passes}
 use Rattle.agree_writers.specs.Wrote.{WroteArena}
 use Rattle.agree_writers.proofs.Checks.{name-short, size-small, first-stand, fits-gives}
-
--- a test of each number below n, of one of them
-every-at : (f : ℕ → Bool) (n j : ℕ) → every f n ≡ true → j < n → f j ≡ true
-every-at f zero j e h = absurd (omega arith)
-every-at f (suc n) j e h = elim (ℕ-discrete n j) [
-  | yes q ↦ subst (λ (m : ℕ). f m ≡ true) q (and-r (every f n) _ e)
-  | no q ↦ every-at f n j (and-l (every f n) _ e) (omega arith)
-]
 
 given-is : (a : Told (Unit {0})) → isGiven a ≡ true → a ≡ gives tt
 given-is (gives u) e = refl
@@ -77,7 +68,7 @@ module _ (A : Arena) (held : isArena A ≡ true) where
 
   checked : (i : ℕ) → i < A .count → checkOf (A .bytes) (givenAt A i) ≡ gives tt
   unfolding isTaken
-  checked i h = given-is (checkOf (A .bytes) (givenAt A i)) (every-at (isTaken A) (A .count) i (tests .1) h)
+  checked i h = given-is (checkOf (A .bytes) (givenAt A i)) (every-at (isTaken A) (A .count) (tests .1) i h)
 
   ordered : Ordered (Before (entryAt A)) (treeOf A)
   unfolding toName

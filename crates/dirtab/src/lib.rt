@@ -7,6 +7,7 @@ use dirtab_place::Ends;
 use dirtab_place::count_sectors;
 use dirtab_place::place_entries;
 use dirtab_write::write_table;
+use scratch::clear_shorts;
 use units::Sector;
 ghost use mathlib.Core.Path.{_≡_};
 ghost use mathlib.Core.Bool.{_&&_};
@@ -141,23 +142,12 @@ pub fn write_held(
     )
 }
 
-// Zero everywhere.
-pub fn clear(s: &mut [u16])
-    ensures { λ _. ⌜ now (s .exit) ≡ replicate (length (now (s .entry))) 0 ⌝ }
-{
-    let mut i = 0;
-    while i < s.len() {
-        s[i] = 0;
-        i += 1;
-    }
-}
-
 // Zero everywhere, of both columns of scratch.
 fn clear_both(order: &mut [u16], place: &mut [u16])
     ensures { λ _. ⌜ (now (order .exit) ≡ replicate (length (now (order .entry))) 0) × (now (place .exit) ≡ replicate (length (now (place .entry))) 0) ⌝ }
 {
-    clear(order);
-    clear(place);
+    clear_shorts(order);
+    clear_shorts(place);
 }
 
 // Both columns of scratch have a place for each held node.

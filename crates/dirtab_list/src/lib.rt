@@ -1,11 +1,13 @@
 // A whole list of entries is written as a table in one call. The columns of the tree are scratch.
 use dirtab::Serialised;
-use dirtab::clear;
 use dirtab::write_held;
 use dirtab_arena::Held;
 use dirtab_grow::Built;
 use dirtab_grow::Cause;
 use dirtab_grow::build;
+use scratch::clear_bytes;
+use scratch::clear_shorts;
+use scratch::clear_words;
 use units::Sector;
 ghost use mathlib.Core.Path.{_≡_};
 ghost use mathlib.Core.Bool.{_&&_};
@@ -42,35 +44,13 @@ pub enum ListWritten {
     BufferTooSmall,
 }
 
-// Zero everywhere.
-pub fn clear_bytes(s: &mut [u8])
-    ensures { λ _. ⌜ now (s .exit) ≡ replicate (length (now (s .entry))) 0 ⌝ }
-{
-    let mut i = 0;
-    while i < s.len() {
-        s[i] = 0;
-        i += 1;
-    }
-}
-
-// Zero everywhere.
-pub fn clear_words(s: &mut [u32])
-    ensures { λ _. ⌜ now (s .exit) ≡ replicate (length (now (s .entry))) 0 ⌝ }
-{
-    let mut i = 0;
-    while i < s.len() {
-        s[i] = 0;
-        i += 1;
-    }
-}
-
 // Three columns, zero everywhere.
 fn clear_three(a: &mut [u16], b: &mut [u16], d: &mut [u16])
     ensures { λ _. ⌜ (now (a .exit) ≡ replicate (length (now (a .entry))) 0) × ((now (b .exit) ≡ replicate (length (now (b .entry))) 0) × (now (d .exit) ≡ replicate (length (now (d .entry))) 0)) ⌝ }
 {
-    clear(a);
-    clear(b);
-    clear(d);
+    clear_shorts(a);
+    clear_shorts(b);
+    clear_shorts(d);
 }
 
 // Four columns, zero everywhere.
@@ -79,8 +59,8 @@ fn clear_four(height: &mut [u8], key: &mut [u32], order: &mut [u16], place: &mut
 {
     clear_bytes(height);
     clear_words(key);
-    clear(order);
-    clear(place);
+    clear_shorts(order);
+    clear_shorts(place);
 }
 
 // The lesser of two lengths.

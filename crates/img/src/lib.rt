@@ -1,8 +1,5 @@
 // An image is planned over its directories: the size and the sector of each table, and the sector of each entry.
-use dirtab::clear;
 use dirtab_grow::Cause;
-use dirtab_list::clear_bytes;
-use dirtab_list::clear_words;
 use img_model::Planned;
 use img_size::size_tables;
 use img_table::Arranged;
@@ -10,6 +7,9 @@ use img_take::Fitting;
 use img_take::check_tables;
 use img_take::take_tables;
 use img_tree::is_tree;
+use scratch::clear_bytes;
+use scratch::clear_shorts;
+use scratch::clear_words;
 ghost use mathlib.Core.Path.{_≡_};
 ghost use mathlib.Core.Bool.{true, _&&_};
 ghost use mathlib.Core.List.{[], _∷_};
@@ -305,9 +305,9 @@ fn plan_cut(
 fn clear_links(left: &mut [u16], right: &mut [u16], parent: &mut [u16], height: &mut [u8])
     ensures { λ _. ⌜ ((now (left .exit) ≡ replicate (length (now (left .entry))) 0) × (now (right .exit) ≡ replicate (length (now (right .entry))) 0)) × ((now (parent .exit) ≡ replicate (length (now (parent .entry))) 0) × (now (height .exit) ≡ replicate (length (now (height .entry))) 0)) ⌝ }
 {
-    clear(left);
-    clear(right);
-    clear(parent);
+    clear_shorts(left);
+    clear_shorts(right);
+    clear_shorts(parent);
     clear_bytes(height);
 }
 
@@ -318,7 +318,7 @@ fn clear_rest(sized: &mut [u32], key: &mut [u32], size: &mut [u32], order: &mut 
     clear_words(sized);
     clear_words(key);
     clear_words(size);
-    clear(order);
+    clear_shorts(order);
 }
 
 // The length of the shortest column that has a place for each directory.

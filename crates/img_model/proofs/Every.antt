@@ -1,46 +1,17 @@
--- A test of each number below a bound, and how many of them pass it. Assumes nothing.
+-- A test of each number below a bound (more of it in avl_arena/proofs/Tested.antt), and how many of them pass it. Assumes nothing.
 use Prim.Native.Nat.{ℕ, zero, suc, _+_, _≤_, _<_}
 use native.Mathlib.Omega.{arith}
 use native.Mathlib.Decide.{ℕ-discrete}
 use mathlib.Core.Path.{_≡_, refl, sym, ap, ap₂, subst, _∙_}
-use mathlib.Core.Bool.{Bool, true, false, _&&_, and-false}
+use mathlib.Core.Bool.{Bool, true, false, _&&_}
 use Rattle.units.specs.Told.{pick}
-use Rattle.avl_arena.proofs.Tested.{and-l, and-r, and-both}
-use Rattle.img_model.specs.Shares.{every, tally}
-
--- ---- each number below m
-
--- one number fails
-pub every-fails : (f : ℕ → Bool) (i m : ℕ) → f i ≡ false → i < m → every f m ≡ false
-every-fails f i zero e h = absurd (omega arith)
-every-fails f i (suc m) e h = elim (ℕ-discrete i m) [
-  | yes q ↦ ap (λ (b : Bool). every f m && b) (ap f (sym q) ∙ e) ∙ and-false (every f m)
-  | no ne ↦ ap (λ (b : Bool). b && f m) (every-fails f i m e (omega arith))
-]
-
--- all pass, so one does
-pub every-at : (f : ℕ → Bool) (m : ℕ) → every f m ≡ true → (j : ℕ) → j < m → f j ≡ true
-every-at f zero e j h = absurd (omega arith)
-every-at f (suc m) e j h = elim (ℕ-discrete j m) [
-  | yes q ↦ ap f q ∙ and-r (every f m) _ e
-  | no ne ↦ every-at f m (and-l _ _ e) j (omega arith)
-]
-
--- each passes, so all do
-pub every-from : (f : ℕ → Bool) (m : ℕ) → ((j : ℕ) → j < m → f j ≡ true) → every f m ≡ true
-every-from f zero h = refl
-every-from f (suc m) h = and-both (every-from f m (λ j k. h j (omega arith))) (h m (omega arith))
-
--- one more passes
-pub every-more : (f : ℕ → Bool) (i : ℕ) → every f i ≡ true → f i ≡ true → every f (i + 1) ≡ true
-every-more f i e g = subst (λ (v : ℕ). every f v ≡ true) {x = suc i} {y = i + 1} (omega arith) (and-both e g)
+use Rattle.avl_arena.specs.Test.{every}
+use Rattle.img_model.specs.Shares.{tally}
 
 -- two tests that agree on each
 pub every-same : (f g : ℕ → Bool) (m : ℕ) → ((j : ℕ) → j < m → f j ≡ g j) → every f m ≡ every g m
 every-same f g zero h = refl
 every-same f g (suc m) h = ap₂ _&&_ (every-same f g m (λ j k. h j (omega arith))) (h m (omega arith))
-
--- ---- how many below m
 
 -- none passes
 pub tally-none : (f : ℕ → Bool) (m : ℕ) → ((j : ℕ) → j < m → f j ≡ false) → tally f m ≡ 0

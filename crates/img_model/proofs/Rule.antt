@@ -7,9 +7,10 @@ use mathlib.Core.Bool.{Bool, true, false, _&&_}
 use lib.Dec.{ltb, leb, eqb}
 use borrow.Author.Tests.{ltb-true, leb-true, eqb-true, ne-eqb}
 use Rattle.units.specs.Told.{pick}
-use Rattle.avl_arena.proofs.Tested.{and-l, and-r}
-use Rattle.img_model.specs.Shares.{Request, directoriesOf, entriesOf, firstOf, countOf, shareOf, isDirectory, valueOf, every, names, namings, namesLater, isShare, namedOnce, isTree}
-use Rattle.img_model.proofs.Every.{every-at, tally-none}
+use Rattle.avl_arena.specs.Test.{every}
+use Rattle.avl_arena.proofs.Tested.{and-l, and-r, every-at}
+use Rattle.img_model.specs.Shares.{Request, directoriesOf, entriesOf, firstOf, countOf, shareOf, isDirectory, valueOf, names, namings, namesLater, isShare, namedOnce, isTree}
+use Rattle.img_model.proofs.Every.{tally-none}
 
 -- more directories name a directory no less often
 pub namings-grow : (R : Request) (x d n : ℕ) → d ≤ n → namings R x d ≤ namings R x n

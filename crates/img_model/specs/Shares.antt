@@ -5,6 +5,7 @@ use mathlib.Core.List.{List}
 use lib.Dec.{ltb, leb, eqb}
 use lib.ListN.{length, getD, take, drop}
 use Rattle.units.specs.Told.{pick}
+use Rattle.avl_arena.specs.Test.{every}
 
 -- what is to be planned: for each directory the place of its first entry in the list of entries and how many it has, the root first; for each entry its
 -- name's place and length in the bytes lent for names, its kind (1 is a directory), and its value: a file's length, or a directory's place in the list of
@@ -70,11 +71,6 @@ isDirectory S i = eqb (getD (S .kind) i 0) 1
 
 abbrev pub valueOf : Share → ℕ → ℕ
 valueOf S i = getD (S .value) i 0
-
--- a test of each number below n
-abbrev pub every : (ℕ → Bool) → ℕ → Bool
-every f zero = true
-every f (suc n) = every f n && f n
 
 -- how many of the numbers below n pass a test
 abbrev pub tally : (ℕ → Bool) → ℕ → ℕ

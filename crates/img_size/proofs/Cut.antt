@@ -10,7 +10,7 @@ use Rattle.img_table.specs.declared.TableSized.{TableSized}
 use Rattle.img_table.specs.Arranging.{shareBy, Fillable, Arrangeable, Sizing}
 use Rattle.img_size.specs.Sizing.{Sizeable, Roomy}
 
-length-part : (f n : ℕ) (xs : List ℕ) → f + n ≤ length xs → length (part f n xs) ≡ n
+pub length-part : (f n : ℕ) (xs : List ℕ) → f + n ≤ length xs → length (part f n xs) ≡ n
 length-part f n xs h = length-take-le n (drop f xs) (let e : length (drop f xs) ≡ length xs - f = length-drop f xs in omega arith)
 
 back-to : (f n : ℕ) → f + n - f ≡ n

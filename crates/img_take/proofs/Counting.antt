@@ -12,7 +12,8 @@ use Rattle.img_model.specs.Shares.{Share}
 use Rattle.img_model.specs.Plan.{tableIn, sizeAt}
 use Rattle.img_table.specs.Arranging.{shareBy, fitting}
 use Rattle.img_take.specs.Forward.{Treed, entriesOf, limited}
-use Rattle.img_take.proofs.Trees.{listed-at, all-filled, sized-at, same-all}
+use Rattle.img_table.proofs.Measuring.{listed-at}
+use Rattle.img_take.proofs.Trees.{all-filled, sized-at, same-all}
 
 -- r is how many sizes were filled into the column `size`
 module _ {listed kind value sizes : List ℕ} {places : ℕ} (w : Treed listed kind value sizes places) (size : List ℕ) (r : ℕ)

@@ -3,11 +3,11 @@ use Prim.Native.Nat.{ℕ, suc, _+_, _-_, _≤_, _<_}
 use native.Mathlib.Omega.{arith}
 use mathlib.Core.Path.{_≡_, sym, ap, ap₂, _∙_}
 use mathlib.Core.List.{List}
-use lib.ListN.{length, getD, take, drop, length-drop}
-use lib.Seq.{length-take-le}
+use lib.ListN.{length, getD, take, drop}
 use Rattle.img_model.specs.Shares.{Request, Share, shareOf, firstOf, countOf, part}
 use Rattle.img_model.specs.Plan.{total}
 use Rattle.img_table.specs.Arranging.{shareBy}
+use Rattle.img_size.proofs.Cut.{length-part}
 use Rattle.img_size.proofs.Orders.{total-step, total-all}
 use Rattle.img_take.specs.Forward.{Sized, requestOf, Turn}
 
@@ -24,9 +24,6 @@ re-place w e = record {
   long = w .long;
   wide = λ d h. omega (arith, w .wide d h, e);
 }
-
-length-part : (f n : ℕ) (xs : List ℕ) → f + n ≤ length xs → length (part f n xs) ≡ n
-length-part f n xs h = length-take-le n (drop f xs) (let e : length (drop f xs) ≡ length xs - f = length-drop f xs in omega arith)
 
 module _ {first share kind value sizes orders : List ℕ} {places d to f n : ℕ} (T : Turn first share kind value sizes orders places d to)
     (f-is : f ≡ getD first d 0) (n-is : n ≡ getD share d 0) where

@@ -10,11 +10,9 @@ use Rattle.units.specs.Told.{gives, pick}
 use Rattle.dirtab_entry.specs.Entry as entries
 use Rattle.avl_model.specs.Tree.{Tree}
 use Rattle.avl_model.specs.Laws.{All}
-use Rattle.avl_model.specs.Order.{order}
 use Rattle.avl_model.proofs.Avl.{all-map}
 use Rattle.dirtab_place.specs.Places.{Sized}
 use Rattle.dirtab_place.proofs.Along.{SameSize}
-use Rattle.dirtab_write.proofs.Bridge.{in-order}
 use Rattle.img_model.specs.Shares.{Share}
 use Rattle.img_model.specs.Plan.{sizeAt, entryIn, treeIn}
 use Rattle.img_model.proofs.Passed.{passed, fine, numbers}
@@ -29,11 +27,6 @@ fit-all f (suc k) i h =
     ∙ fit-all f k (i + 1) (λ j p q. h j (omega arith) (omega arith)) ∙ omega arith
 
 module _ (S : Share) (tab : ℕ → ℕ) {t : Tree} (told : treeIn S tab ≡ gives t) where
-  -- what holds of each of the entries holds of each that is listed
-  pub listed-at : (listed : List ℕ) (P : ℕ → Type 0) → listed ≡ order t → ((j : ℕ) → j < S .count → P j) → (k : ℕ) → k < length listed → P (getD listed k 0)
-  listed-at listed P e f k h =
-      subst (λ (xs : List ℕ). P (getD xs k 0)) (sym e) (in-order P t (all-map (λ j. j < S .count) P t f (numbers S tab told)) k (subst (λ (xs : List ℕ). k < length xs) e h))
-
   -- every size is filled in
   pub all-filled : fitting (sizeAt S tab) (S .count) 0 ≡ S .count
   all-filled = fit-all (sizeAt S tab) (S .count) 0 (λ j p q. passed S tab told j (omega arith) .0) ∙ omega arith

@@ -23,7 +23,8 @@ use Rattle.img_take.specs.declared.Fitting.the-variants as fitting
 use Rattle.img_table.specs.Arranging.{shareBy, Fillable}
 use Rattle.img_table.specs.Arranging as arranging
 use Rattle.img_take.specs.Forward.{Sized, requestOf, Turn, Treed, entriesOf, limited, taking, freeTold, toldFitting, takeAlong, Enters, EntersAll}
-use Rattle.img_take.proofs.Trees.{listed-at, all-filled, sized-at, same-at}
+use Rattle.img_table.proofs.Measuring.{listed-at}
+use Rattle.img_take.proofs.Trees.{all-filled, sized-at, same-at}
 use Rattle.img_size.proofs.Orders.{total-step}
 use Rattle.img_take.proofs.Cut.{re-place, part-is, order-is, mine, share-is, mine-kind, mine-value}
 use Rattle.img_take.proofs.Steps.{andThen, then-given, at, split, split-free, same-free, none-left, far-step, near-step, given-step}

@@ -6,7 +6,8 @@ use mathlib.Core.List.{List}
 use lib.Dec.{ltb, eqb}
 use lib.ListN.{length}
 use Rattle.units.specs.Told.{pick}
-use Rattle.img_model.specs.Shares.{Request, columns, countOf, shareOf, every, tally, names, namings, isShare, namedOnce, isTree}
+use Rattle.avl_arena.specs.Test.{every}
+use Rattle.img_model.specs.Shares.{Request, columns, countOf, shareOf, tally, names, namings, isShare, namedOnce, isTree}
 use Rattle.img_model.proofs.Every.{every-same}
 use Rattle.img_tree.specs.Marks.{shares}
 

@@ -1,5 +1,4 @@
 -- The steps of checking an image's directories, over plain lists.
-pub mod Zeros
 pub mod OneMark
 pub mod Turn
 pub mod Reach

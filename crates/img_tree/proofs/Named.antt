@@ -8,8 +8,8 @@ use lib.Dec.{eqb}
 use lib.ListN.{length, getD}
 use borrow.Author.Tests.{eq-eqb, ne-eqb}
 use Rattle.units.specs.Told.{pick}
-use Rattle.img_model.specs.Shares.{every}
-use Rattle.img_model.proofs.Every.{every-at, every-fails, every-from, every-more}
+use Rattle.avl_arena.specs.Test.{every}
+use Rattle.avl_arena.proofs.Tested.{every-at, every-fails, every-from, every-more}
 use Rattle.img_tree.specs.Marks.{isNamed}
 
 module _ (named : List ℕ) where

@@ -10,9 +10,10 @@ use lib.ListN.{length, getD, set, length-set}
 use lib.Seq.{getD-set-same, getD-set-other}
 use borrow.Author.Tests.{lt-ltb, le-leb, lt-leb, eq-eqb, ne-eqb, ltb-true, eqb-true, not-true, not-false}
 use Rattle.units.specs.Told.{pick}
-use Rattle.avl_arena.proofs.Tested.{and-l, and-r, and-both}
-use Rattle.img_model.specs.Shares.{Share, isDirectory, valueOf, every, tally, names, namesLater}
-use Rattle.img_model.proofs.Every.{every-fails, every-from, every-more, tally-hit, tally-miss, tally-grows}
+use Rattle.avl_arena.specs.Test.{every}
+use Rattle.avl_arena.proofs.Tested.{and-l, and-r, and-both, every-fails, every-from, every-more}
+use Rattle.img_model.specs.Shares.{Share, isDirectory, valueOf, tally, names, namesLater}
+use Rattle.img_model.proofs.Every.{tally-hit, tally-miss, tally-grows}
 use Rattle.img_tree.specs.Marks.{isFree, markedAt, isEntryFree, entryMarked, Marks, times, isMarkable, Marked}
 
 -- the loop's invariant: the first i entries of directory d are marked

@@ -8,9 +8,10 @@ use lib.Dec.{leb, eqb}
 use lib.ListN.{length, getD, replicate, length-replicate, getD-replicate}
 use borrow.Author.Tests.{lt-ltb, le-ltb, le-leb, leb-true, not-true, not-false}
 use Rattle.units.specs.Told.{pick}
-use Rattle.avl_arena.proofs.Tested.{and-l, and-r, and-both}
-use Rattle.img_model.specs.Shares.{Request, Share, directoriesOf, entriesOf, firstOf, countOf, shareOf, part, every, tally, names, namings, namesLater, isShare, namedOnce, isTree}
-use Rattle.img_model.proofs.Every.{every-at, every-from, every-same}
+use Rattle.avl_arena.specs.Test.{every}
+use Rattle.avl_arena.proofs.Tested.{and-l, and-r, and-both, every-at, every-from}
+use Rattle.img_model.specs.Shares.{Request, Share, directoriesOf, entriesOf, firstOf, countOf, shareOf, part, tally, names, namings, namesLater, isShare, namedOnce, isTree}
+use Rattle.img_model.proofs.Every.{every-same}
 use Rattle.img_model.proofs.Rule.{share-inside, all-later, named-at-most-once}
 use Rattle.img_tree.specs.Marks.{entries, Marks, times, isMarkable, Marked, isPartMarkable, isNamed}
 use Rattle.img_tree.proofs.Turn.{never}

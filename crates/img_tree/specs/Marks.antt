@@ -7,7 +7,8 @@ use mathlib.Core.List.{List, []}
 use lib.Dec.{ltb, leb, eqb}
 use lib.ListN.{length, getD, set}
 use Rattle.units.specs.Told.{pick}
-use Rattle.img_model.specs.Shares.{Request, Share, part, every, tally, names, namesLater}
+use Rattle.avl_arena.specs.Test.{every}
+use Rattle.img_model.specs.Shares.{Request, Share, part, tally, names, namesLater}
 
 -- the columns, as far as a tree's rule speaks of them
 abbrev pub shares : List ℕ → List ℕ → List ℕ → List ℕ → Request

@@ -1,20 +1,11 @@
 // Whether the directories of an image are a tree.
+use scratch::clear_words;
 ghost use mathlib.Core.Path.{_≡_};
 ghost use mathlib.Core.Bool.{true};
-ghost use lib.ListN.{length, replicate};
-ghost use Rattle.img_model.specs.Shares.{every, part, isTree};
+ghost use lib.ListN.{length};
+ghost use Rattle.avl_arena.specs.Test.{every};
+ghost use Rattle.img_model.specs.Shares.{part, isTree};
 ghost use Rattle.img_tree.specs.Marks.{shares, Even, entries, isFree, markedAt, isEntryFree, entryMarked, Marks, isMarkable, Marked, isPartMarkable, isNamed};
-
-// No mark anywhere.
-fn clear_marks(named: &mut [u32])
-    ensures { λ _. ⌜ now (named .exit) ≡ replicate (length (now (named .entry))) 0 ⌝ }
-{
-    let mut x = 0;
-    while x < named.len() {
-        named[x] = 0;
-        x += 1;
-    }
-}
 
 // Marks the directory x, which an entry of directory d names: false where it is d, an earlier one or none, or is marked.
 fn mark(d: usize, x: u64, named: &mut [u32]) -> bool
@@ -94,7 +85,7 @@ pub fn is_tree(first: &[u32], share: &[u32], kind: &[u8], value: &[u64], named: 
     if first.len() == 0 {
         return false;
     }
-    clear_marks(named);
+    clear_words(named);
     let mut d: usize = 0;
     while d < first.len() {
         if !mark_directory(d, first[d], share[d], kind, value, named) {

@@ -2,6 +2,5 @@
 pub mod Stack
 pub mod Steps
 pub mod Turn
-pub mod Zeros
 pub mod Told
 pub mod Cases

@@ -1,13 +1,15 @@
 // A table is walked: preorder, left before right, into a lent list of offsets, with a lent scratch for the stack.
 use read_entry::Read;
+use scratch::clear_from;
+use scratch::clear_words;
 use units::Link;
 use units::Offset;
 use units::Region;
 use units::Sector;
 ghost use mathlib.Core.Path.{_≡_};
-ghost use mathlib.Core.List.{[], _∷_, _++_};
-ghost use Prim.Native.Nat.{_+_, _-_, _≤_, _<_};
-ghost use lib.ListN.{length, take, replicate};
+ghost use mathlib.Core.List.{[], _∷_};
+ghost use Prim.Native.Nat.{_<_};
+ghost use lib.ListN.{length};
 ghost use Rattle.read_entry.specs.Entry.{readAt};
 ghost use Rattle.read_entry.specs.Links.{walkAbsent};
 ghost use Rattle.read_walk.specs.Walk.{walkFrom, told, walkAnswer, listAfter, scratchAfter};
@@ -41,18 +43,6 @@ fn push_link(scratch: &mut [u32], top: usize, l: Link) -> usize
     let o = l.offset();
     scratch[top] = o.number();
     top + 1
-}
-
-// Zero from a place on.
-pub fn clear_from(s: &mut [u32], from: usize)
-    requires { ⌜ from ≤ length (now s) ⌝ }
-    ensures { λ _. ⌜ now (s .exit) ≡ take from (now (s .entry)) ++ replicate (length (now (s .entry)) - from) 0 ⌝ }
-{
-    let mut i = from;
-    while i < s.len() {
-        s[i] = 0;
-        i += 1;
-    }
 }
 
 // The walk itself. What it leaves in the list past its count, and in the scratch, is cleared by the caller.
@@ -109,13 +99,13 @@ pub fn walk(w: &[u8], first: Sector, table: Region, list: &mut [u32], scratch: &
     }
     let size = table.size;
     if size == 0 {
-        clear_from(list, 0);
-        clear_from(scratch, 0);
+        clear_words(list);
+        clear_words(scratch);
         return Walked::Done(0);
     }
     let r = run(w, first, table, list, scratch);
     let n = kept(r);
     clear_from(list, n);
-    clear_from(scratch, 0);
+    clear_words(scratch);
     r
 }

@@ -3,6 +3,9 @@
 use layout_name::Order;
 use layout_node::Header;
 use read_entry::Read;
+use scratch::clear_from;
+use scratch::clear_longs;
+use scratch::clear_words;
 use units::Link;
 use units::Offset;
 use units::Region;
@@ -12,7 +15,7 @@ ghost use mathlib.Core.List.{List, [], _∷_};
 ghost use mathlib.Core.Option.{Option};
 ghost use Prim.Native.Nat.{ℕ, _+_, _-_, _*_, _/_, _%_, _≤_, _<_};
 ghost use lib.Dec.{eqb};
-ghost use lib.ListN.{length, replicate};
+ghost use lib.ListN.{length};
 ghost use Rattle.units.specs.Told.{Told};
 ghost use Rattle.layout_name.specs.Order.{nameOrder};
 ghost use Rattle.read_entry.specs.Entry.{Placed, readAt};
@@ -236,17 +239,6 @@ fn kept(r: Checked) -> usize
     }
 }
 
-// All zeros.
-fn clear_all(s: &mut [u64])
-    ensures { λ _. ⌜ now (s .exit) ≡ replicate (length (now (s .entry))) 0 ⌝ }
-{
-    let mut i = 0;
-    while i < s.len() {
-        s[i] = 0;
-        i += 1;
-    }
-}
-
 // The strict check of a table: where it finds no fault, the offsets of its entries in walk order in the list, and zeros past them; else the first fault, and a
 // list of zeros. The scratch is all zero after it. Where the scratch is not longer than the list, all is unchanged.
 pub fn check_table(
@@ -265,13 +257,13 @@ pub fn check_table(
     }
     let size = table.size;
     if size == 0 {
-        read_walk::clear_from(list, 0);
-        clear_all(scratch);
+        clear_words(list);
+        clear_longs(scratch);
         return Checked::Done(0);
     }
     let r = run(w, first, table, list, scratch);
     let n = kept(r);
-    read_walk::clear_from(list, n);
-    clear_all(scratch);
+    clear_from(list, n);
+    clear_longs(scratch);
     r
 }

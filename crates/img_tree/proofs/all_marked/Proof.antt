@@ -4,7 +4,7 @@ use native.Mathlib.Omega.{arith}
 use mathlib.Core.Path.{_≡_}
 use mathlib.Core.Bool.{true}
 use lib.ListN.{length}
-use Rattle.img_model.specs.Shares.{every}
+use Rattle.avl_arena.specs.Test.{every}
 use Rattle.img_tree.specs.Marks.{isNamed}
 use Rattle.img_tree.proofs.Named.{root-passes, unnamed, one-named, all-named}
 use borrow.Author.Needs.{needs}

@@ -18,8 +18,8 @@ abbrev μ-loop : tie.MeasureT-loop
 returns : tie.Need-returns Inv-loop μ-loop
 returns c = search no-directory
 
-clear-marks-requires : tie.Need-clear-marks-requires Inv-loop μ-loop
-clear-marks-requires c κs = search needs
+clear-words-requires : tie.Need-clear-words-requires Inv-loop μ-loop
+clear-words-requires c κs = search needs
 
 loop-holds : tie.Need-loop-holds Inv-loop μ-loop
 loop-holds c = (search needs, omega arith, search needs, search needs, search unmarked)
@@ -70,7 +70,7 @@ is-tree-spec =
     Inv-loop
     μ-loop
     returns
-    clear-marks-requires
+    clear-words-requires
     loop-holds
     mul-mark-directory
     shared-slice-read-mark-directory

@@ -21,7 +21,6 @@ use Rattle.read_walk.proofs.walk.Statement.{statement}
 use Rattle.read_walk.proofs.walk.Tie as tie
 use Rattle.read_walk.proofs.walk.Reads as reads
 use Rattle.read_walk.proofs.walk.Lts as lts
-use Rattle.read_walk.proofs.clear_from.Reads as clear-from-reads
 use Rattle.read_walk.proofs.kept.Reads as kept-reads
 use Rattle.read_walk.proofs.run.Reads as run-reads
 
@@ -54,21 +53,21 @@ module _ (w : List ℕ) (first : Sector) (t : Region) (list scratch : List ℕ) 
   no-room h = (rw (le-leb _ _ h), (rw (le-leb _ _ h), rw (le-leb _ _ h)))
 
   module _ (room : length list < length scratch) where
-    empty : t .size ≡ 0 → (l s : List ℕ) → l ≡ take 0 list ++ replicate (length list - 0) 0 → s ≡ take 0 scratch ++ replicate (length scratch - 0) 0 →
+    empty : t .size ≡ 0 → (l s : List ℕ) → l ≡ replicate (length list) 0 → s ≡ replicate (length scratch) 0 →
         Walks w first t list scratch (walked.Done 0) l s
     unfolding walkAnswer listAfter scratchAfter walkOf
     empty z l s a b = (
       rw (lt-leb _ _ room, eq-eqb _ _ z),
-      (a ∙ rw (lt-leb _ _ room, eq-eqb _ _ z), b ∙ rw (lt-leb _ _ room, sub-zero)),
+      (a ∙ rw (lt-leb _ _ room, eq-eqb _ _ z, sub-zero), b ∙ rw (lt-leb _ _ room)),
     )
 
     ran : (t .size ≡ 0 → ⊥) → (r : Walked) (l s : List ℕ) → Runs (walkOn w first t (length list) (0 ∷ [])) r l → (n : ℕ) → n ≡ keptOf r →
         length l ≡ length list → length s ≡ length scratch → (l₂ s₂ : List ℕ) →
-        l₂ ≡ take n l ++ replicate (length l - n) 0 → s₂ ≡ take 0 s ++ replicate (length s - 0) 0 → Walks w first t list scratch r l₂ s₂
+        l₂ ≡ take n l ++ replicate (length l - n) 0 → s₂ ≡ replicate (length s) 0 → Walks w first t list scratch r l₂ s₂
     unfolding walkAnswer listAfter scratchAfter walkOf
     ran z r l s runs n k p q l₂ s₂ a b = (
       rw (lt-leb _ _ room, ne-eqb _ _ z) (runs .is),
-      ((rw k at a) ∙ cleared-list (walkOn w first t (length list) (0 ∷ [])) r l runs ∙ rw (p, lt-leb _ _ room, ne-eqb _ _ z), b ∙ rw (lt-leb _ _ room, sub-zero, q)),
+      ((rw k at a) ∙ cleared-list (walkOn w first t (length list) (0 ∷ [])) r l runs ∙ rw (p, lt-leb _ _ room, ne-eqb _ _ z), b ∙ rw (lt-leb _ _ room, q)),
     )
 
 within : (x : Told (List ℕ)) (r : Walked) (l : List ℕ) → Runs x r l → (n : ℕ) → n ≡ keptOf r → n ≤ length l
@@ -77,11 +76,11 @@ within x r l s n e = rw e (s .within)
 returns : tie.Need-returns
 returns c = no-room _ _ _ _ _ (search needs)
 
-clear-from-requires : tie.Need-clear-from-requires
-clear-from-requires c κs = search needs
+clear-words-requires : tie.Need-clear-words-requires
+clear-words-requires c κs = search needs
 
-clear-from-requires-2 : tie.Need-clear-from-requires-2
-clear-from-requires-2 c κs = search needs
+clear-words-requires-2 : tie.Need-clear-words-requires-2
+clear-words-requires-2 c κs = search needs
 
 same-length : tie.Need-same-length
 same-length c = search needs
@@ -90,7 +89,7 @@ same-length-2 : tie.Need-same-length-2
 same-length-2 c = search needs
 
 returns-2 : tie.Need-returns-2
-returns-2 c = empty _ _ _ _ _ (search needs) (search needs) _ _ (c .before .before .before .before .before .before .clear-from .ensures) (c .before .before .clear-from2 .ensures)
+returns-2 c = empty _ _ _ _ _ (search needs) (search needs) _ _ (c .before .before .before .before .before .before .clear-words .ensures) (c .before .before .clear-words2 .ensures)
 
 run-requires : tie.Need-run-requires
 run-requires c κs = search needs
@@ -98,11 +97,11 @@ run-requires c κs = search needs
 kept-requires : tie.Need-kept-requires
 kept-requires c κs = search needs
 
-clear-from-requires-3 : tie.Need-clear-from-requires-3
-clear-from-requires-3 c κs = search within
+clear-from-requires : tie.Need-clear-from-requires
+clear-from-requires c κs = search within
 
-clear-from-requires-4 : tie.Need-clear-from-requires-4
-clear-from-requires-4 c κs = search needs
+clear-words-requires-3 : tie.Need-clear-words-requires-3
+clear-words-requires-3 c κs = search needs
 
 same-length-3 : tie.Need-same-length-3
 same-length-3 c = search needs
@@ -116,22 +115,22 @@ returns-3 c = let c4 = c .before .before in
     let ck = c3 .before .before in
     let cr = ck .before .before .before .before .before in
     ran _ _ _ _ _ (search needs) (search needs) _ (cr .run .last .1 .1 .1 .0) (cr .run .last .1 .1 .1 .1 .0) (cr .run .ensures) _ (ck .kept .ensures)
-    (cr .run .kept .1 .1 .1 .0) (cr .run .kept .1 .1 .1 .1 .0) _ _ (c3 .clear-from3 .ensures) (c4 .clear-from4 .ensures)
+    (cr .run .kept .1 .1 .1 .0) (cr .run .kept .1 .1 .1 .1 .0) _ _ (c3 .clear-from .ensures) (c4 .clear-words3 .ensures)
 
 pub walk-spec : {M : Type 1} → statement M
 walk-spec =
     tie.close
     (tie.spec
     returns
-    clear-from-requires
-    clear-from-requires-2
+    clear-words-requires
+    clear-words-requires-2
     same-length
     same-length-2
     returns-2
     run-requires
     kept-requires
-    clear-from-requires-3
-    clear-from-requires-4
+    clear-from-requires
+    clear-words-requires-3
     same-length-3
     same-length-4
     returns-3)

@@ -19,8 +19,6 @@ use Rattle.strict.proofs.check_table.Statement.{statement}
 use Rattle.strict.proofs.check_table.Tie as tie
 use Rattle.strict.proofs.check_table.Reads as reads
 use Rattle.strict.proofs.check_table.Lts as lts
-use Rattle.read_walk.proofs.clear_from.Reads as clear-from-reads
-use Rattle.strict.proofs.clear_all.Reads as clear-all-reads
 use Rattle.strict.proofs.kept.Reads as kept-reads
 use Rattle.strict.proofs.run.Reads as run-reads
 
@@ -40,12 +38,12 @@ module _ (w : List ℕ) (first : Sector) (t : Region) (list scratch : List ℕ) 
   no-room h = (rw (le-leb _ _ h), (rw (le-leb _ _ h), rw (le-leb _ _ h)))
 
   module _ (room : length list < length scratch) where
-    empty : t .size ≡ 0 → (l s : List ℕ) → l ≡ take 0 list ++ replicate (length list - 0) 0 → s ≡ replicate (length scratch) 0 →
+    empty : t .size ≡ 0 → (l s : List ℕ) → l ≡ replicate (length list) 0 → s ≡ replicate (length scratch) 0 →
         Checks w first t list scratch (checked.Done 0) l s
     unfolding strictAnswer listAfter scratchAfter strictOf
     empty z l s a b = (
       rw (lt-leb _ _ room, eq-eqb _ _ z),
-      (a ∙ rw (lt-leb _ _ room, eq-eqb _ _ z), b ∙ rw (lt-leb _ _ room)),
+      (a ∙ rw (lt-leb _ _ room, eq-eqb _ _ z, sub-zero), b ∙ rw (lt-leb _ _ room)),
     )
 
     ran : (t .size ≡ 0 → ⊥) → (r : Checked) (l s : List ℕ) → Runs (checkOn w first t (length list) [] (root ∷ [])) r l → (n : ℕ) → n ≡ keptOf r →
@@ -63,11 +61,11 @@ within x r l s n e = rw e (s .within)
 returns : tie.Need-returns
 returns c = no-room _ _ _ _ _ (search needs)
 
-clear-from-requires : tie.Need-clear-from-requires
-clear-from-requires c κs = search needs
+clear-words-requires : tie.Need-clear-words-requires
+clear-words-requires c κs = search needs
 
-clear-all-requires : tie.Need-clear-all-requires
-clear-all-requires c κs = search needs
+clear-longs-requires : tie.Need-clear-longs-requires
+clear-longs-requires c κs = search needs
 
 same-length : tie.Need-same-length
 same-length c = search needs
@@ -76,7 +74,7 @@ same-length-2 : tie.Need-same-length-2
 same-length-2 c = search needs
 
 returns-2 : tie.Need-returns-2
-returns-2 c = empty _ _ _ _ _ (search needs) (search needs) _ _ (c .before .before .before .before .before .before .clear-from .ensures) (c .before .before .clear-all .ensures)
+returns-2 c = empty _ _ _ _ _ (search needs) (search needs) _ _ (c .before .before .before .before .before .before .clear-words .ensures) (c .before .before .clear-longs .ensures)
 
 run-requires : tie.Need-run-requires
 run-requires c κs = search needs
@@ -84,11 +82,11 @@ run-requires c κs = search needs
 kept-requires : tie.Need-kept-requires
 kept-requires c κs = search needs
 
-clear-from-requires-2 : tie.Need-clear-from-requires-2
-clear-from-requires-2 c κs = search within
+clear-from-requires : tie.Need-clear-from-requires
+clear-from-requires c κs = search within
 
-clear-all-requires-2 : tie.Need-clear-all-requires-2
-clear-all-requires-2 c κs = search needs
+clear-longs-requires-2 : tie.Need-clear-longs-requires-2
+clear-longs-requires-2 c κs = search needs
 
 same-length-3 : tie.Need-same-length-3
 same-length-3 c = search needs
@@ -102,22 +100,22 @@ returns-3 c = let c4 = c .before .before in
     let ck = c3 .before .before in
     let cr = ck .before .before .before .before .before in
     ran _ _ _ _ _ (search needs) (search needs) _ (cr .run .last .1 .1 .1 .0) (cr .run .last .1 .1 .1 .1 .0) (cr .run .ensures) _ (ck .kept .ensures)
-    (cr .run .kept .1 .1 .1 .0) (cr .run .kept .1 .1 .1 .1 .0) _ _ (c3 .clear-from2 .ensures) (c4 .clear-all2 .ensures)
+    (cr .run .kept .1 .1 .1 .0) (cr .run .kept .1 .1 .1 .1 .0) _ _ (c3 .clear-from .ensures) (c4 .clear-longs2 .ensures)
 
 pub check-table-spec : {M : Type 1} → statement M
 check-table-spec =
     tie.close
     (tie.spec
     returns
-    clear-from-requires
-    clear-all-requires
+    clear-words-requires
+    clear-longs-requires
     same-length
     same-length-2
     returns-2
     run-requires
     kept-requires
-    clear-from-requires-2
-    clear-all-requires-2
+    clear-from-requires
+    clear-longs-requires-2
     same-length-3
     same-length-4
     returns-3)

@@ -1,0 +1,2 @@
+-- A list on its way to zeros.
+pub mod Zeros

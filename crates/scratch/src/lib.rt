@@ -1,0 +1,57 @@
+// Lent columns are cleared, whole or from a place on.
+ghost use mathlib.Core.Path.{_≡_};
+ghost use mathlib.Core.List.{_++_};
+ghost use Prim.Native.Nat.{_-_, _≤_};
+ghost use lib.ListN.{length, take, replicate};
+
+// Zero everywhere, in a column of bytes.
+pub fn clear_bytes(bytes: &mut [u8])
+    ensures { λ _. ⌜ now (bytes .exit) ≡ replicate (length (now (bytes .entry))) 0 ⌝ }
+{
+    let mut i = 0;
+    while i < bytes.len() {
+        bytes[i] = 0;
+        i += 1;
+    }
+}
+
+// Zero everywhere, in a column of two bytes a place.
+pub fn clear_shorts(shorts: &mut [u16])
+    ensures { λ _. ⌜ now (shorts .exit) ≡ replicate (length (now (shorts .entry))) 0 ⌝ }
+{
+    let mut i = 0;
+    while i < shorts.len() {
+        shorts[i] = 0;
+        i += 1;
+    }
+}
+
+// Zero everywhere, in a column of eight bytes a place.
+pub fn clear_longs(longs: &mut [u64])
+    ensures { λ _. ⌜ now (longs .exit) ≡ replicate (length (now (longs .entry))) 0 ⌝ }
+{
+    let mut i = 0;
+    while i < longs.len() {
+        longs[i] = 0;
+        i += 1;
+    }
+}
+
+// Zero from a place on, in a column of four bytes a place.
+pub fn clear_from(words: &mut [u32], from: usize)
+    requires { ⌜ from ≤ length (now words) ⌝ }
+    ensures { λ _. ⌜ now (words .exit) ≡ take from (now (words .entry)) ++ replicate (length (now (words .entry)) - from) 0 ⌝ }
+{
+    let mut i = from;
+    while i < words.len() {
+        words[i] = 0;
+        i += 1;
+    }
+}
+
+// Zero everywhere, in a column of four bytes a place.
+pub fn clear_words(words: &mut [u32])
+    ensures { λ _. ⌜ now (words .exit) ≡ replicate (length (now (words .entry))) 0 ⌝ }
+{
+    clear_from(words, 0);
+}
