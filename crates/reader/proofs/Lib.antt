@@ -4,9 +4,11 @@
 -- What the proofs of its functions, which are walks of their MIR by hand, have in common.
 --     Thin         of any function that lends nothing and asks nothing: its contract, its call, and from a walk to its theorem
 --     Contracts    the contracts of the reader's functions in that form, and how a reader is taken apart
+--     Answers      what a reader is asked at its position, and the contracts that so ask
 --     Asked        the one walk of `left`, `right`, `enter`, `entry` and `name`
 pub mod Moves
 pub mod Walk
 pub mod Thin
 pub mod Contracts
+pub mod Answers
 pub mod Asked

@@ -12,7 +12,7 @@ use ghost.Atoms.{Atoms, sem}
 use contract.Lifetimes.{Lfts, Shares}
 use contract.Running.{givenOf, tables}
 use types.Kit.{Given, ‵, raw, _⊛_, _$_, _∵_, !, qed, by, move, use1, use3, split}
-use types.Run.{look, init, forget, stop, from, load, and-then, no-more, land, returns, enter, alloc1, alloc0, params1, pass1, pass0, free1, free0}
+use types.Run.{look, init, stop, from, and-then, no-more, land, returns, enter, params1, pass1, pass0}
 use sound.WpLaws.{FmC}
 use denote.RattleType.{Denots, Valss, owns}
 use denote.Laws.{Is}
@@ -37,7 +37,7 @@ use Rattle.reader.proofs.Reader.new.Symbol as new-def
 use Rattle.reader.proofs.Reader.new.Met as new-thm
 use Rattle.reader.proofs.Reader.look_up.Symbol as asked-def
 use Rattle.reader.proofs.Reader.look_up.Met as asked-thm
-use Rattle.reader.proofs.Thin.{Knowns, triple, entry, asks-at, Post, ends, met}
+use Rattle.reader.proofs.Thin.{Knowns, triple, entry, allocs-all, asks-at, copied, frees-all, Post, ends, met}
 use Rattle.reader.proofs.Contracts.{known-bytes, known-sector, known-region, new, look-up, find}
 use Rattle.reader_cases.proofs.Opens.{typed-held, window, to-new, new-vals, opens-beside, sought, Named, beside-name, looks-up}
 use Rattle.reader_cases.proofs.find.Key.{name as #find}
@@ -76,23 +76,22 @@ module _ {M : Type 1} (𝓤 : URA M) (H : Heap 𝓤) (A : Atoms 𝓤) (W : Given
         → ent 𝓤 (entry 𝓤 H A find κs qs args at) (WpFn 𝓤 H C Λ code.function (v ∷ S′.lowered first ∷ R′.lowered table ∷ x ∷ []) (Post 𝓤 H A find κs qs args at))
     walk p known-first known-table p′ =
         qed W (raw (entry 𝓤 H A find κs qs args at) ∷ []) ∵ enter ! C Λ code.function (v ∷ S′.lowered first ∷ R′.lowered table ∷ x ∷ []) _ $
-        alloc1 ! (λ l₀. alloc1 ! (λ l₁. alloc1 ! (λ l₂. alloc1 ! (λ l₃. alloc1 ! (λ l₄. alloc1 ! (λ l₅. alloc0 ! $ params1 ! $
+        allocs-all ! _ (λ l. params1 ! $
         pass1 ! (init ! 8 refl (shr-slice-lawful 𝓤 H A W (named 0) (κs .0) u8 .typed s (v ∷ []) p .0)) $ pass1 ! (init ! 6 refl (LL.lawful S.the-type S′.the-laws 𝓤 H A W .typed first _ known-first .0)) $
         pass1 ! (init ! 4 refl (LL.lawful R.the-type R′.the-laws 𝓤 H A W .typed table _ known-table .0)) $ pass1 ! (init ! 2 refl (shr-slice-lawful 𝓤 H A W (named 1) (κs .1 .0) u8 .typed name (x ∷ []) p′ .0)) $ pass0 ! $
         -- local i stands at 2 · (5 − i)
         move ! (12 ∷ []) $ use1 W (raw (entry 𝓤 H A new (κs .0, tt) (qs .0, tt) (to-new 𝓤 H A W (κs .0) (qs .0) s first table) (new-vals 𝓤 H A W (κs .0) (qs .0) s first table)) ⊛ ((‵ (flft (κs .1 .0) (qs .1 .0)) ⊛ ‵ ftrue) ⊛ ‵ Kept))
         (opens-beside 𝓤 H A W (κs .0) (qs .0) (κs .1 .0) (qs .1 .0) s first table Rest known-first known-table) $ split ! $
         asks-at ! fm new known-new (κs .0, tt) (qs .0, tt) (to-new 𝓤 H A W (κs .0) (qs .0) s first table) (new-vals 𝓤 H A W (κs .0) (qs .0) s first table)
-        (and-then ! (load ! (from ! (stop !)) (look ! 10 refl)) (and-then ! (load ! (from ! (stop !)) (look ! 8 refl)) (and-then ! (load ! (from ! (stop !)) (look ! 6 refl)) (no-more !)))) (λ u r e is.
+        (and-then ! (copied ! 10 refl) (and-then ! (copied ! 8 refl) (and-then ! (copied ! 6 refl) (no-more !)))) (λ u r e is.
         -- [what the reader owns; its token; the name's token and what the parameters own; room for _5; …; _0; …]
         land ! (from ! (stop !)) (init ! 3 refl (typed-held 𝓤 H A W (κs .0) r u is)) $
         use3 W (raw (entry 𝓤 H A look-up κs qs (r, (name, tt)) (u ∷ [], (x ∷ [], tt))) ⊛ ‵ Kept) (looks-up 𝓤 H A W (κs .0) (qs .0) (κs .1 .0) (qs .1 .0) name Kept beside r u) $ split ! $
-        asks-at ! fm look-up known κs qs (r, (name, tt)) (u ∷ [], (x ∷ [], tt)) (and-then ! (load ! (from ! (stop !)) (look ! 2 refl)) (and-then ! (load ! (from ! (stop !)) (look ! 4 refl)) (no-more !))) (λ u₃ t e₃ is₃.
+        asks-at ! fm look-up known κs qs (r, (name, tt)) (u ∷ [], (x ∷ [], tt)) (and-then ! (copied ! 2 refl) (and-then ! (copied ! 4 refl) (no-more !))) (λ u₃ t e₃ is₃.
         -- [the answer; the tokens; what the parameters own; _5; …; room for _0; …]
         land ! (from ! (stop !)) (init ! 13 refl (EL.lawful N.the-type N′.the-laws 𝓤 H A W tt .typed t _ is₃ .0)) $
-        returns ! (look ! 13 refl) $ forget ! 3 refl $ forget ! 5 refl $ forget ! 7 refl $ forget ! 9 refl $ forget ! 11 refl $ forget ! 13 refl $
-        move ! (13 ∷ 14 ∷ []) $ free1 ! $ move ! (11 ∷ 12 ∷ []) $ free1 ! $ move ! (9 ∷ 10 ∷ []) $ free1 ! $ move ! (7 ∷ 8 ∷ []) $ free1 ! $ move ! (5 ∷ 6 ∷ []) $ free1 ! $ move ! (3 ∷ 4 ∷ []) $ free1 ! $ free0 ! $
-        by ! (ends 𝓤 H A find W knowns κs qs args at t u₃ (subst (λ (y : Reader). look-up .Says κs (y, (name, tt)) t) e e₃))))))))))
+        returns ! (look ! 13 refl) $ frees-all ! 3 (_, (_, (_, (_, (_, (_, tt)))))) refl $
+        by ! (ends 𝓤 H A find W knowns κs qs args at t u₃ (subst (λ (y : Reader). look-up .Says κs (y, (name, tt)) t) e e₃)))))
 
 pub find-spec : {M : Type 1} → stated.statement M
 unfolding code.routine

@@ -1,22 +1,12 @@
 -- `reader::Reader::enter` meets its contract: it asks `read_place::table_at` (Asked.antt).
-use mathlib.Core.Path.{_≡_}
-use contract.Running.{givenOf}
-use denote.Enum.Laws as EL
-use denote.Ref.{now}
-use denote.Signature.{plain}
-use Rattle.read_place.specs.Place as place
-use Rattle.read_place.proofs.Entered as S
-use Rattle.read_place.proofs.Entered.Laws as S′
 use Rattle.read_place.proofs.table_at.Symbol as asked-def
 use Rattle.read_place.proofs.table_at.Met as asked-thm
+use Rattle.reader.proofs.Answers.{table}
 use Rattle.reader.proofs.Asked.{asked}
-use Rattle.reader.proofs.Reader.enter.Key.{name}
+use Rattle.reader.proofs.Reader.enter.Key as key
 use Rattle.reader.proofs.Reader.enter.Statement as stated
 use Rattle.reader.proofs.Reader.enter.Code as code
 
 pub enter-spec : {M : Type 1} → stated.statement M
 unfolding code.routine
-enter-spec 𝓤 H 𝓜 𝓖 𝓡 =
-    asked (plain (λ _. S.the-row)) (λ κs d r. place.entered r ≡ place.tableAt (now (d .window)) (d .first) (d .table) (d .at .0))
-    𝓤 H 𝓜 𝓖 𝓡 S′.mir (λ κs r u is. EL.lawful S.the-type S′.the-laws 𝓤 H (𝓖 .A) (givenOf 𝓤 H 𝓜 𝓖) tt .typed r _ is .0)
-    code.env name asked-def.name asked-def.routine code.calls-read-place·table-at (code.unfolded 𝓤 H 𝓜 𝓡) (asked-thm.met 𝓤 H 𝓜 𝓖 𝓡)
+enter-spec 𝓤 H 𝓜 𝓖 𝓡 = asked table 𝓤 H 𝓜 𝓖 𝓡 code.env key.name asked-def.name asked-def.routine code.calls-read-place·table-at (code.unfolded 𝓤 H 𝓜 𝓡) (asked-thm.met 𝓤 H 𝓜 𝓖 𝓡)

@@ -15,7 +15,7 @@ use contract.Lifetimes.{Lfts, Shares}
 use contract.Running.{givenOf, tables}
 use types.Kit.{Given, ‵, raw, _⊛_, _$_, _∵_, !, qed, by, move, drop, use1, split, join, fsplit, fjoin, frame, done}
 use types.Part.{whole, sub, look-in}
-use types.Run.{look, init, forget, stop, fld, from, load, of-opd, and-then, no-more, assigns, land, returns, enter, alloc1, alloc0, params1, pass1, pass0, free1, free0}
+use types.Run.{look, init, stop, fld, from, load, of-opd, and-then, no-more, assigns, land, returns, enter, params1, pass1, pass0}
 use sound.WpLaws.{FmC}
 use denote.RattleType.{Denots, Valss, owns}
 use denote.Laws.{Is}
@@ -37,7 +37,7 @@ use Rattle.xdvdfs.proofs.look_up.Met as find-thm
 use Rattle.reader.specs.declared.Reader.{Reader}
 use Rattle.reader.proofs.Reader as T
 use Rattle.reader.proofs.Reader.Laws as T′
-use Rattle.reader.proofs.Thin.{triple, tokens, entry, asks-at, Post, ends, met}
+use Rattle.reader.proofs.Thin.{triple, tokens, entry, allocs-all, asks-at, copied, frees-all, Post, ends, met}
 use Rattle.reader.proofs.Contracts.{look-up, find, known-held, known-bytes, Fields, Own, apart}
 use Rattle.reader.proofs.Reader.look_up.Key.{name as #look-up}
 use Rattle.reader.proofs.Reader.look_up.Statement as stated
@@ -84,18 +84,17 @@ module _ {M : Type 1} (𝓤 : URA M) (H : Heap 𝓤) (A : Atoms 𝓤) (W : Given
     walk : Holds (hasTy (T′.mir (named 0)) mach) × WT mach → Is (ShrSlice (named 1) (κs .1 .0) u8) name (v ∷ []) → ent 𝓤 (entry 𝓤 H A look-up κs qs (d, (name, tt)) at) (WpFn 𝓤 H C Λ code.function (mach ∷ v ∷ []) (Post 𝓤 H A look-up κs qs (d, (name, tt)) at))
     walk wt p =
         qed W (raw (entry 𝓤 H A look-up κs qs (d, (name, tt)) at) ∷ []) ∵ enter ! C Λ code.function (mach ∷ v ∷ []) _ $
-        alloc1 ! (λ l₀. alloc1 ! (λ l₁. alloc1 ! (λ l₂. alloc1 ! (λ l₃. alloc1 ! (λ l₄. alloc1 ! (λ l₅. alloc0 ! $ params1 ! $ pass1 ! (init ! 8 refl wt) $ pass1 ! (init ! 6 refl (shr-slice-lawful 𝓤 H A W (named 1) (κs .1 .0) u8 .typed name (v ∷ []) p .0)) $ pass0 ! $
+        allocs-all ! _ (λ l. params1 ! $ pass1 ! (init ! 8 refl wt) $ pass1 ! (init ! 6 refl (shr-slice-lawful 𝓤 H A W (named 1) (κs .1 .0) u8 .typed name (v ∷ []) p .0)) $ pass0 ! $
         -- local i stands at 2 · (5 − i)
         assigns ! (of-opd ! (load ! (from ! (fld ! refl (stop !))) (look-in ! 8 (sub ! 0 refl (whole !))))) (from ! (stop !)) (init ! 4 refl (tt, wt .1 .0)) $
         assigns ! (of-opd ! (load ! (from ! (fld ! refl (stop !))) (look-in ! 8 (sub ! 1 refl (whole !))))) (from ! (stop !)) (init ! 2 refl (tt, wt .1 .1 .0)) $
         assigns ! (of-opd ! (load ! (from ! (fld ! refl (stop !))) (look-in ! 8 (sub ! 2 refl (whole !))))) (from ! (stop !)) (init ! 0 refl (tt, wt .1 .1 .1 .0)) $
         move ! (12 ∷ []) $ use1 W (raw (entry 𝓤 H A find κs qs args vals) ⊛ ‵ Kept) asking $ split ! $
-        asks-at ! fm find known κs qs args vals (and-then ! (load ! (from ! (stop !)) (look ! 6 refl)) (and-then ! (load ! (from ! (stop !)) (look ! 4 refl)) (and-then ! (load ! (from ! (stop !)) (look ! 2 refl)) (and-then ! (load ! (from ! (stop !)) (look ! 8 refl)) (no-more !))))) (λ u r e is.
+        asks-at ! fm find known κs qs args vals (and-then ! (copied ! 6 refl) (and-then ! (copied ! 4 refl) (and-then ! (copied ! 2 refl) (and-then ! (copied ! 8 refl) (no-more !))))) (λ u r e is.
         -- [the answer; the tokens; what the parameters own; _5; …; _4; …; _3; …; _2; …; _1; …; room for _0; …]
         land ! (from ! (stop !)) (init ! 13 refl (EL.lawful N.the-type N′.the-laws 𝓤 H A W tt .typed r _ is .0)) $
-        returns ! (look ! 13 refl) $ forget ! 3 refl $ forget ! 5 refl $ forget ! 7 refl $ forget ! 9 refl $ forget ! 11 refl $ forget ! 13 refl $
-        move ! (13 ∷ 14 ∷ []) $ free1 ! $ move ! (11 ∷ 12 ∷ []) $ free1 ! $ move ! (9 ∷ 10 ∷ []) $ free1 ! $ move ! (7 ∷ 8 ∷ []) $ free1 ! $ move ! (5 ∷ 6 ∷ []) $ free1 ! $ move ! (3 ∷ 4 ∷ []) $ free1 ! $ free0 ! $
-        by ! (ends 𝓤 H A look-up W (known-held 1, (known-bytes 2 1 tt, tt)) κs qs (d, (name, tt)) at r u e))))))))
+        returns ! (look ! 13 refl) $ frees-all ! 3 (_, (_, (_, (_, (_, (_, tt)))))) refl $
+        by ! (ends 𝓤 H A look-up W (known-held 1, (known-bytes 2 1 tt, tt)) κs qs (d, (name, tt)) at r u e)))
 
 pub look-up-spec : {M : Type 1} → stated.statement M
 unfolding code.routine

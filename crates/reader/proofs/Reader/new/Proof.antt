@@ -17,7 +17,7 @@ use contract.Lifetimes.{Lfts, Shares}
 use contract.Running.{givenOf, tables}
 use types.Kit.{Given, ‵, raw, _⊛_, _$_, _∵_, !, qed, by, move, drop, use0, use1, rewrite, split, fsplit, fjoin, frame, done}
 use types.Part.{agg}
-use types.Run.{look, init, forget, stop, from, load, lit, and-then, no-more, assigns, land, returns, enter, alloc1, alloc0, params1, pass1, pass0, free1, free0}
+use types.Run.{look, init, stop, from, lit, and-then, no-more, assigns, land, returns, enter, params1, pass1, pass0}
 use sound.WpLaws.{FmC}
 use denote.RattleType.{Denots, Valss, owns}
 use denote.Laws.{Is}
@@ -46,7 +46,7 @@ use Rattle.reader.specs.declared.Reader.{Reader}
 use Rattle.reader.specs.Reader.{opened, placedAt}
 use Rattle.reader.proofs.Reader as T
 use Rattle.reader.proofs.Reader.Laws as T′
-use Rattle.reader.proofs.Thin.{Knowns, triple, tokens, entry, asks-at, Post, ends, met}
+use Rattle.reader.proofs.Thin.{Knowns, triple, tokens, entry, allocs-all, asks-at, copied, frees-all, Post, ends, met}
 use Rattle.reader.proofs.Contracts.{offset-new, new, known-bytes, known-sector, known-region, Own}
 use Rattle.reader.proofs.Reader.new.Key.{name}
 use Rattle.reader.proofs.Reader.new.Statement as stated
@@ -110,16 +110,15 @@ module _ {M : Type 1} (𝓤 : URA M) (H : Heap 𝓤) (A : Atoms 𝓤) (W : Given
       walk : Is (ShrSlice (named 0) (κs .0) u8) s (v ∷ []) → ent 𝓤 (entry 𝓤 H A new κs qs args at) (WpFn 𝓤 H C Λ code.function (v ∷ S′.lowered first ∷ R′.lowered table ∷ []) (Post 𝓤 H A new κs qs args at))
       walk p =
           qed W (raw (entry 𝓤 H A new κs qs args at) ∷ []) ∵ enter ! C Λ code.function (v ∷ S′.lowered first ∷ R′.lowered table ∷ []) _ $
-          alloc1 ! (λ l₀. alloc1 ! (λ l₁. alloc1 ! (λ l₂. alloc1 ! (λ l₃. alloc1 ! (λ l₄. alloc0 ! $ params1 ! $
+          allocs-all ! _ (λ l. params1 ! $
           pass1 ! (init ! 6 refl (shr-slice-lawful 𝓤 H A W (named 0) (κs .0) u8 .typed s (v ∷ []) p .0)) $ pass1 ! (init ! 4 refl typed-first) $ pass1 ! (init ! 2 refl typed-table) $ pass0 ! $
           -- local i stands at 2 · (4 − i)
           use0 W (raw (entry 𝓤 H A offset-new tt tt (0, tt) (vint w32 0 ∷ [], tt))) zero-passed $ asks-at ! fm offset-new known tt tt (0, tt) (vint w32 0 ∷ [], tt) (and-then ! (lit ! tt) (no-more !)) (λ u r e is. drop ! $ drop ! $
           -- [room for _4; …; _3; …; _2; …; _1; …; room for _0; …]
-          land ! (from ! (stop !)) (init ! 0 refl (LL.lawful O.the-type O′.the-laws 𝓤 H A W .typed r _ is .0)) $ rewrite ! 0 (λ (x : Val). ‵ (fat fullShare O′.mir l₄ 0 x)) (ap only (tells-offset r u is)) refl $
-          assigns ! (agg ! (and-then ! (load ! (from ! (stop !)) (look ! 6 refl)) (and-then ! (load ! (from ! (stop !)) (look ! 4 refl)) (and-then ! (load ! (from ! (stop !)) (look ! 2 refl)) (and-then ! (load ! (from ! (stop !)) (look ! 0 refl)) (no-more !))))))
+          land ! (from ! (stop !)) (init ! 0 refl (LL.lawful O.the-type O′.the-laws 𝓤 H A W .typed r _ is .0)) $ rewrite ! 0 (λ (x : Val). ‵ (fat fullShare O′.mir (l .1 .1 .1 .1 .0) 0 x)) (ap only (tells-offset r u is)) refl $
+          assigns ! (agg ! (and-then ! (copied ! 6 refl) (and-then ! (copied ! 4 refl) (and-then ! (copied ! 2 refl) (and-then ! (copied ! 0 refl) (no-more !))))))
           (from ! (stop !)) (init ! 8 refl (tt, (shr-slice-lawful 𝓤 H A W (named 0) (κs .0) u8 .typed s (v ∷ []) p .0 .1, (typed-first .1, (typed-table .1, (LL.lawful O.the-type O′.the-laws 𝓤 H A W .typed r _ (offset-is r u is) .0 .1, tt)))))) $
-          returns ! (look ! 8 refl) $ forget ! 0 refl $ forget ! 2 refl $ forget ! 4 refl $ forget ! 6 refl $ forget ! 8 refl $
-          move ! (8 ∷ 9 ∷ []) $ free1 ! $ move ! (6 ∷ 7 ∷ []) $ free1 ! $ move ! (4 ∷ 5 ∷ []) $ free1 ! $ move ! (2 ∷ 3 ∷ []) $ free1 ! $ free1 ! $ free0 ! $ by ! (exits r e (offset-is r u is))))))))
+          returns ! (look ! 8 refl) $ move ! (10 ∷ []) $ frees-all ! 1 (_, (_, (_, (_, (_, tt))))) refl $ by ! (exits r e (offset-is r u is))))
 
 pub new-spec : {M : Type 1} → stated.statement M
 unfolding code.routine

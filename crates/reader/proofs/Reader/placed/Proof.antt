@@ -14,7 +14,7 @@ use contract.Lifetimes.{Lfts, Shares}
 use contract.Running.{givenOf, tables}
 use types.Kit.{Given, ‵, raw, _⊛_, _$_, _∵_, !, qed, by, move, use1, use2, split, fsplit, fjoin}
 use types.Part.{whole, sub, look-in, agg}
-use types.Run.{look, init, forget, stop, fld, from, load, of-opd, and-then, no-more, assigns, returns, enter, alloc1, alloc0, params1, pass1, pass0, free1, free0}
+use types.Run.{look, init, stop, fld, from, load, of-opd, and-then, no-more, assigns, returns, enter, params1, pass1, pass0}
 use denote.RattleType.{Valss, owns}
 use denote.Laws.{Is}
 use denote.Signature.{typesAt, namedLft}
@@ -28,7 +28,7 @@ use Rattle.reader.specs.declared.Reader.{Reader}
 use Rattle.reader.specs.Reader.{placedAt}
 use Rattle.reader.proofs.Reader as T
 use Rattle.reader.proofs.Reader.Laws as T′
-use Rattle.reader.proofs.Thin.{tokens, entry, Post, ends, met}
+use Rattle.reader.proofs.Thin.{tokens, entry, allocs-all, copied, frees-all, Post, ends, met}
 use Rattle.reader.proofs.Contracts.{placed, known-held, known-offset, fields, Own, twice}
 use Rattle.reader.proofs.Reader.placed.Key.{name}
 use Rattle.reader.proofs.Reader.placed.Statement as stated
@@ -61,14 +61,13 @@ module _ {M : Type 1} (𝓤 : URA M) (H : Heap 𝓤) (A : Atoms 𝓤) (W : Given
         → ent 𝓤 (entry 𝓤 H A placed κs qs (d, (o, tt)) at) (WpFn 𝓤 H C Λ code.function (mach ∷ O′.lowered o ∷ []) (Post 𝓤 H A placed κs qs (d, (o, tt)) at))
     walk wt ok wto =
         qed W (raw (entry 𝓤 H A placed κs qs (d, (o, tt)) at) ∷ []) ∵ enter ! C Λ code.function (mach ∷ O′.lowered o ∷ []) _ $
-        alloc1 ! (λ l₀. alloc1 ! (λ l₁. alloc1 ! (λ l₂. alloc1 ! (λ l₃. alloc1 ! (λ l₄. alloc1 ! (λ l₅. alloc0 ! $ params1 ! $ pass1 ! (init ! 8 refl wt) $ pass1 ! (init ! 6 refl wto) $ pass0 ! $
+        allocs-all ! _ (λ l. params1 ! $ pass1 ! (init ! 8 refl wt) $ pass1 ! (init ! 6 refl wto) $ pass0 ! $
         -- local i stands at 2 · (5 − i)
         assigns ! (of-opd ! (load ! (from ! (fld ! refl (stop !))) (look-in ! 8 (sub ! 0 refl (whole !))))) (from ! (stop !)) (init ! 4 refl (tt, wt .1 .0)) $
         assigns ! (of-opd ! (load ! (from ! (fld ! refl (stop !))) (look-in ! 8 (sub ! 1 refl (whole !))))) (from ! (stop !)) (init ! 2 refl (tt, wt .1 .1 .0)) $
         assigns ! (of-opd ! (load ! (from ! (fld ! refl (stop !))) (look-in ! 8 (sub ! 2 refl (whole !))))) (from ! (stop !)) (init ! 0 refl (tt, wt .1 .1 .1 .0)) $
-        assigns ! (agg ! (and-then ! (load ! (from ! (stop !)) (look ! 4 refl)) (and-then ! (load ! (from ! (stop !)) (look ! 2 refl)) (and-then ! (load ! (from ! (stop !)) (look ! 0 refl)) (and-then ! (load ! (from ! (stop !)) (look ! 6 refl)) (no-more !)))))) (from ! (stop !)) (init ! 10 refl (tt, (wt .1 .0, (wt .1 .1 .0, (wt .1 .1 .1 .0, (wto .1, tt)))))) $
-        returns ! (look ! 10 refl) $ forget ! 0 refl $ forget ! 2 refl $ forget ! 4 refl $ forget ! 6 refl $ forget ! 8 refl $ forget ! 10 refl $
-        move ! (10 ∷ 11 ∷ []) $ free1 ! $ move ! (8 ∷ 9 ∷ []) $ free1 ! $ move ! (6 ∷ 7 ∷ []) $ free1 ! $ move ! (4 ∷ 5 ∷ []) $ free1 ! $ move ! (2 ∷ 3 ∷ []) $ free1 ! $ free1 ! $ free0 ! $ by ! (exits ok)))))))
+        assigns ! (agg ! (and-then ! (copied ! 4 refl) (and-then ! (copied ! 2 refl) (and-then ! (copied ! 0 refl) (and-then ! (copied ! 6 refl) (no-more !)))))) (from ! (stop !)) (init ! 10 refl (tt, (wt .1 .0, (wt .1 .1 .0, (wt .1 .1 .1 .0, (wto .1, tt)))))) $
+        returns ! (look ! 10 refl) $ move ! (12 ∷ []) $ frees-all ! 1 (_, (_, (_, (_, (_, (_, tt)))))) refl $ by ! (exits ok))
 
 pub placed-spec : {M : Type 1} → stated.statement M
 unfolding code.routine

@@ -1,22 +1,12 @@
 -- `reader::Reader::right` meets its contract: it asks `read_place::right_at` (Asked.antt).
-use mathlib.Core.Path.{_≡_}
-use contract.Running.{givenOf}
-use denote.Enum.Laws as EL
-use denote.Ref.{now}
-use denote.Signature.{plain}
-use Rattle.read_place.specs.Place as place
-use Rattle.read_place.proofs.Linked as S
-use Rattle.read_place.proofs.Linked.Laws as S′
 use Rattle.read_place.proofs.right_at.Symbol as asked-def
 use Rattle.read_place.proofs.right_at.Met as asked-thm
+use Rattle.reader.proofs.Answers.{right}
 use Rattle.reader.proofs.Asked.{asked}
-use Rattle.reader.proofs.Reader.right.Key.{name}
+use Rattle.reader.proofs.Reader.right.Key as key
 use Rattle.reader.proofs.Reader.right.Statement as stated
 use Rattle.reader.proofs.Reader.right.Code as code
 
 pub right-spec : {M : Type 1} → stated.statement M
 unfolding code.routine
-right-spec 𝓤 H 𝓜 𝓖 𝓡 =
-    asked (plain (λ _. S.the-row)) (λ κs d r. place.linked r ≡ place.rightAt (now (d .window)) (d .first) (d .table) (d .at .0))
-    𝓤 H 𝓜 𝓖 𝓡 S′.mir (λ κs r u is. EL.lawful S.the-type S′.the-laws 𝓤 H (𝓖 .A) (givenOf 𝓤 H 𝓜 𝓖) tt .typed r _ is .0)
-    code.env name asked-def.name asked-def.routine code.calls-read-place·right-at (code.unfolded 𝓤 H 𝓜 𝓡) (asked-thm.met 𝓤 H 𝓜 𝓖 𝓡)
+right-spec 𝓤 H 𝓜 𝓖 𝓡 = asked right 𝓤 H 𝓜 𝓖 𝓡 code.env key.name asked-def.name asked-def.routine code.calls-read-place·right-at (code.unfolded 𝓤 H 𝓜 𝓡) (asked-thm.met 𝓤 H 𝓜 𝓖 𝓡)

@@ -14,7 +14,7 @@ use contract.Lifetimes.{Lfts, Shares}
 use contract.Running.{givenOf, tables}
 use types.Kit.{Given, ‵, raw, _⊛_, _$_, _∵_, !, qed, by, move, drop, use1, split, join, fsplit, fjoin, frame, done}
 use types.Part.{whole, sub, look-in}
-use types.Run.{look, init, forget, stop, fld, from, load, of-opd, and-then, no-more, assigns, land, returns, enter, alloc1, alloc0, params1, pass1, pass0, free1, free0}
+use types.Run.{look, init, stop, fld, from, load, of-opd, and-then, no-more, assigns, land, returns, enter, params1, pass1, pass0}
 use sound.WpLaws.{FmC}
 use denote.RattleType.{Denots, Valss, owns}
 use denote.Laws.{Is}
@@ -33,7 +33,7 @@ use Rattle.reader.proofs.Reader as T
 use Rattle.reader.proofs.Reader.Laws as T′
 use Rattle.reader.proofs.Reader.new.Symbol as new-def
 use Rattle.reader.proofs.Reader.new.Met as new-thm
-use Rattle.reader.proofs.Thin.{triple, tokens, entry, asks-at, Post, ends, met}
+use Rattle.reader.proofs.Thin.{triple, tokens, entry, allocs-all, asks-at, copied, frees-all, Post, ends, met}
 use Rattle.reader.proofs.Contracts.{new, within, known-held, known-region, Fields, Own, apart}
 use Rattle.reader.proofs.Reader.within.Key.{name}
 use Rattle.reader.proofs.Reader.within.Statement as stated
@@ -71,17 +71,16 @@ module _ {M : Type 1} (𝓤 : URA M) (H : Heap 𝓤) (A : Atoms 𝓤) (W : Given
     walk : Holds (hasTy (T′.mir (named 0)) mach) × WT mach → Is R.the-row t (R′.lowered t ∷ []) → ent 𝓤 (entry 𝓤 H A within κs qs (d, (t, tt)) at) (WpFn 𝓤 H C Λ code.function (mach ∷ R′.lowered t ∷ []) (Post 𝓤 H A within κs qs (d, (t, tt)) at))
     walk wt known-table =
         qed W (raw (entry 𝓤 H A within κs qs (d, (t, tt)) at) ∷ []) ∵ enter ! C Λ code.function (mach ∷ R′.lowered t ∷ []) _ $
-        alloc1 ! (λ l₀. alloc1 ! (λ l₁. alloc1 ! (λ l₂. alloc1 ! (λ l₃. alloc1 ! (λ l₄. alloc0 ! $ params1 ! $ pass1 ! (init ! 6 refl wt) $ pass1 ! (init ! 4 refl (LL.lawful R.the-type R′.the-laws 𝓤 H A W .typed t _ known-table .0)) $ pass0 ! $
+        allocs-all ! _ (λ l. params1 ! $ pass1 ! (init ! 6 refl wt) $ pass1 ! (init ! 4 refl (LL.lawful R.the-type R′.the-laws 𝓤 H A W .typed t _ known-table .0)) $ pass0 ! $
         -- local i stands at 2 · (4 − i)
         assigns ! (of-opd ! (load ! (from ! (fld ! refl (stop !))) (look-in ! 6 (sub ! 0 refl (whole !))))) (from ! (stop !)) (init ! 2 refl (tt, wt .1 .0)) $
         assigns ! (of-opd ! (load ! (from ! (fld ! refl (stop !))) (look-in ! 6 (sub ! 1 refl (whole !))))) (from ! (stop !)) (init ! 0 refl (tt, wt .1 .1 .0)) $
         move ! (10 ∷ []) $ use1 W (raw (entry 𝓤 H A new κs qs args vals) ⊛ ‵ Kept) (asking known-table) $ split ! $
-        asks-at ! fm new known κs qs args vals (and-then ! (load ! (from ! (stop !)) (look ! 4 refl)) (and-then ! (load ! (from ! (stop !)) (look ! 2 refl)) (and-then ! (load ! (from ! (stop !)) (look ! 6 refl)) (no-more !)))) (λ u r e is.
+        asks-at ! fm new known κs qs args vals (and-then ! (copied ! 4 refl) (and-then ! (copied ! 2 refl) (and-then ! (copied ! 6 refl) (no-more !)))) (λ u r e is.
         -- [the answer; the tokens; what the parameters own; _4; …; _3; …; _2; …; _1; …; room for _0; …]
         land ! (from ! (stop !)) (init ! 11 refl (LL.lawful (T.the-type (namedLft 1 0 tt κs)) (T′.the-laws (namedLft 1 0 tt κs)) 𝓤 H A W .typed r _ is .0)) $
-        returns ! (look ! 11 refl) $ forget ! 3 refl $ forget ! 5 refl $ forget ! 7 refl $ forget ! 9 refl $ forget ! 11 refl $
-        move ! (11 ∷ 12 ∷ []) $ free1 ! $ move ! (9 ∷ 10 ∷ []) $ free1 ! $ move ! (7 ∷ 8 ∷ []) $ free1 ! $ move ! (5 ∷ 6 ∷ []) $ free1 ! $ move ! (3 ∷ 4 ∷ []) $ free1 ! $ free0 ! $
-        by ! (ends 𝓤 H A within W (known-held 0, (known-region, tt)) κs qs (d, (t, tt)) at r u e)))))))
+        returns ! (look ! 11 refl) $ frees-all ! 3 (_, (_, (_, (_, (_, tt))))) refl $
+        by ! (ends 𝓤 H A within W (known-held 0, (known-region, tt)) κs qs (d, (t, tt)) at r u e)))
 
 pub within-spec : {M : Type 1} → stated.statement M
 unfolding code.routine
