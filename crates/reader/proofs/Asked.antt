@@ -33,7 +33,8 @@ use Rattle.units.proofs.Offset.Laws as Offset′
 use Rattle.reader.specs.declared.Reader.{Reader}
 use Rattle.reader.proofs.Reader as T
 use Rattle.reader.proofs.Reader.Laws as T′
-use Rattle.reader.proofs.Thin.{ended, spec, triple, tokens, entry, allocs-all, asks-at, frees-all, copied, Post, ends, met}
+use Rattle.reader.proofs.Locals.{allocs-all, copied, frees-all}
+use Rattle.reader.proofs.Thin.{ended, spec, triple, tokens, entry, asks-at, Post, ends, met}
 use Rattle.reader.proofs.Contracts.{held, known-held, fields, lows, Fields, Own, apart}
 use Rattle.reader.proofs.Answers.{Answer, ofReader, ofFields}
 

@@ -43,7 +43,8 @@ use Rattle.reader.proofs.Reader.new.Symbol as new-def
 use Rattle.reader.proofs.Reader.new.Met as new-thm
 use Rattle.reader.proofs.Reader.placed.Symbol as placed-def
 use Rattle.reader.proofs.Reader.placed.Met as placed-thm
-use Rattle.reader.proofs.Thin.{Knowns, ended, spec, triple, entry, allocs-all, asks-at, copied, frees-all, Post, ends, met}
+use Rattle.reader.proofs.Locals.{allocs-all, copied, frees-all}
+use Rattle.reader.proofs.Thin.{Knowns, ended, spec, triple, entry, asks-at, Post, ends, met}
 use Rattle.reader.proofs.Contracts.{known-bytes, known-sector, known-region, known-offset, new, placed}
 use Rattle.reader.proofs.Answers.{Answer, ofReader, ofFields}
 use Rattle.reader_cases.proofs.Opens.{typed-held, window, to-new, new-vals, opens, asks-it, moves-it}

@@ -37,7 +37,8 @@ use Rattle.reader.proofs.Reader.new.Symbol as new-def
 use Rattle.reader.proofs.Reader.new.Met as new-thm
 use Rattle.reader.proofs.Reader.look_up.Symbol as asked-def
 use Rattle.reader.proofs.Reader.look_up.Met as asked-thm
-use Rattle.reader.proofs.Thin.{Knowns, triple, entry, allocs-all, asks-at, copied, frees-all, Post, ends, met}
+use Rattle.reader.proofs.Locals.{allocs-all, copied, frees-all}
+use Rattle.reader.proofs.Thin.{Knowns, triple, entry, asks-at, Post, ends, met}
 use Rattle.reader.proofs.Contracts.{known-bytes, known-sector, known-region, new, look-up, find}
 use Rattle.reader_cases.proofs.Opens.{typed-held, window, to-new, new-vals, opens-beside, sought, Named, beside-name, looks-up}
 use Rattle.reader_cases.proofs.find.Key.{name as #find}

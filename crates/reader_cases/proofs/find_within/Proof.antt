@@ -41,7 +41,8 @@ use Rattle.reader.proofs.Reader.within.Symbol as within-def
 use Rattle.reader.proofs.Reader.within.Met as within-thm
 use Rattle.reader.proofs.Reader.look_up.Symbol as asked-def
 use Rattle.reader.proofs.Reader.look_up.Met as asked-thm
-use Rattle.reader.proofs.Thin.{Thin, Knowns, triple, entry, allocs-all, asks-at, copied, frees-all, Post, ends, met}
+use Rattle.reader.proofs.Locals.{allocs-all, copied, frees-all}
+use Rattle.reader.proofs.Thin.{Thin, Knowns, triple, entry, asks-at, Post, ends, met}
 use Rattle.reader.proofs.Contracts.{bytes, sector, region, known-bytes, known-sector, known-region, new, within, look-up}
 use Rattle.reader_cases.proofs.Opens.{typed-held, window, to-new, new-vals, moves-it, opens-beside, sought, Named, beside-name, looks-up}
 use Rattle.reader_cases.proofs.find_within.Key.{name as #find-within}

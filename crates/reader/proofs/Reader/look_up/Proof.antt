@@ -37,7 +37,8 @@ use Rattle.xdvdfs.proofs.look_up.Met as find-thm
 use Rattle.reader.specs.declared.Reader.{Reader}
 use Rattle.reader.proofs.Reader as T
 use Rattle.reader.proofs.Reader.Laws as T′
-use Rattle.reader.proofs.Thin.{triple, tokens, entry, allocs-all, asks-at, copied, frees-all, Post, ends, met}
+use Rattle.reader.proofs.Locals.{allocs-all, copied, frees-all}
+use Rattle.reader.proofs.Thin.{triple, tokens, entry, asks-at, Post, ends, met}
 use Rattle.reader.proofs.Contracts.{look-up, find, known-held, known-bytes, Fields, Own, apart}
 use Rattle.reader.proofs.Reader.look_up.Key.{name as #look-up}
 use Rattle.reader.proofs.Reader.look_up.Statement as stated

@@ -46,7 +46,8 @@ use Rattle.reader.specs.declared.Reader.{Reader}
 use Rattle.reader.specs.Reader.{opened, placedAt}
 use Rattle.reader.proofs.Reader as T
 use Rattle.reader.proofs.Reader.Laws as T′
-use Rattle.reader.proofs.Thin.{Knowns, triple, tokens, entry, allocs-all, asks-at, copied, frees-all, Post, ends, met}
+use Rattle.reader.proofs.Locals.{allocs-all, copied, frees-all}
+use Rattle.reader.proofs.Thin.{Knowns, triple, tokens, entry, asks-at, Post, ends, met}
 use Rattle.reader.proofs.Contracts.{offset-new, new, known-bytes, known-sector, known-region, Own}
 use Rattle.reader.proofs.Reader.new.Key.{name}
 use Rattle.reader.proofs.Reader.new.Statement as stated

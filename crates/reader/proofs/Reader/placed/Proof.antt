@@ -28,7 +28,8 @@ use Rattle.reader.specs.declared.Reader.{Reader}
 use Rattle.reader.specs.Reader.{placedAt}
 use Rattle.reader.proofs.Reader as T
 use Rattle.reader.proofs.Reader.Laws as T′
-use Rattle.reader.proofs.Thin.{tokens, entry, allocs-all, copied, frees-all, Post, ends, met}
+use Rattle.reader.proofs.Locals.{allocs-all, copied, frees-all}
+use Rattle.reader.proofs.Thin.{tokens, entry, Post, ends, met}
 use Rattle.reader.proofs.Contracts.{placed, known-held, known-offset, fields, Own, twice}
 use Rattle.reader.proofs.Reader.placed.Key.{name}
 use Rattle.reader.proofs.Reader.placed.Statement as stated

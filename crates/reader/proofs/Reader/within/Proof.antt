@@ -33,7 +33,8 @@ use Rattle.reader.proofs.Reader as T
 use Rattle.reader.proofs.Reader.Laws as T′
 use Rattle.reader.proofs.Reader.new.Symbol as new-def
 use Rattle.reader.proofs.Reader.new.Met as new-thm
-use Rattle.reader.proofs.Thin.{triple, tokens, entry, allocs-all, asks-at, copied, frees-all, Post, ends, met}
+use Rattle.reader.proofs.Locals.{allocs-all, copied, frees-all}
+use Rattle.reader.proofs.Thin.{triple, tokens, entry, asks-at, Post, ends, met}
 use Rattle.reader.proofs.Contracts.{new, within, known-held, known-region, Fields, Own, apart}
 use Rattle.reader.proofs.Reader.within.Key.{name}
 use Rattle.reader.proofs.Reader.within.Statement as stated
