@@ -17,8 +17,7 @@ use ghost.Atoms.{Atoms, sem}
 use contract.Lifetimes.{Lfts, Shares}
 use contract.Running.{Running, GhostRules, givenOf, tables}
 use types.Kit.{Given, ‵, raw, _⊛_, _$_, _∵_, !, qed, by, move, use1, split, join, fsplit, fjoin, frame, done}
-use types.Part.{whole, sub, look-in}
-use types.Run.{look, init, stop, fld, from, load, of-opd, and-then, no-more, assigns, land, returns, enter, params1, pass1, pass0}
+use types.Run.{look, init, stop, from, and-then, no-more, land, returns, enter, params1, pass1, pass0}
 use sound.WpLaws.{FmC}
 use denote.RattleType.{owns}
 use denote.Signature.{namedLft}
@@ -33,14 +32,14 @@ use Rattle.units.proofs.Offset.Laws as Offset′
 use Rattle.reader.specs.declared.Reader.{Reader}
 use Rattle.reader.proofs.Reader as T
 use Rattle.reader.proofs.Reader.Laws as T′
-use Rattle.reader.proofs.Locals.{allocs-all, copied, frees-all}
+use Rattle.reader.proofs.Locals.{allocs-all, copied, takes, frees-all}
 use Rattle.reader.proofs.Thin.{ended, spec, triple, tokens, entry, asks-at, Post, ends, met}
 use Rattle.reader.proofs.Contracts.{held, known-held, fields, lows, Fields, Own, apart}
 use Rattle.reader.proofs.Answers.{Answer, ofReader, ofFields}
 
 -- the code that they have in common: each field of the reader is copied to a local, and f is called on the four
-abbrev takes : ℕ → ℕ → Body
-takes i k = assign (place i []) (rvOpd (copy (place 1 (field k ∷ []))))
+abbrev copies : ℕ → ℕ → Body
+copies i k = assign (place i []) (rvOpd (copy (place 1 (field k ∷ []))))
 
 abbrev pub asks : Ty → Name → Fn
 asks ty f = record {
@@ -48,7 +47,7 @@ asks ty f = record {
   outlives = [];
   params = 1;
   locals = local ty valueLocal ∷ local (T′.mir (named 0)) valueLocal ∷ local (sliceTy (tyRef erased imm (tyInt w8))) valueLocal ∷ local Sector′.mir valueLocal ∷ local Region′.mir valueLocal ∷ local Offset′.mir valueLocal ∷ [];
-  body = seq (takes 2 0) (seq (takes 3 1) (seq (takes 4 2) (seq (takes 5 3) (seq (call f (copy (place 2 []) ∷ copy (place 3 []) ∷ copy (place 4 []) ∷ copy (place 5 []) ∷ []) (place 0 [])) return))));
+  body = seq (copies 2 0) (seq (copies 3 1) (seq (copies 4 2) (seq (copies 5 3) (seq (call f (copy (place 2 []) ∷ copy (place 3 []) ∷ copy (place 4 []) ∷ copy (place 5 []) ∷ []) (place 0 [])) return))));
 }
 
 module _ (x : Answer) where
@@ -73,10 +72,10 @@ module _ (x : Answer) where
           qed W (raw (entry 𝓤 H A (ofReader x) κs qs (d, tt) (mach ∷ [], tt)) ∷ []) ∵ enter ! C Λ (asks (x .mir) f) (mach ∷ []) _ $
           allocs-all ! _ (λ l. params1 ! $ pass1 ! (init ! 8 refl wt) $ pass0 ! $
           -- local i stands at 2 · (5 − i)
-          assigns ! (of-opd ! (load ! (from ! (fld ! refl (stop !))) (look-in ! 8 (sub ! 0 refl (whole !))))) (from ! (stop !)) (init ! 6 refl (tt, wt .1 .0)) $
-          assigns ! (of-opd ! (load ! (from ! (fld ! refl (stop !))) (look-in ! 8 (sub ! 1 refl (whole !))))) (from ! (stop !)) (init ! 4 refl (tt, wt .1 .1 .0)) $
-          assigns ! (of-opd ! (load ! (from ! (fld ! refl (stop !))) (look-in ! 8 (sub ! 2 refl (whole !))))) (from ! (stop !)) (init ! 2 refl (tt, wt .1 .1 .1 .0)) $
-          assigns ! (of-opd ! (load ! (from ! (fld ! refl (stop !))) (look-in ! 8 (sub ! 3 refl (whole !))))) (from ! (stop !)) (init ! 0 refl (tt, wt .1 .1 .1 .1 .0)) $
+          takes ! 8 0 6 refl refl refl refl (tt, wt .1 .0) $
+          takes ! 8 1 4 refl refl refl refl (tt, wt .1 .1 .0) $
+          takes ! 8 2 2 refl refl refl refl (tt, wt .1 .1 .1 .0) $
+          takes ! 8 3 0 refl refl refl refl (tt, wt .1 .1 .1 .1 .0) $
           move ! (12 ∷ []) $ use1 W (raw (entry 𝓤 H A (ofFields x) κs qs (fields 𝓤 H A W 0 κs d) (lows 𝓤 H A W 0 κs d)) ⊛ ‵ Kept) asking $ split ! $
           asks-at ! fm (ofFields x) known κs qs (fields 𝓤 H A W 0 κs d) (lows 𝓤 H A W 0 κs d)
           (and-then ! (copied ! 8 refl) (and-then ! (copied ! 6 refl) (and-then ! (copied ! 4 refl) (and-then ! (copied ! 2 refl) (no-more !))))) (λ u r e is.

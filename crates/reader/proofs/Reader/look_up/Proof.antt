@@ -14,8 +14,7 @@ use ghost.Atoms.{Atoms, sem}
 use contract.Lifetimes.{Lfts, Shares}
 use contract.Running.{givenOf, tables}
 use types.Kit.{Given, ‵, raw, _⊛_, _$_, _∵_, !, qed, by, move, drop, use1, split, join, fsplit, fjoin, frame, done}
-use types.Part.{whole, sub, look-in}
-use types.Run.{look, init, stop, fld, from, load, of-opd, and-then, no-more, assigns, land, returns, enter, params1, pass1, pass0}
+use types.Run.{look, init, stop, from, and-then, no-more, land, returns, enter, params1, pass1, pass0}
 use sound.WpLaws.{FmC}
 use denote.RattleType.{Denots, Valss, owns}
 use denote.Laws.{Is}
@@ -37,7 +36,7 @@ use Rattle.xdvdfs.proofs.look_up.Met as find-thm
 use Rattle.reader.specs.declared.Reader.{Reader}
 use Rattle.reader.proofs.Reader as T
 use Rattle.reader.proofs.Reader.Laws as T′
-use Rattle.reader.proofs.Locals.{allocs-all, copied, frees-all}
+use Rattle.reader.proofs.Locals.{allocs-all, copied, takes, frees-all}
 use Rattle.reader.proofs.Thin.{triple, tokens, entry, asks-at, Post, ends, met}
 use Rattle.reader.proofs.Contracts.{look-up, find, known-held, known-bytes, Fields, Own, apart}
 use Rattle.reader.proofs.Reader.look_up.Key.{name as #look-up}
@@ -87,9 +86,9 @@ module _ {M : Type 1} (𝓤 : URA M) (H : Heap 𝓤) (A : Atoms 𝓤) (W : Given
         qed W (raw (entry 𝓤 H A look-up κs qs (d, (name, tt)) at) ∷ []) ∵ enter ! C Λ code.function (mach ∷ v ∷ []) _ $
         allocs-all ! _ (λ l. params1 ! $ pass1 ! (init ! 8 refl wt) $ pass1 ! (init ! 6 refl (shr-slice-lawful 𝓤 H A W (named 1) (κs .1 .0) u8 .typed name (v ∷ []) p .0)) $ pass0 ! $
         -- local i stands at 2 · (5 − i)
-        assigns ! (of-opd ! (load ! (from ! (fld ! refl (stop !))) (look-in ! 8 (sub ! 0 refl (whole !))))) (from ! (stop !)) (init ! 4 refl (tt, wt .1 .0)) $
-        assigns ! (of-opd ! (load ! (from ! (fld ! refl (stop !))) (look-in ! 8 (sub ! 1 refl (whole !))))) (from ! (stop !)) (init ! 2 refl (tt, wt .1 .1 .0)) $
-        assigns ! (of-opd ! (load ! (from ! (fld ! refl (stop !))) (look-in ! 8 (sub ! 2 refl (whole !))))) (from ! (stop !)) (init ! 0 refl (tt, wt .1 .1 .1 .0)) $
+        takes ! 8 0 4 refl refl refl refl (tt, wt .1 .0) $
+        takes ! 8 1 2 refl refl refl refl (tt, wt .1 .1 .0) $
+        takes ! 8 2 0 refl refl refl refl (tt, wt .1 .1 .1 .0) $
         move ! (12 ∷ []) $ use1 W (raw (entry 𝓤 H A find κs qs args vals) ⊛ ‵ Kept) asking $ split ! $
         asks-at ! fm find known κs qs args vals (and-then ! (copied ! 6 refl) (and-then ! (copied ! 4 refl) (and-then ! (copied ! 2 refl) (and-then ! (copied ! 8 refl) (no-more !))))) (λ u r e is.
         -- [the answer; the tokens; what the parameters own; _5; …; _4; …; _3; …; _2; …; _1; …; room for _0; …]

@@ -13,8 +13,7 @@ use ghost.Atoms.{Atoms, sem}
 use contract.Lifetimes.{Lfts, Shares}
 use contract.Running.{givenOf, tables}
 use types.Kit.{Given, ‵, raw, _⊛_, _$_, _∵_, !, qed, by, move, drop, use1, split, join, fsplit, fjoin, frame, done}
-use types.Part.{whole, sub, look-in}
-use types.Run.{look, init, stop, fld, from, load, of-opd, and-then, no-more, assigns, land, returns, enter, params1, pass1, pass0}
+use types.Run.{look, init, stop, from, and-then, no-more, land, returns, enter, params1, pass1, pass0}
 use sound.WpLaws.{FmC}
 use denote.RattleType.{Denots, Valss, owns}
 use denote.Laws.{Is}
@@ -33,7 +32,7 @@ use Rattle.reader.proofs.Reader as T
 use Rattle.reader.proofs.Reader.Laws as T′
 use Rattle.reader.proofs.Reader.new.Symbol as new-def
 use Rattle.reader.proofs.Reader.new.Met as new-thm
-use Rattle.reader.proofs.Locals.{allocs-all, copied, frees-all}
+use Rattle.reader.proofs.Locals.{allocs-all, copied, takes, frees-all}
 use Rattle.reader.proofs.Thin.{triple, tokens, entry, asks-at, Post, ends, met}
 use Rattle.reader.proofs.Contracts.{new, within, known-held, known-region, Fields, Own, apart}
 use Rattle.reader.proofs.Reader.within.Key.{name}
@@ -74,8 +73,8 @@ module _ {M : Type 1} (𝓤 : URA M) (H : Heap 𝓤) (A : Atoms 𝓤) (W : Given
         qed W (raw (entry 𝓤 H A within κs qs (d, (t, tt)) at) ∷ []) ∵ enter ! C Λ code.function (mach ∷ R′.lowered t ∷ []) _ $
         allocs-all ! _ (λ l. params1 ! $ pass1 ! (init ! 6 refl wt) $ pass1 ! (init ! 4 refl (LL.lawful R.the-type R′.the-laws 𝓤 H A W .typed t _ known-table .0)) $ pass0 ! $
         -- local i stands at 2 · (4 − i)
-        assigns ! (of-opd ! (load ! (from ! (fld ! refl (stop !))) (look-in ! 6 (sub ! 0 refl (whole !))))) (from ! (stop !)) (init ! 2 refl (tt, wt .1 .0)) $
-        assigns ! (of-opd ! (load ! (from ! (fld ! refl (stop !))) (look-in ! 6 (sub ! 1 refl (whole !))))) (from ! (stop !)) (init ! 0 refl (tt, wt .1 .1 .0)) $
+        takes ! 6 0 2 refl refl refl refl (tt, wt .1 .0) $
+        takes ! 6 1 0 refl refl refl refl (tt, wt .1 .1 .0) $
         move ! (10 ∷ []) $ use1 W (raw (entry 𝓤 H A new κs qs args vals) ⊛ ‵ Kept) (asking known-table) $ split ! $
         asks-at ! fm new known κs qs args vals (and-then ! (copied ! 4 refl) (and-then ! (copied ! 2 refl) (and-then ! (copied ! 6 refl) (no-more !)))) (λ u r e is.
         -- [the answer; the tokens; what the parameters own; _4; …; _3; …; _2; …; _1; …; room for _0; …]
