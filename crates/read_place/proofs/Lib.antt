@@ -1,5 +1,5 @@
 -- Laws of what stands at a place.
---     ByRead    by the cases of what is read there
+--     ByRead    by what is read there
 --     Told      what is told of an answer is one-to-one
 --     Cases     answers computed
 pub mod ByRead

@@ -1,6 +1,6 @@
--- `read_place::left_at` meets its contract, by the cases of what is read. Assumes nothing.
+-- `read_place::left_at` meets its contract, by what is read. Assumes nothing.
 use borrow.Author.Needs.{needs}
-use Rattle.read_place.proofs.ByRead.{left-entry, left-nothing, left-outside, left-truncated}
+use Rattle.read_place.proofs.ByRead.{by-left}
 use Rattle.read_place.proofs.left_at.Statement.{statement}
 use Rattle.read_place.proofs.left_at.Tie as tie
 
@@ -23,16 +23,16 @@ enum-known-o-2 : tie.Need-enum-known-o-2
 enum-known-o-2 c = search needs
 
 returns : tie.Need-returns
-returns c = search left-entry
+returns c = search by-left
 
 returns-2 : tie.Need-returns-2
-returns-2 c = search left-nothing
+returns-2 c = search by-left
 
 returns-3 : tie.Need-returns-3
-returns-3 c = search left-outside
+returns-3 c = search by-left
 
 returns-4 : tie.Need-returns-4
-returns-4 c = search left-truncated
+returns-4 c = search by-left
 
 pub left-at-spec : {M : Type 1} → statement M
 left-at-spec =

@@ -1,6 +1,6 @@
--- `read_place::name_at` meets its contract, by the cases of what is read. Assumes nothing.
+-- `read_place::name_at` meets its contract, by what is read. Assumes nothing.
 use borrow.Author.Needs.{needs}
-use Rattle.read_place.proofs.ByRead.{name-entry, name-nothing, name-outside, name-truncated}
+use Rattle.read_place.proofs.ByRead.{by-name}
 use Rattle.read_place.proofs.name_at.Statement.{statement}
 use Rattle.read_place.proofs.name_at.Tie as tie
 
@@ -32,16 +32,16 @@ slice-aggregate-result-3 : tie.Need-slice-aggregate-result-3
 slice-aggregate-result-3 c = search needs
 
 returns : tie.Need-returns
-returns c = search name-entry
+returns c = search by-name
 
 returns-2 : tie.Need-returns-2
-returns-2 c = search name-nothing
+returns-2 c = search by-name
 
 returns-3 : tie.Need-returns-3
-returns-3 c = search name-outside
+returns-3 c = search by-name
 
 returns-4 : tie.Need-returns-4
-returns-4 c = search name-truncated
+returns-4 c = search by-name
 
 pub name-at-spec : {M : Type 1} → statement M
 name-at-spec =

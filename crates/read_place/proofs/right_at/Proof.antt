@@ -1,6 +1,6 @@
--- `read_place::right_at` meets its contract, by the cases of what is read. Assumes nothing.
+-- `read_place::right_at` meets its contract, by what is read. Assumes nothing.
 use borrow.Author.Needs.{needs}
-use Rattle.read_place.proofs.ByRead.{right-entry, right-nothing, right-outside, right-truncated}
+use Rattle.read_place.proofs.ByRead.{by-right}
 use Rattle.read_place.proofs.right_at.Statement.{statement}
 use Rattle.read_place.proofs.right_at.Tie as tie
 
@@ -23,16 +23,16 @@ enum-known-o-2 : tie.Need-enum-known-o-2
 enum-known-o-2 c = search needs
 
 returns : tie.Need-returns
-returns c = search right-entry
+returns c = search by-right
 
 returns-2 : tie.Need-returns-2
-returns-2 c = search right-nothing
+returns-2 c = search by-right
 
 returns-3 : tie.Need-returns-3
-returns-3 c = search right-outside
+returns-3 c = search by-right
 
 returns-4 : tie.Need-returns-4
-returns-4 c = search right-truncated
+returns-4 c = search by-right
 
 pub right-at-spec : {M : Type 1} → statement M
 right-at-spec =

@@ -1,6 +1,6 @@
--- `read_place::table_at` meets its contract, by the cases of what is read. Assumes nothing.
+-- `read_place::table_at` meets its contract, by what is read. Assumes nothing.
 use borrow.Author.Needs.{needs}
-use Rattle.read_place.proofs.ByRead.{table-entry, table-nothing, table-outside, table-truncated}
+use Rattle.read_place.proofs.ByRead.{by-table}
 use Rattle.read_place.proofs.table_at.Statement.{statement}
 use Rattle.read_place.proofs.table_at.Tie as tie
 
@@ -23,16 +23,16 @@ enum-known-o-2 : tie.Need-enum-known-o-2
 enum-known-o-2 c = search needs
 
 returns : tie.Need-returns
-returns c = search table-entry
+returns c = search by-table
 
 returns-2 : tie.Need-returns-2
-returns-2 c = search table-nothing
+returns-2 c = search by-table
 
 returns-3 : tie.Need-returns-3
-returns-3 c = search table-outside
+returns-3 c = search by-table
 
 returns-4 : tie.Need-returns-4
-returns-4 c = search table-truncated
+returns-4 c = search by-table
 
 pub table-at-spec : {M : Type 1} → statement M
 table-at-spec =
