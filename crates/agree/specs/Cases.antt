@@ -1,12 +1,12 @@
 -- DOCUMENT 01'S STARRED CASES, as a single table: each row says what is put in and what must come out, and `Holds` what that means. Assumes nothing.
-use Prim.Native.Nat.{ℕ, _+_, _*_, _/_}
+use Prim.Native.Nat.{ℕ, _+_, _/_}
 use mathlib.Core.Path.{_≡_}
 use mathlib.Core.List.{List, [], _∷_, _++_, map, List·Memᴰ}
 use lib.ListN.{length, replicate}
 use Rattle.units.specs.Told.{Told, gives, refuses}
 use Rattle.units.specs.declared.Region.{Region}
 use Rattle.layout_name.specs.declared.Order.{Order}
-use Rattle.layout_name.specs.declared.Order.the-variants.{Less, Equal}
+use Rattle.layout_name.specs.declared.Order.the-variants.{Less}
 use Rattle.layout_name.specs.Order.{nameOrder}
 use Rattle.layout_node.specs.Header.{entryLength}
 use Rattle.dirtab_entry.specs.declared.Kind.{Kind}

@@ -1,7 +1,7 @@
 -- A list of entries as they are given, put into a tree one after the other, and what is supposed of one that is written. Assumes nothing.
 use Prim.Native.Nat.{ℕ, zero, suc, _+_, _≤_, _<_}
 use mathlib.Core.Path.{_≡_}
-use mathlib.Core.Bool.{Bool, true, false}
+use mathlib.Core.Bool.{true, false}
 use mathlib.Core.List.{List, [], _∷_, map}
 use lib.ListN.{length, getD}
 use Rattle.units.specs.Told.{gives}
@@ -9,11 +9,10 @@ use Rattle.units.specs.declared.Sector.{Sector}
 use Rattle.units.specs.declared.Region.{Region}
 use Rattle.layout_name.specs.Order.{nameOrder}
 use Rattle.dirtab_entry.specs.declared.Kind.{Kind}
-use Rattle.dirtab_entry.specs.declared.Kind.the-variants.{File, Directory}
+use Rattle.dirtab_entry.specs.declared.Kind.the-variants.{File}
 use Rattle.dirtab_entry.specs.Entry.{isDirectory, storedSize, anyBad}
-use Rattle.avl_model.specs.Tree.{Tree, leaf, node, δ, ins}
+use Rattle.avl_model.specs.Tree.{Tree, leaf, δ, ins}
 use Rattle.avl_model.specs.Names.{isLess}
-use Rattle.avl_model.specs.Order.{order}
 use Rattle.table_model.specs.Entry.{Entry, Item}
 use Rattle.table_model.specs.Table.{Placing, sizeOf, tableBytes, placeOf}
 use Rattle.agree.specs.Written.{Stand}

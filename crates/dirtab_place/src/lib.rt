@@ -8,7 +8,7 @@ use units::Offset;
 use units::Sector;
 ghost use mathlib.Core.Path.{_≡_};
 ghost use Prim.Native.Nat.{_/_, _≤_, _<_};
-ghost use lib.ListN.{length, getD};
+ghost use lib.ListN.{length};
 ghost use Rattle.layout_node.specs.Header.{entryLength};
 ghost use Rattle.table_model.specs.Place.{startAfter};
 ghost use Rattle.dirtab_place.specs.Places.{Placeable, Countable, Sized, sizeIn, toldEnd, endsOver, placesOver, toldFree, freeOver};

@@ -4,7 +4,7 @@ use mathlib.Core.Path.{_≡_}
 use mathlib.Core.List.{List, [], _∷_}
 use lib.Dec.{eqb}
 use lib.ListN.{length, getD}
-use Rattle.units.specs.Told.{Told, gives, pick}
+use Rattle.units.specs.Told.{gives, pick}
 use Rattle.layout_bytes.specs.Bytes.{putAt}
 use Rattle.layout_node.specs.declared.Header.{Header}
 use Rattle.layout_sector.specs.Counter.{alignedUp}

@@ -1,9 +1,8 @@
 -- Planning: 11, then from the last directory back 10 and adding's refusals entry by entry, then forward 7 and 8 table by table. Assumes nothing.
 use Prim.Native.Nat.{ℕ, zero, suc, _+_}
-use mathlib.Core.Bool.{Bool, true, false}
 use mathlib.Core.List.{List, [], _∷_}
 use lib.Dec.{ltb, leb}
-use lib.ListN.{length, getD, set, replicate}
+use lib.ListN.{getD, set, replicate}
 use Rattle.units.specs.Told.{Told, gives, refuses, pick}
 use Rattle.layout_sector.specs.Counter.{sectorsFor, alignedUp}
 use Rattle.dirtab_entry.specs.declared.Entry as given
@@ -16,7 +15,7 @@ use Rattle.table_model.specs.Table.{Placing, sizeOf, placeOf}
 use Rattle.dirtab_grow.specs.Grow.{growFrom, orderIn}
 use Rattle.img_model.specs.declared.Planned.{Planned}
 use Rattle.img_model.specs.declared.Planned.the-variants as planned
-use Rattle.img_model.specs.Shares.{Request, Share, shareOf, directoriesOf, firstOf, countOf, isDirectory, valueOf, isTree}
+use Rattle.img_model.specs.Shares.{Request, Share, shareOf, directoriesOf, firstOf, isDirectory, valueOf, isTree}
 
 -- the reported size of directory x's table, where a list has them all
 abbrev pub tableIn : List ℕ → ℕ → ℕ

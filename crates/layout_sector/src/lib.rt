@@ -1,7 +1,6 @@
 // The sector counter: hands out the next free sector and moves on by the sectors that a length takes.
 use units::Sector;
 ghost use mathlib.Core.Path.{_≡_};
-ghost use Prim.Native.Nat.{_≤_};
 ghost use Rattle.layout_sector.specs.Counter.{sectorsFor, told, takeOf};
 
 // The next free sector. Its field is private: sectors are handed out by `take` alone.

@@ -1,6 +1,6 @@
 -- What a path leads to: leading slashes go, one trailing slash goes, the rest is split at each slash, and each part is looked up in the
 -- table that the part before it names. Assumes nothing.
-use Prim.Native.Nat.{ℕ, zero, suc, _+_}
+use Prim.Native.Nat.{ℕ, zero, suc}
 use mathlib.Core.List.{List, [], _∷_}
 use lib.Dec.{eqb}
 use Rattle.units.specs.Told.{Told, gives, refuses, pick}

@@ -1,6 +1,6 @@
 -- Which tables the strict check is meant to accept, in document 01's words: the walk ends, no entry is reached twice, entries are disjoint, inside the table
 -- size and cross no sector line, and each left child's name is less than its parent's, each right child's greater. Assumes nothing.
-use Prim.Native.Nat.{ℕ, _+_, _-_, _*_, _/_, _≤_, _<_}
+use Prim.Native.Nat.{ℕ, _-_, _*_, _/_, _≤_, _<_}
 use mathlib.Core.Path.{_≡_}
 use mathlib.Core.Bool.{false}
 use mathlib.Core.Logic.{_⊎_}

@@ -3,7 +3,7 @@ use Prim.Native.Nat.{ℕ, _+_, _-_, _/_}
 use mathlib.Core.Bool.{Bool, true, false}
 use mathlib.Core.List.{List, [], _∷_, _++_}
 use lib.Dec.{ltb}
-use lib.ListN.{length, drop, replicate}
+use lib.ListN.{replicate}
 use Rattle.units.specs.Told.{Told, gives, refuses, pick}
 use Rattle.dirtab_entry.specs.Entry.{rounded}
 use Rattle.avl_model.specs.Tree.{Tree, leaf, node}
