@@ -13,4 +13,4 @@ pub mod Locals
 pub mod Thin
 pub mod Contracts
 pub mod Answers
-pub mod Asked
+mod Asked
