@@ -1,5 +1,4 @@
 -- Laws of the steps of planning, and plans at small images.
-pub mod Copying
 pub mod Adding
 pub mod Fewest
 pub mod Rooming

@@ -10,6 +10,7 @@ use img_tree::is_tree;
 use scratch::clear_bytes;
 use scratch::clear_shorts;
 use scratch::clear_words;
+use scratch::copy_words;
 ghost use mathlib.Core.Path.{_≡_};
 ghost use mathlib.Core.Bool.{true, _&&_};
 ghost use mathlib.Core.List.{[], _∷_};
@@ -77,18 +78,6 @@ fn refuse(cause: Cause, j: u32) -> Planned
         Cause::SizeOverflow => Planned::SizeOverflow(j),
         Cause::DuplicateFileName => Planned::DuplicateFileName(j),
         Cause::Room => Planned::EntryRoom(j),
-    }
-}
-
-// One column into another.
-fn copy_words(from: &[u32], to: &mut [u32])
-    requires { ⌜ length (now to) ≡ length (now from) ⌝ }
-    ensures { λ _. ⌜ now (to .exit) ≡ now (from .entry) ⌝ }
-{
-    let mut i = 0;
-    while i < from.len() {
-        to[i] = from[i];
-        i += 1;
     }
 }
 

@@ -4,9 +4,9 @@ use mathlib.Core.Path.{_≡_, refl}
 use native.Mathlib.Omega.{arith}
 use borrow.Author.Needs.{needs}
 use lib.ListN.{length, length-set}
-use Rattle.img.proofs.Copying.{Copied, none-copied, one-copied, all-copied}
-use Rattle.img.proofs.copy_words.Statement.{statement}
-use Rattle.img.proofs.copy_words.Tie as tie
+use Rattle.scratch.proofs.Copying.{Copied, none-copied, one-copied, all-copied}
+use Rattle.scratch.proofs.copy_words.Statement.{statement}
+use Rattle.scratch.proofs.copy_words.Tie as tie
 
 abbrev Inv-loop : tie.InvT-loop
 Inv-loop from to₀ i₀ to i = (i ≤ length from) × (length to ≡ length from) × Copied from to i
