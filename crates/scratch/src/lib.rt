@@ -61,9 +61,9 @@ pub fn copy_words(from: &[u32], to: &mut [u32])
     requires { ⌜ length (now to) ≡ length (now from) ⌝ }
     ensures { λ _. ⌜ now (to .exit) ≡ now (from .entry) ⌝ }
 {
-    let mut i = 0;
-    while i < from.len() {
-        to[i] = from[i];
-        i += 1;
+    let mut at = 0;
+    while at < from.len() {
+        to[at] = from[at];
+        at += 1;
     }
 }

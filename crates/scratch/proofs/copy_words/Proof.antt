@@ -1,4 +1,4 @@
--- `copy_words` meets its contract. The invariant: the first i places are copied. The measure is what is left.
+-- `copy_words` meets its contract. The invariant: the first places, up to `at`, are copied. The measure is what is left.
 use Prim.Native.Nat.{_-_, _≤_}
 use mathlib.Core.Path.{_≡_, refl}
 use native.Mathlib.Omega.{arith}
@@ -9,10 +9,10 @@ use Rattle.scratch.proofs.copy_words.Statement.{statement}
 use Rattle.scratch.proofs.copy_words.Tie as tie
 
 abbrev Inv-loop : tie.InvT-loop
-Inv-loop from to₀ i₀ to i = (i ≤ length from) × (length to ≡ length from) × Copied from to i
+Inv-loop from to₀ at₀ to at = (at ≤ length from) × (length to ≡ length from) × Copied from to at
 
 abbrev μ-loop : tie.MeasureT-loop
-μ-loop from to₀ i₀ to i = length from - i
+μ-loop from to₀ at₀ to at = length from - at
 
 loop-holds : tie.Need-loop-holds Inv-loop μ-loop
 loop-holds c = (omega arith, search needs, none-copied _ _)
@@ -29,8 +29,8 @@ mul-to-2 c = search needs
 slice-write-to : tie.Need-slice-write-to Inv-loop μ-loop
 slice-write-to c = search needs
 
-add-i : tie.Need-add-i Inv-loop μ-loop
-add-i c = search needs
+add-at : tie.Need-add-at Inv-loop μ-loop
+add-at c = search needs
 
 loop-less : tie.Need-loop-less Inv-loop μ-loop
 loop-less c = search needs
@@ -38,7 +38,7 @@ loop-less c = search needs
 loop-again : tie.Need-loop-again Inv-loop μ-loop
 loop-again c =
     let k = c .before .before in
-    (search needs, simp length-set (search needs), one-copied (k .before .args .from .now) (k .loop .to) (k .loop .i) _ (search needs) (search needs) refl)
+    (search needs, simp length-set (search needs), one-copied (k .before .args .from .now) (k .loop .to) (k .loop .at) _ (search needs) (search needs) refl)
 
 same-length : tie.Need-same-length Inv-loop μ-loop
 same-length c = search needs
@@ -57,7 +57,7 @@ copy-words-spec =
     shared-slice-read-to
     mul-to-2
     slice-write-to
-    add-i
+    add-at
     loop-less
     loop-again
     same-length
