@@ -4,6 +4,7 @@ ghost use mathlib.Core.Bool.{_||_};
 ghost use Prim.Native.Nat.{_+_, _<_, _≤_, max};
 ghost use lib.ListN.{length};
 ghost use lib.Dec.{leb};
+ghost use Rattle.units.specs.Lent.{was};
 ghost use Rattle.avl_model.specs.Lists.{lists};
 ghost use Rattle.avl_model.specs.Names.{names, nameAt, byName, isLess};
 ghost use Rattle.avl_model.specs.Seek.{treeAt};
@@ -54,7 +55,7 @@ fn choose_taller(x: u8, y: u8) -> u8
 // The name of the node i.
 fn read_name<'a>(bytes: &'a [u8], start: &[u32], len: &[u32], i: usize) -> &'a [u8]
     requires { ⌜ Named (names (now bytes) (now start) (now len)) × (i < length (now start)) ⌝ }
-    ensures { λ r. ⌜ now r ≡ nameAt (names (now (bytes .entry)) (now (start .entry)) (now (len .entry))) i ⌝ }
+    ensures { λ r. ⌜ now r ≡ nameAt (names (was bytes) (was start) (was len)) i ⌝ }
 {
     let s = widen_place(start[i]);
     let e = s + widen_place(len[i]);
@@ -64,7 +65,7 @@ fn read_name<'a>(bytes: &'a [u8], start: &[u32], len: &[u32], i: usize) -> &'a [
 // The name of i is less than that of j.
 fn is_less(bytes: &[u8], start: &[u32], len: &[u32], i: usize, j: usize) -> bool
     requires { ⌜ Named (names (now bytes) (now start) (now len)) × (i < length (now start)) × (j < length (now start)) ⌝ }
-    ensures { λ r. ⌜ r ≡ isLess (byName (names (now (bytes .entry)) (now (start .entry)) (now (len .entry))) i j) ⌝ }
+    ensures { λ r. ⌜ r ≡ isLess (byName (names (was bytes) (was start) (was len)) i j) ⌝ }
 {
     let a = read_name(bytes, start, len, i);
     let b = read_name(bytes, start, len, j);
@@ -78,7 +79,7 @@ fn is_less(bytes: &[u8], start: &[u32], len: &[u32], i: usize, j: usize) -> bool
 // i comes after lo by name, if that is a node.
 fn is_after(bytes: &[u8], start: &[u32], len: &[u32], lo: u16, i: usize) -> bool
     requires { ⌜ Named (names (now bytes) (now start) (now len)) × (i < length (now start)) ⌝ }
-    ensures { λ r. ⌜ r ≡ (leb (length (now (start .entry))) lo || isLess (byName (names (now (bytes .entry)) (now (start .entry)) (now (len .entry))) lo i)) ⌝ }
+    ensures { λ r. ⌜ r ≡ (leb (length (was start)) lo || isLess (byName (names (was bytes) (was start) (was len)) lo i)) ⌝ }
 {
     let k = widen(lo);
     if start.len() <= k {
@@ -90,7 +91,7 @@ fn is_after(bytes: &[u8], start: &[u32], len: &[u32], lo: u16, i: usize) -> bool
 // i comes before hi by name, if that is a node.
 fn is_before(bytes: &[u8], start: &[u32], len: &[u32], hi: u16, i: usize) -> bool
     requires { ⌜ Named (names (now bytes) (now start) (now len)) × (i < length (now start)) ⌝ }
-    ensures { λ r. ⌜ r ≡ (leb (length (now (start .entry))) hi || isLess (byName (names (now (bytes .entry)) (now (start .entry)) (now (len .entry))) i hi)) ⌝ }
+    ensures { λ r. ⌜ r ≡ (leb (length (was start)) hi || isLess (byName (names (was bytes) (was start) (was len)) i hi)) ⌝ }
 {
     let k = widen(hi);
     if start.len() <= k {
@@ -102,7 +103,7 @@ fn is_before(bytes: &[u8], start: &[u32], len: &[u32], hi: u16, i: usize) -> boo
 // i comes after lo and before hi by name.
 fn is_between(bytes: &[u8], start: &[u32], len: &[u32], lo: u16, hi: u16, i: usize) -> bool
     requires { ⌜ Named (names (now bytes) (now start) (now len)) × (i < length (now start)) ⌝ }
-    ensures { λ r. ⌜ r ≡ between (names (now (bytes .entry)) (now (start .entry)) (now (len .entry))) (length (now (start .entry))) lo hi i ⌝ }
+    ensures { λ r. ⌜ r ≡ between (names (was bytes) (was start) (was len)) (length (was start)) lo hi i ⌝ }
 {
     if is_after(bytes, start, len, lo, i) {
         return is_before(bytes, start, len, hi, i);
@@ -122,7 +123,7 @@ fn is_cell(
     r: Seen,
 ) -> bool
     requires { ⌜ (i < length (now left)) × (i < length (now right)) × (i < length (now parent)) × (i < length (now height)) × (l .high ≤ 22) × (r .high ≤ 22) ⌝ }
-    ensures { λ b. ⌜ b ≡ cellOk (lists 0 (now (left .entry)) (now (right .entry)) (now (parent .entry)) (now (height .entry))) i up (l .top) (r .top) (l .high) (r .high) ⌝ }
+    ensures { λ b. ⌜ b ≡ cellOk (lists 0 (was left) (was right) (was parent) (was height)) i up (l .top) (r .top) (l .high) (r .high) ⌝ }
 {
     if left[i] != l.top {
         return false;
@@ -184,7 +185,7 @@ fn look(
     d: usize,
 ) -> Seen
     requires { ⌜ Lent (lists 0 (now left) (now right) (now parent) (now height)) (names (now bytes) (now start) (now len)) (length (now left)) × (d ≤ 22) ⌝ }
-    ensures { λ s. ⌜ Judged s (okTree (lists 0 (now (left .entry)) (now (right .entry)) (now (parent .entry)) (now (height .entry))) (names (now (bytes .entry)) (now (start .entry)) (now (len .entry))) (length (now (left .entry))) (g .lo) (g .hi) (g .up) (treeAt d (now (left .entry)) (now (right .entry)) at)) (treeAt d (now (left .entry)) (now (right .entry)) at) ⌝ }
+    ensures { λ s. ⌜ Judged s (okTree (lists 0 (was left) (was right) (was parent) (was height)) (names (was bytes) (was start) (was len)) (length (was left)) (g .lo) (g .hi) (g .up) (treeAt d (was left) (was right) at)) (treeAt d (was left) (was right) at) ⌝ }
 {
     if d == 0 {
         return see_none(true);
@@ -232,7 +233,7 @@ fn is_whole(
     root: u16,
 ) -> bool
     requires { ⌜ Lent (lists 0 (now left) (now right) (now parent) (now height)) (names (now bytes) (now start) (now len)) (length (now left)) ⌝ }
-    ensures { λ r. ⌜ r ≡ wholeTree (lists root (now (left .entry)) (now (right .entry)) (now (parent .entry)) (now (height .entry))) (names (now (bytes .entry)) (now (start .entry)) (now (len .entry))) (length (now (left .entry))) ⌝ }
+    ensures { λ r. ⌜ r ≡ wholeTree (lists root (was left) (was right) (was parent) (was height)) (names (was bytes) (was start) (was len)) (length (was left)) ⌝ }
 {
     let g = Gap {
         lo: NONE,
@@ -251,7 +252,7 @@ fn is_whole(
 // The name of each node lies inside the lent bytes.
 fn are_inside(bytes: &[u8], start: &[u32], len: &[u32]) -> bool
     requires { ⌜ length (now len) ≡ length (now start) ⌝ }
-    ensures { λ r. ⌜ r ≡ every (inside (names (now (bytes .entry)) (now (start .entry)) (now (len .entry)))) (length (now (start .entry))) ⌝ }
+    ensures { λ r. ⌜ r ≡ every (inside (names (was bytes) (was start) (was len))) (length (was start)) ⌝ }
 {
     let mut i = 0;
     while i < start.len() {
@@ -273,7 +274,7 @@ fn have_places(
     len: &[u32],
     n: usize,
 ) -> bool
-    ensures { λ r. ⌜ r ≡ places (lists 0 (now (left .entry)) (now (right .entry)) (now (parent .entry)) (now (height .entry))) (now (start .entry)) (now (len .entry)) n ⌝ }
+    ensures { λ r. ⌜ r ≡ places (lists 0 (was left) (was right) (was parent) (was height)) (was start) (was len) n ⌝ }
 {
     if left.len() < n {
         return false;
@@ -305,7 +306,7 @@ pub fn is_tree(
     root: u16,
     count: u16,
 ) -> bool
-    ensures { λ r. ⌜ r ≡ holdsTree (lists root (now (left .entry)) (now (right .entry)) (now (parent .entry)) (now (height .entry))) (names (now (bytes .entry)) (now (start .entry)) (now (len .entry))) count ⌝ }
+    ensures { λ r. ⌜ r ≡ holdsTree (lists root (was left) (was right) (was parent) (was height)) (names (was bytes) (was start) (was len)) count ⌝ }
 {
     let n = widen(count);
     if have_places(left, right, parent, height, start, len, n) {

@@ -3,11 +3,12 @@
 ghost use mathlib.Core.Path.{_≡_};
 ghost use Prim.Native.Nat.{_≤_, _<_};
 ghost use lib.ListN.{length};
+ghost use Rattle.units.specs.Lent.{was};
 ghost use Rattle.layout_name.specs.Order.{raisedCopy};
 ghost use Rattle.avl_model.specs.declared.Place.the-variants.{Root};
 ghost use Rattle.avl_model.specs.Tree.{bal, ins};
 ghost use Rattle.avl_model.specs.Rep.{climb};
-ghost use Rattle.avl_model.specs.Lists.{lists, aboveOf, attached};
+ghost use Rattle.avl_model.specs.Lists.{lists, lentLists, aboveOf, attached};
 ghost use Rattle.avl_model.specs.Held.{Ready, Whole};
 ghost use Rattle.avl_model.specs.Names.{names, nameAt, toName, isLess, Inside};
 ghost use Rattle.avl_model.specs.Seek.{spotIn, Sought};
@@ -34,7 +35,7 @@ fn wide(x: u32) -> usize
 // The name of a node.
 pub fn name_of<'a>(bytes: &'a [u8], start: &[u32], len: &[u32], at: u16) -> &'a [u8]
     requires { ⌜ Inside (names (now bytes) (now start) (now len)) at ⌝ }
-    ensures { λ r. ⌜ now r ≡ nameAt (names (now (bytes .entry)) (now (start .entry)) (now (len .entry))) at ⌝ }
+    ensures { λ r. ⌜ now r ≡ nameAt (names (was bytes) (was start) (was len)) at ⌝ }
 {
     let i = index(at);
     let from = wide(start[i]);
@@ -55,8 +56,8 @@ fn descend(
 ) -> Spot
     requires { ⌜ Sought (now left) (now right) root (names (now bytes) (now start) (now len)) ⌝ }
     requires { ⌜ (length (now name) ≤ 255) × (now copy ≡ raisedCopy (now name)) ⌝ }
-    ensures { λ s. ⌜ ((w : Sought (now (left .entry)) (now (right .entry)) root (names (now (bytes .entry)) (now (start .entry)) (now (len .entry)))) →
-        s ≡ spotIn (toName (names (now (bytes .entry)) (now (start .entry)) (now (len .entry))) (now (name .entry))) (w .linked .t) Root) ⌝ }
+    ensures { λ s. ⌜ ((w : Sought (was left) (was right) root (names (was bytes) (was start) (was len))) →
+        s ≡ spotIn (toName (names (was bytes) (was start) (was len)) (was name)) (w .linked .t) Root) ⌝ }
 {
     let mut at = root;
     let mut place = Place::Root;
@@ -90,8 +91,8 @@ pub fn find_spot(
 ) -> Spot
     requires { ⌜ Sought (now left) (now right) root (names (now bytes) (now start) (now len)) ⌝ }
     requires { ⌜ length (now name) ≤ 255 ⌝ }
-    ensures { λ s. ⌜ ((w : Sought (now (left .entry)) (now (right .entry)) root (names (now (bytes .entry)) (now (start .entry)) (now (len .entry)))) →
-        s ≡ spotIn (toName (names (now (bytes .entry)) (now (start .entry)) (now (len .entry))) (now (name .entry))) (w .linked .t) Root) ⌝ }
+    ensures { λ s. ⌜ ((w : Sought (was left) (was right) root (names (was bytes) (was start) (was len))) →
+        s ≡ spotIn (toName (names (was bytes) (was start) (was len)) (was name)) (w .linked .t) Root) ⌝ }
 {
     let copy = raise_name(name);
     descend(left, right, bytes, start, len, root, &copy, name)
@@ -119,7 +120,7 @@ fn attach(
     new: u16,
 )
     requires { ⌜ (new < length (now left)) × (new < length (now right)) × (new < length (now parent)) × (new < length (now height)) ⌝ }
-    ensures { λ _. ⌜ lists (now (root .exit)) (now (left .exit)) (now (right .exit)) (now (parent .exit)) (now (height .exit)) ≡ attached (lists (now (root .entry)) (now (left .entry)) (now (right .entry)) (now (parent .entry)) (now (height .entry))) place new ⌝ }
+    ensures { λ _. let s = lentLists root left right parent height in ⌜ s .exit ≡ attached (s .entry) place new ⌝ }
 {
     put(root, left, right, place, new);
     let i = index(new);
@@ -139,8 +140,8 @@ fn rebalance(
     from: u16,
 )
     requires { ⌜ Ready (lists (now root) (now left) (now right) (now parent) (now height)) from ⌝ }
-    ensures { λ _. ⌜ ((w : Ready (lists (now (root .entry)) (now (left .entry)) (now (right .entry)) (now (parent .entry)) (now (height .entry))) from) →
-        Whole (lists (now (root .exit)) (now (left .exit)) (now (right .exit)) (now (parent .exit)) (now (height .exit))) (length (now (left .entry))) (climb (w .k) (bal (w .l) from (w .r)))) ⌝ }
+    ensures { λ _. let s = lentLists root left right parent height in
+        ⌜ ((w : Ready (s .entry) from) → Whole (s .exit) (length (was left)) (climb (w .k) (bal (w .l) from (w .r)))) ⌝ }
 {
     let mut at = from;
     while at < NONE {
@@ -166,8 +167,9 @@ pub fn put_in(
     new: u16,
 )
     requires { ⌜ Placed (lists (now root) (now left) (now right) (now parent) (now height)) place new ⌝ }
-    ensures { λ _. ⌜ ((w : Placed (lists (now (root .entry)) (now (left .entry)) (now (right .entry)) (now (parent .entry)) (now (height .entry))) place new) →
-        Whole (lists (now (root .exit)) (now (left .exit)) (now (right .exit)) (now (parent .exit)) (now (height .exit))) (length (now (left .entry))) (ins (λ i. isLess (w .by i)) new (w .arena .t))) ⌝ }
+    ensures { λ _. let s = lentLists root left right parent height in
+        ⌜ ((w : Placed (s .entry) place new) →
+        Whole (s .exit) (length (was left)) (ins (λ i. isLess (w .by i)) new (w .arena .t))) ⌝ }
 {
     attach(root, left, right, parent, height, place, new);
     rebalance(root, left, right, parent, height, new);
@@ -188,10 +190,10 @@ pub fn insert(
 ) -> Inserted
     requires { ⌜ Filled (lists (now root) (now left) (now right) (now parent) (now height)) (names (now bytes) (now start) (now len)) new ⌝ }
     requires { ⌜ length (now name) ≤ 255 ⌝ }
-    ensures { λ r. ⌜ ((w : Filled (lists (now (root .entry)) (now (left .entry)) (now (right .entry)) (now (parent .entry)) (now (height .entry))) (names (now (bytes .entry)) (now (start .entry)) (now (len .entry))) new) →
-        Out (lists (now (root .entry)) (now (left .entry)) (now (right .entry)) (now (parent .entry)) (now (height .entry)))
-        (lists (now (root .exit)) (now (left .exit)) (now (right .exit)) (now (parent .exit)) (now (height .exit)))
-        (toName (names (now (bytes .entry)) (now (start .entry)) (now (len .entry))) (now (name .entry))) new (w .arena .t) r) ⌝ }
+    ensures { λ r.
+        let s = lentLists root left right parent height in
+        let n = names (was bytes) (was start) (was len) in
+        ⌜ ((w : Filled (s .entry) n new) → Out (s .entry) (s .exit) (toName n (was name)) new (w .arena .t) r) ⌝ }
 {
     let spot = find_spot(left, right, bytes, start, len, *root, name);
     match spot {

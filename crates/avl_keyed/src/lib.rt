@@ -3,6 +3,7 @@ ghost use mathlib.Core.Path.{_≡_};
 ghost use Prim.Native.Nat.{_≤_, _<_};
 ghost use lib.ListN.{length};
 ghost use Rattle.units.specs.Told.{pick};
+ghost use Rattle.units.specs.Lent.{was};
 ghost use Rattle.layout_name.specs.Order.{raisedCopy};
 ghost use Rattle.avl_model.specs.declared.Place.the-variants.{Root};
 ghost use Rattle.avl_model.specs.declared.Spot.the-variants.{Free};
@@ -25,7 +26,7 @@ fn wide(x: u8) -> u32
 
 // The first four bytes of a raised copy as one number, the first one highest.
 pub fn key_of(copy: &[u8; 255]) -> u32
-    ensures { λ r. ⌜ r ≡ keyOf (now (copy .entry)) ⌝ }
+    ensures { λ r. ⌜ r ≡ keyOf (was copy) ⌝ }
 {
     16777216 * wide(copy[0]) + 65536 * wide(copy[1]) + 256 * wide(copy[2]) + wide(copy[3])
 }
@@ -68,8 +69,8 @@ pub fn seek(
     requires { ⌜ KeySought (now left) (now right) (now key) root (names (now bytes) (now start) (now len)) ⌝ }
     requires { ⌜ (length (now name) ≤ 255) × (now copy ≡ raisedCopy (now name)) ⌝ }
     requires { ⌜ k ≡ keyFor (now name) ⌝ }
-    ensures { λ s. ⌜ ((w : KeySought (now (left .entry)) (now (right .entry)) (now (key .entry)) root (names (now (bytes .entry)) (now (start .entry)) (now (len .entry)))) →
-        s ≡ spotIn (toName (names (now (bytes .entry)) (now (start .entry)) (now (len .entry))) (now (name .entry))) (w .linked .t) Root) ⌝ }
+    ensures { λ s. ⌜ ((w : KeySought (was left) (was right) (was key) root (names (was bytes) (was start) (was len))) →
+        s ≡ spotIn (toName (names (was bytes) (was start) (was len)) (was name)) (w .linked .t) Root) ⌝ }
 {
     let mut at = root;
     let mut above = NONE;

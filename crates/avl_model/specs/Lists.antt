@@ -6,6 +6,8 @@ use mathlib.Core.Path.{_≡_}
 use mathlib.Core.List.{List}
 use lib.ListN.{length, getD, set}
 use lib.Dec.{ltb, eqb}
+use denote.Triple.Both.{Both}
+use Rattle.units.specs.Lent.{Cell, Slice, was, is}
 use Rattle.avl_model.specs.declared.Place.{Place}
 use Rattle.avl_model.specs.declared.Direction.{Direction}
 use Rattle.avl_model.specs.declared.Direction.the-variants.{Left as ToLeft, Leaf, Right as ToRight}
@@ -66,6 +68,13 @@ pub record Lists : Type 0 where
 -- the root and the lists left, right, parent and height
 abbrev pub lists : ℕ → List ℕ → List ℕ → List ℕ → List ℕ → Lists
 lists t l r p h = record { root = t; L = l; R = r; P = p; H = h }
+
+-- the same as they are lent: at the call, and at the return
+abbrev pub lentLists : Cell → Slice → Slice → Slice → Slice → Both Lists Lists
+lentLists t l r p h = record {
+  entry = lists (was t) (was l) (was r) (was p) (was h);
+  exit = lists (is t) (is l) (is r) (is p) (is h);
+}
 
 -- the heights of three nodes made anew, one after the other
 abbrev pub risen3 : List ℕ → List ℕ → List ℕ → ℕ → ℕ → ℕ → List ℕ

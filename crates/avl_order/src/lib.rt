@@ -3,6 +3,7 @@ ghost use mathlib.Core.Path.{_≡_};
 ghost use Prim.Native.Nat.{_<_, _≤_};
 ghost use mathlib.Core.List.{_++_};
 ghost use lib.ListN.{length, drop};
+ghost use Rattle.units.specs.Lent.{was, is};
 ghost use Rattle.avl_model.specs.Laws.{size};
 ghost use Rattle.avl_model.specs.Order.{order, Listed};
 ghost use Rattle.avl_order.specs.Held.{heldBy};
@@ -29,7 +30,7 @@ fn count_node(link: u16) -> usize
 // are enough for a tree that is 22 high.
 pub fn preorder(left: &[u16], right: &[u16], root: u16, list: &mut [u16])
     requires { ⌜ Listed (now left) (now right) root (length (now list)) ⌝ }
-    ensures { λ _. ⌜ ((w : Listed (now (left .entry)) (now (right .entry)) root (length (now (list .entry)))) → now (list .exit) ≡ order (w .t) ++ drop (size (w .t)) (now (list .entry))) ⌝ }
+    ensures { λ _. ⌜ ((w : Listed (was left) (was right) root (length (was list))) → is list ≡ order (w .t) ++ drop (size (w .t)) (was list)) ⌝ }
 {
     let mut stack = [0u16; 23];
     stack[0] = root;

@@ -3,9 +3,10 @@
 ghost use mathlib.Core.Path.{_≡_};
 ghost use Prim.Native.Nat.{ℕ, _<_, max};
 ghost use lib.ListN.{length, getD, set};
+ghost use Rattle.units.specs.Lent.{was, is};
 ghost use Rattle.avl_model.specs.Tree.{node, turnLeft, bal};
 ghost use Rattle.avl_model.specs.Held.{Heavy, Ready, Up};
-ghost use Rattle.avl_model.specs.Lists.{risen, tiltOf, placeOf, putRoot, putLeft, putRight, lists, lRotated, rlRotated, risen3, Three};
+ghost use Rattle.avl_model.specs.Lists.{risen, tiltOf, placeOf, putRoot, putLeft, putRight, lists, lentLists, lRotated, rlRotated, risen3, Three};
 use avl_model::Direction;
 use avl_model::Place;
 
@@ -18,7 +19,7 @@ pub fn index(x: u16) -> usize
 
 // The height that is held for a node, and 0 for none.
 fn height_of(height: &[u8], at: u16) -> u8
-    ensures { λ r. ⌜ r ≡ getD (now (height .entry)) at 0 ⌝ }
+    ensures { λ r. ⌜ r ≡ getD (was height) at 0 ⌝ }
 {
     let i = index(at);
     if i < height.len() { height[i] } else { 0 }
@@ -34,7 +35,7 @@ fn taller(l: u8, r: u8) -> u8
 fn update_height(left: &[u16], right: &[u16], height: &mut [u8], at: u16)
     requires { ⌜ (at < length (now left)) × (at < length (now right)) × (at < length (now height)) ⌝ }
     requires { ⌜ ((j : ℕ) → getD (now height) j 0 < 140) ⌝ }
-    ensures { λ _. ⌜ now (height .exit) ≡ risen (now (left .entry)) (now (right .entry)) (now (height .entry)) at ⌝ }
+    ensures { λ _. ⌜ is height ≡ risen (was left) (was right) (was height) at ⌝ }
 {
     let i = index(at);
     let l = height_of(height, left[i]);
@@ -47,7 +48,7 @@ fn update_height(left: &[u16], right: &[u16], height: &mut [u8], at: u16)
 fn update_heights(left: &[u16], right: &[u16], height: &mut [u8], i: u16, j: u16, k: u16)
     requires { ⌜ Three (length (now left)) (length (now right)) (length (now height)) i j k ⌝ }
     requires { ⌜ ((j : ℕ) → getD (now height) j 0 < 120) ⌝ }
-    ensures { λ _. ⌜ now (height .exit) ≡ risen3 (now (left .entry)) (now (right .entry)) (now (height .entry)) i j k ⌝ }
+    ensures { λ _. ⌜ is height ≡ risen3 (was left) (was right) (was height) i j k ⌝ }
 {
     update_height(left, right, height, i);
     update_height(left, right, height, j);
@@ -71,8 +72,8 @@ fn tilt(l: u8, r: u8) -> Direction
 // The child of a node on one side is now `to`. With the column left it sets the left child, with the column right the right one.
 fn set_child(side: &mut [u16], parent: &mut [u16], node: u16, to: u16)
     requires { ⌜ node < length (now side) ⌝ }
-    ensures { λ _. ⌜ now (side .exit) ≡ set (now (side .entry)) node to ⌝ }
-    ensures { λ _. ⌜ now (parent .exit) ≡ set (now (parent .entry)) to node ⌝ }
+    ensures { λ _. ⌜ is side ≡ set (was side) node to ⌝ }
+    ensures { λ _. ⌜ is parent ≡ set (was parent) to node ⌝ }
 {
     let i = index(node);
     side[i] = to;
@@ -85,7 +86,7 @@ fn set_child(side: &mut [u16], parent: &mut [u16], node: u16, to: u16)
 // Where the subtree of a node hangs.
 fn place_of(left: &[u16], parent: &[u16], at: u16) -> Place
     requires { ⌜ at < length (now parent) ⌝ }
-    ensures { λ r. ⌜ r ≡ placeOf (now (left .entry)) (now (parent .entry)) at ⌝ }
+    ensures { λ r. ⌜ r ≡ placeOf (was left) (was parent) at ⌝ }
 {
     let i = index(at);
     let p = parent[i];
@@ -103,9 +104,9 @@ fn place_of(left: &[u16], parent: &[u16], at: u16) -> Place
 
 // What hangs at a place is now `to`.
 pub fn put(root: &mut u16, left: &mut [u16], right: &mut [u16], place: Place, to: u16)
-    ensures { λ _. ⌜ now (root .exit) ≡ putRoot place to (now (root .entry)) ⌝ }
-    ensures { λ _. ⌜ now (left .exit) ≡ putLeft place to (now (left .entry)) ⌝ }
-    ensures { λ _. ⌜ now (right .exit) ≡ putRight place to (now (right .entry)) ⌝ }
+    ensures { λ _. ⌜ is root ≡ putRoot place to (was root) ⌝ }
+    ensures { λ _. ⌜ is left ≡ putLeft place to (was left) ⌝ }
+    ensures { λ _. ⌜ is right ≡ putRight place to (was right) ⌝ }
 {
     match place {
         Place::Root => {
@@ -129,10 +130,10 @@ pub fn put(root: &mut u16, left: &mut [u16], right: &mut [u16], place: Place, to
 // b hangs where a hung, and has a's parent.
 fn hang(root: &mut u16, left: &mut [u16], right: &mut [u16], parent: &mut [u16], a: u16, b: u16)
     requires { ⌜ (a < length (now parent)) × (b < length (now parent)) ⌝ }
-    ensures { λ _. ⌜ now (root .exit) ≡ putRoot (placeOf (now (left .entry)) (now (parent .entry)) a) b (now (root .entry)) ⌝ }
-    ensures { λ _. ⌜ now (left .exit) ≡ putLeft (placeOf (now (left .entry)) (now (parent .entry)) a) b (now (left .entry)) ⌝ }
-    ensures { λ _. ⌜ now (right .exit) ≡ putRight (placeOf (now (left .entry)) (now (parent .entry)) a) b (now (right .entry)) ⌝ }
-    ensures { λ _. ⌜ now (parent .exit) ≡ set (now (parent .entry)) b (getD (now (parent .entry)) a 0) ⌝ }
+    ensures { λ _. ⌜ is root ≡ putRoot (placeOf (was left) (was parent) a) b (was root) ⌝ }
+    ensures { λ _. ⌜ is left ≡ putLeft (placeOf (was left) (was parent) a) b (was left) ⌝ }
+    ensures { λ _. ⌜ is right ≡ putRight (placeOf (was left) (was parent) a) b (was right) ⌝ }
+    ensures { λ _. ⌜ is parent ≡ set (was parent) b (getD (was parent) a 0) ⌝ }
 {
     let place = place_of(left, parent, a);
     put(root, left, right, place, b);
@@ -156,7 +157,7 @@ fn l_rotate(
     requires { ⌜ Three (length (now left)) (length (now right)) (length (now height)) a b c ⌝ }
     requires { ⌜ length (now parent) ≡ length (now left) ⌝ }
     requires { ⌜ ((j : ℕ) → getD (now height) j 0 < 120) ⌝ }
-    ensures { λ _. ⌜ lists (now (root .exit)) (now (left .exit)) (now (right .exit)) (now (parent .exit)) (now (height .exit)) ≡ lRotated (lists (now (root .entry)) (now (left .entry)) (now (right .entry)) (now (parent .entry)) (now (height .entry))) a b c ⌝ }
+    ensures { λ _. let s = lentLists root left right parent height in ⌜ s .exit ≡ lRotated (s .entry) a b c ⌝ }
 {
     hang(root, left, right, parent, a, b);
     let i = index(b);
@@ -180,7 +181,7 @@ fn rl_rotate(
     requires { ⌜ Three (length (now left)) (length (now right)) (length (now height)) a b c ⌝ }
     requires { ⌜ length (now parent) ≡ length (now left) ⌝ }
     requires { ⌜ ((j : ℕ) → getD (now height) j 0 < 120) ⌝ }
-    ensures { λ _. ⌜ lists (now (root .exit)) (now (left .exit)) (now (right .exit)) (now (parent .exit)) (now (height .exit)) ≡ rlRotated (lists (now (root .entry)) (now (left .entry)) (now (right .entry)) (now (parent .entry)) (now (height .entry))) a b c ⌝ }
+    ensures { λ _. let s = lentLists root left right parent height in ⌜ s .exit ≡ rlRotated (s .entry) a b c ⌝ }
 {
     hang(root, left, right, parent, a, c);
     let i = index(c);
@@ -205,8 +206,9 @@ fn turn(
     b: u16,
 ) -> u16
     requires { ⌜ Heavy (lists (now root) (now near) (now far) (now parent) (now height)) a b ⌝ }
-    ensures { λ t. ⌜ ((w : Heavy (lists (now (root .entry)) (now (near .entry)) (now (far .entry)) (now (parent .entry)) (now (height .entry))) a b) →
-        Up (lists (now (root .exit)) (now (near .exit)) (now (far .exit)) (now (parent .exit)) (now (height .exit))) (length (now (near .entry))) t (turnLeft (w .x) a (node (w .y) b (w .z))) (w .k) (w .hh)) ⌝ }
+    ensures { λ t. let s = lentLists root near far parent height in
+        ⌜ ((w : Heavy (s .entry) a b) →
+        Up (s .exit) (length (was near)) t (turnLeft (w .x) a (node (w .y) b (w .z))) (w .k) (w .hh)) ⌝ }
 {
     let i = index(b);
     let y = near[i];
@@ -230,8 +232,8 @@ pub fn settle(
     at: u16,
 ) -> u16
     requires { ⌜ Ready (lists (now root) (now left) (now right) (now parent) (now height)) at ⌝ }
-    ensures { λ t. ⌜ ((w : Ready (lists (now (root .entry)) (now (left .entry)) (now (right .entry)) (now (parent .entry)) (now (height .entry))) at) →
-        Up (lists (now (root .exit)) (now (left .exit)) (now (right .exit)) (now (parent .exit)) (now (height .exit))) (length (now (left .entry))) t (bal (w .l) at (w .r)) (w .k) (w .hh)) ⌝ }
+    ensures { λ t. let s = lentLists root left right parent height in
+        ⌜ ((w : Ready (s .entry) at) → Up (s .exit) (length (was left)) t (bal (w .l) at (w .r)) (w .k) (w .hh)) ⌝ }
 {
     update_height(left, right, height, at);
     let i = index(at);

@@ -28,9 +28,10 @@ ghost use mathlib.Core.Path.{_≡_};
 ghost use Prim.Native.Nat.{min, _+_};
 ghost use lib.ListN.{length, take, drop};
 ghost use Rattle.units.specs.Told.{numberOf};
+ghost use Rattle.units.specs.Lent.{was, is};
 ghost use Rattle.dirtab.specs.Serialise as serialising;
 ghost use Rattle.dirtab_add.specs.Add as adding;
-ghost use Rattle.dirtab_arena.specs.Arena.{arena, columns};
+ghost use Rattle.dirtab_arena.specs.Arena.{arenaIn, lentColumns};
 ghost use Rattle.dirtab_list.specs.Whole as whole;
 ghost use Rattle.img.specs.Image as image;
 ghost use Rattle.layout_sector.specs.Counter as sectors;
@@ -65,9 +66,11 @@ fn region_of(sector: u32, size: u32) -> Region
 // Reads the volume descriptor that the bytes start with: sector and size of the root table. 20.
 #[no_mangle]
 pub extern "C" fn xdvdfs_read_descriptor(s: &[u8], sector: &mut u32, size: &mut u32) -> u32
-    ensures { λ n. ⌜ n ≡ numberOf (volume.readOf (now (s .entry))) ⌝ }
-    ensures { λ _. ⌜ now (sector .exit) ≡ ofGiven rootSector (volume.readOf (now (s .entry))) (now (sector .entry)) ⌝ }
-    ensures { λ _. ⌜ now (size .exit) ≡ ofGiven rootSize (volume.readOf (now (s .entry))) (now (size .entry)) ⌝ }
+    ensures { λ n.
+        let answer = volume.readOf (was s) in
+        ⌜ n ≡ numberOf answer ⌝
+        ∗ ⌜ is sector ≡ ofGiven rootSector answer (was sector) ⌝
+        ∗ ⌜ is size ≡ ofGiven rootSize answer (was size) ⌝ }
 {
     store_descriptor(xdvdfs::read_descriptor(s), sector, size)
 }
@@ -84,10 +87,12 @@ pub extern "C" fn xdvdfs_read_entry(
     fields: &mut [u32; 6],
     place: &mut usize,
 ) -> u32
-    ensures { λ n. ⌜ n ≡ numberOf (entry.readAt (now (w .entry)) (sectorOf first) (regionOf sector size) offset) ⌝ }
-    ensures { λ _. ⌜ now (found .exit) ≡ ofGiven isSome (entry.readAt (now (w .entry)) (sectorOf first) (regionOf sector size) offset) (now (found .entry)) ⌝ }
-    ensures { λ _. ⌜ now (fields .exit) ≡ ofSome placedFields (entry.readAt (now (w .entry)) (sectorOf first) (regionOf sector size) offset) (now (fields .entry)) ⌝ }
-    ensures { λ _. ⌜ now (place .exit) ≡ ofSome placedAt (entry.readAt (now (w .entry)) (sectorOf first) (regionOf sector size) offset) (now (place .entry)) ⌝ }
+    ensures { λ n.
+        let answer = entry.readAt (was w) (sectorOf first) (regionOf sector size) offset in
+        ⌜ n ≡ numberOf answer ⌝
+        ∗ ⌜ is found ≡ ofGiven isSome answer (was found) ⌝
+        ∗ ⌜ is fields ≡ ofSome placedFields answer (was fields) ⌝
+        ∗ ⌜ is place ≡ ofSome placedAt answer (was place) ⌝ }
 {
     let r = xdvdfs::read_entry(
         w,
@@ -120,9 +125,9 @@ pub extern "C" fn xdvdfs_entry_name(
     start: &mut usize,
     len: &mut usize,
 )
-    ensures { λ _. ⌜ now (start .exit) ≡ nameStart (now (w .entry)) place ⌝ }
-    ensures { λ _. ⌜ now (len .exit) ≡ length (entry.nameOf (now (w .entry)) place n) ⌝ }
-    ensures { λ _. ⌜ take (now (len .exit)) (drop (now (start .exit)) (now (w .entry))) ≡ entry.nameOf (now (w .entry)) place n ⌝ }
+    ensures { λ _. ⌜ is start ≡ nameStart (was w) place ⌝ }
+    ensures { λ _. ⌜ is len ≡ length (entry.nameOf (was w) place n) ⌝ }
+    ensures { λ _. ⌜ take (is len) (drop (is start) (was w)) ≡ entry.nameOf (was w) place n ⌝ }
 {
     *start = name_start(w.len(), place);
     let name = xdvdfs::entry_name(w, place, n);
@@ -143,11 +148,13 @@ pub extern "C" fn xdvdfs_look_up(
     offset: &mut u32,
     headers: &mut u32,
 ) -> u32
-    ensures { λ n. ⌜ n ≡ numberOf (lookup.lookupOf (now (w .entry)) (sectorOf first) (regionOf sector size) (now (name .entry))) ⌝ }
-    ensures { λ _. ⌜ now (fields .exit) ≡ ofGiven foundFields (lookup.lookupOf (now (w .entry)) (sectorOf first) (regionOf sector size) (now (name .entry))) (now (fields .entry)) ⌝ }
-    ensures { λ _. ⌜ now (place .exit) ≡ ofGiven foundPlace (lookup.lookupOf (now (w .entry)) (sectorOf first) (regionOf sector size) (now (name .entry))) (now (place .entry)) ⌝ }
-    ensures { λ _. ⌜ now (offset .exit) ≡ ofRefusal atOffset (lookup.lookupOf (now (w .entry)) (sectorOf first) (regionOf sector size) (now (name .entry))) (ofGiven foundOffset (lookup.lookupOf (now (w .entry)) (sectorOf first) (regionOf sector size) (now (name .entry))) (now (offset .entry))) ⌝ }
-    ensures { λ _. ⌜ now (headers .exit) ≡ ofRefusal afterHeaders (lookup.lookupOf (now (w .entry)) (sectorOf first) (regionOf sector size) (now (name .entry))) (ofGiven foundHeaders (lookup.lookupOf (now (w .entry)) (sectorOf first) (regionOf sector size) (now (name .entry))) (now (headers .entry))) ⌝ }
+    ensures { λ n.
+        let answer = lookup.lookupOf (was w) (sectorOf first) (regionOf sector size) (was name) in
+        ⌜ n ≡ numberOf answer ⌝
+        ∗ ⌜ is fields ≡ ofGiven foundFields answer (was fields) ⌝
+        ∗ ⌜ is place ≡ ofGiven foundPlace answer (was place) ⌝
+        ∗ ⌜ is offset ≡ ofRefusal atOffset answer (ofGiven foundOffset answer (was offset)) ⌝
+        ∗ ⌜ is headers ≡ ofRefusal afterHeaders answer (ofGiven foundHeaders answer (was headers)) ⌝ }
 {
     let r = xdvdfs::look_up(w, sector_of(first), region_of(sector, size), name);
     store_looked(r, fields, place, offset, headers)
@@ -165,10 +172,12 @@ pub extern "C" fn xdvdfs_find_path(
     place: &mut usize,
     offset: &mut u32,
 ) -> u32
-    ensures { λ n. ⌜ n ≡ numberOf (following.pathOf (now (w .entry)) (sectorOf first) (regionOf sector size) (now (path .entry))) ⌝ }
-    ensures { λ _. ⌜ now (fields .exit) ≡ ofGiven placedFields (following.pathOf (now (w .entry)) (sectorOf first) (regionOf sector size) (now (path .entry))) (now (fields .entry)) ⌝ }
-    ensures { λ _. ⌜ now (place .exit) ≡ ofGiven placedAt (following.pathOf (now (w .entry)) (sectorOf first) (regionOf sector size) (now (path .entry))) (now (place .entry)) ⌝ }
-    ensures { λ _. ⌜ now (offset .exit) ≡ ofRefusal atOffset (following.pathOf (now (w .entry)) (sectorOf first) (regionOf sector size) (now (path .entry))) (now (offset .entry)) ⌝ }
+    ensures { λ n.
+        let answer = following.pathOf (was w) (sectorOf first) (regionOf sector size) (was path) in
+        ⌜ n ≡ numberOf answer ⌝
+        ∗ ⌜ is fields ≡ ofGiven placedFields answer (was fields) ⌝
+        ∗ ⌜ is place ≡ ofGiven placedAt answer (was place) ⌝
+        ∗ ⌜ is offset ≡ ofRefusal atOffset answer (was offset) ⌝ }
 {
     let r = xdvdfs::find_path(w, sector_of(first), region_of(sector, size), path);
     store_path(r, fields, place, offset)
@@ -186,11 +195,14 @@ pub extern "C" fn xdvdfs_walk(
     count: &mut usize,
     offset: &mut u32,
 ) -> u32
-    ensures { λ n. ⌜ n ≡ numberOf (walking.walkAnswer (now (w .entry)) (sectorOf first) (regionOf sector size) (length (now (list .entry))) (length (now (scratch .entry)))) ⌝ }
-    ensures { λ _. ⌜ now (count .exit) ≡ ofGiven itself (walking.walkAnswer (now (w .entry)) (sectorOf first) (regionOf sector size) (length (now (list .entry))) (length (now (scratch .entry)))) (now (count .entry)) ⌝ }
-    ensures { λ _. ⌜ now (offset .exit) ≡ ofRefusal atOffset (walking.walkAnswer (now (w .entry)) (sectorOf first) (regionOf sector size) (length (now (list .entry))) (length (now (scratch .entry)))) (now (offset .entry)) ⌝ }
-    ensures { λ _. ⌜ now (list .exit) ≡ walking.listAfter (now (w .entry)) (sectorOf first) (regionOf sector size) (now (list .entry)) (length (now (scratch .entry))) ⌝ }
-    ensures { λ _. ⌜ now (scratch .exit) ≡ walking.scratchAfter (length (now (list .entry))) (now (scratch .entry)) ⌝ }
+    ensures { λ n.
+        let table = regionOf sector size in
+        let answer = walking.walkAnswer (was w) (sectorOf first) table (length (was list)) (length (was scratch)) in
+        ⌜ n ≡ numberOf answer ⌝
+        ∗ ⌜ is count ≡ ofGiven itself answer (was count) ⌝
+        ∗ ⌜ is offset ≡ ofRefusal atOffset answer (was offset) ⌝
+        ∗ ⌜ is list ≡ walking.listAfter (was w) (sectorOf first) table (was list) (length (was scratch)) ⌝
+        ∗ ⌜ is scratch ≡ walking.scratchAfter (length (was list)) (was scratch) ⌝ }
 {
     let r = xdvdfs::walk(w, sector_of(first), region_of(sector, size), list, scratch);
     store_walked(r, count, offset)
@@ -208,11 +220,14 @@ pub extern "C" fn xdvdfs_check_table(
     count: &mut usize,
     offset: &mut u32,
 ) -> u32
-    ensures { λ n. ⌜ n ≡ numberOf (checking.strictAnswer (now (w .entry)) (sectorOf first) (regionOf sector size) (length (now (list .entry))) (length (now (scratch .entry)))) ⌝ }
-    ensures { λ _. ⌜ now (count .exit) ≡ ofGiven itself (checking.strictAnswer (now (w .entry)) (sectorOf first) (regionOf sector size) (length (now (list .entry))) (length (now (scratch .entry)))) (now (count .entry)) ⌝ }
-    ensures { λ _. ⌜ now (offset .exit) ≡ ofRefusal atFault (checking.strictAnswer (now (w .entry)) (sectorOf first) (regionOf sector size) (length (now (list .entry))) (length (now (scratch .entry)))) (now (offset .entry)) ⌝ }
-    ensures { λ _. ⌜ now (list .exit) ≡ checking.listAfter (now (w .entry)) (sectorOf first) (regionOf sector size) (now (list .entry)) (length (now (scratch .entry))) ⌝ }
-    ensures { λ _. ⌜ now (scratch .exit) ≡ checking.scratchAfter (length (now (list .entry))) (now (scratch .entry)) ⌝ }
+    ensures { λ n.
+        let table = regionOf sector size in
+        let answer = checking.strictAnswer (was w) (sectorOf first) table (length (was list)) (length (was scratch)) in
+        ⌜ n ≡ numberOf answer ⌝
+        ∗ ⌜ is count ≡ ofGiven itself answer (was count) ⌝
+        ∗ ⌜ is offset ≡ ofRefusal atFault answer (was offset) ⌝
+        ∗ ⌜ is list ≡ checking.listAfter (was w) (sectorOf first) table (was list) (length (was scratch)) ⌝
+        ∗ ⌜ is scratch ≡ checking.scratchAfter (length (was list)) (was scratch) ⌝ }
 {
     let r = xdvdfs::check_table(w, sector_of(first), region_of(sector, size), list, scratch);
     store_checked(r, count, offset)
@@ -223,8 +238,8 @@ pub extern "C" fn xdvdfs_check_table(
 // Writes a volume descriptor into the first 2,048 bytes of the output. 9.
 #[no_mangle]
 pub extern "C" fn xdvdfs_write_descriptor(out: &mut [u8], sector: u32, size: u32) -> u32
-    ensures { λ n. ⌜ n ≡ numberOf (volume.writeOf (now (out .entry))) ⌝ }
-    ensures { λ _. ⌜ now (out .exit) ≡ volume.bytesAfter (now (out .entry)) (descriptorOf sector size) ⌝ }
+    ensures { λ n. ⌜ n ≡ numberOf (volume.writeOf (was out)) ⌝ }
+    ensures { λ _. ⌜ is out ≡ volume.bytesAfter (was out) (descriptorOf sector size) ⌝ }
 {
     let d = Descriptor {
         root: region_of(sector, size),
@@ -251,9 +266,11 @@ pub extern "C" fn xdvdfs_required_sectors(length: u64) -> u64
 // Takes the sectors of a length from the next free one on: the first of them, and the next free one after them. 8.
 #[no_mangle]
 pub extern "C" fn xdvdfs_take_sectors(next: &mut u32, length: u64, start: &mut u32) -> u32
-    ensures { λ n. ⌜ n ≡ numberOf (sectors.takeOf 1 (now (next .entry)) length) ⌝ }
-    ensures { λ _. ⌜ now (next .exit) ≡ ofGiven runFree (sectors.takeOf 1 (now (next .entry)) length) (now (next .entry)) ⌝ }
-    ensures { λ _. ⌜ now (start .exit) ≡ ofGiven runStart (sectors.takeOf 1 (now (next .entry)) length) (now (start .entry)) ⌝ }
+    ensures { λ n.
+        let answer = sectors.takeOf 1 (was next) length in
+        ⌜ n ≡ numberOf answer ⌝
+        ∗ ⌜ is next ≡ ofGiven runFree answer (was next) ⌝
+        ∗ ⌜ is start ≡ ofGiven runStart answer (was start) ⌝ }
 {
     let counter = SectorCounter::starting_at(sector_of(*next));
     store_taken(counter.take(length), next, start)
@@ -278,11 +295,15 @@ pub extern "C" fn xdvdfs_add(
     entry_kind: u8,
     entry_size: u32,
 ) -> u32
-    ensures { λ n. ⌜ n ≡ numberOf (adding.addOf (arena (now (root .entry)) (now (count .entry)) (columns (now (left .entry)) (now (right .entry)) (now (parent .entry)) (now (height .entry)) (now (start .entry)) (now (len .entry)) (now (size .entry)) (now (kind .entry))) (now (names .entry))) (entryOf «name_start» «name_len» «entry_kind» «entry_size»)) ⌝ }
-    ensures { λ _. ⌜ now (root .exit) ≡ ofGiven grownRoot (adding.addOf (arena (now (root .entry)) (now (count .entry)) (columns (now (left .entry)) (now (right .entry)) (now (parent .entry)) (now (height .entry)) (now (start .entry)) (now (len .entry)) (now (size .entry)) (now (kind .entry))) (now (names .entry))) (entryOf «name_start» «name_len» «entry_kind» «entry_size»)) (now (root .entry)) ⌝ }
-    ensures { λ _. ⌜ now (count .exit) ≡ ofGiven grownCount (adding.addOf (arena (now (root .entry)) (now (count .entry)) (columns (now (left .entry)) (now (right .entry)) (now (parent .entry)) (now (height .entry)) (now (start .entry)) (now (len .entry)) (now (size .entry)) (now (kind .entry))) (now (names .entry))) (entryOf «name_start» «name_len» «entry_kind» «entry_size»)) (now (count .entry)) ⌝ }
-    ensures { λ _. ⌜ columns (now (left .exit)) (now (right .exit)) (now (parent .exit)) (now (height .exit)) (now (start .exit)) (now (len .exit)) (now (size .exit)) (now (kind .exit))
-        ≡ adding.columnsAfter (arena (now (root .entry)) (now (count .entry)) (columns (now (left .entry)) (now (right .entry)) (now (parent .entry)) (now (height .entry)) (now (start .entry)) (now (len .entry)) (now (size .entry)) (now (kind .entry))) (now (names .entry))) (entryOf «name_start» «name_len» «entry_kind» «entry_size») ⌝ }
+    ensures { λ n.
+        let A = arenaIn (was root) (was count) left right parent height start len size kind names in
+        let c = lentColumns left right parent height start len size kind in
+        let entry = entryOf «name_start» «name_len» «entry_kind» «entry_size» in
+        let answer = adding.addOf A entry in
+        ⌜ n ≡ numberOf answer ⌝
+        ∗ ⌜ is root ≡ ofGiven grownRoot answer (was root) ⌝
+        ∗ ⌜ is count ≡ ofGiven grownCount answer (was count) ⌝
+        ∗ ⌜ c .exit ≡ adding.columnsAfter A entry ⌝ }
 {
     let tree = Held {
         root: *root,
@@ -331,12 +352,14 @@ pub extern "C" fn xdvdfs_serialise(
     table_size: &mut u32,
     free: &mut u32,
 ) -> u32
-    ensures { λ n. ⌜ n ≡ numberOf (serialising.serialiseOf (arena root count (columns (now (left .entry)) (now (right .entry)) (now (parent .entry)) (now (height .entry)) (now (start .entry)) (now (len .entry)) (now (size .entry)) (now (kind .entry))) (now (names .entry))) first (length (now (order .entry))) (length (now (place .entry))) (length (now (out .entry)))) ⌝ }
-    ensures { λ _. ⌜ now («table_size» .exit) ≡ ofGiven tableSize (serialising.serialiseOf (arena root count (columns (now (left .entry)) (now (right .entry)) (now (parent .entry)) (now (height .entry)) (now (start .entry)) (now (len .entry)) (now (size .entry)) (now (kind .entry))) (now (names .entry))) first (length (now (order .entry))) (length (now (place .entry))) (length (now (out .entry)))) (now («table_size» .entry)) ⌝ }
-    ensures { λ _. ⌜ now (free .exit) ≡ ofGiven nextFree (serialising.serialiseOf (arena root count (columns (now (left .entry)) (now (right .entry)) (now (parent .entry)) (now (height .entry)) (now (start .entry)) (now (len .entry)) (now (size .entry)) (now (kind .entry))) (now (names .entry))) first (length (now (order .entry))) (length (now (place .entry))) (length (now (out .entry)))) (now (free .entry)) ⌝ }
-    ensures { λ _. ⌜ now (out .exit) ≡ serialising.outAfter (arena root count (columns (now (left .entry)) (now (right .entry)) (now (parent .entry)) (now (height .entry)) (now (start .entry)) (now (len .entry)) (now (size .entry)) (now (kind .entry))) (now (names .entry))) first (length (now (order .entry))) (length (now (place .entry))) (now (out .entry)) ⌝ }
-    ensures { λ _. ⌜ now (order .exit) ≡ serialising.scratchAfter (arena root count (columns (now (left .entry)) (now (right .entry)) (now (parent .entry)) (now (height .entry)) (now (start .entry)) (now (len .entry)) (now (size .entry)) (now (kind .entry))) (now (names .entry))) (length (now (order .entry))) (length (now (place .entry))) (now (order .entry)) ⌝ }
-    ensures { λ _. ⌜ now (place .exit) ≡ serialising.scratchAfter (arena root count (columns (now (left .entry)) (now (right .entry)) (now (parent .entry)) (now (height .entry)) (now (start .entry)) (now (len .entry)) (now (size .entry)) (now (kind .entry))) (now (names .entry))) (length (now (order .entry))) (length (now (place .entry))) (now (place .entry)) ⌝ }
+    ensures { λ n.
+        let A = arenaIn root count left right parent height start len size kind names in
+        let m = serialising.memory order place out in
+        let answer = serialising.answerIn A first (m .entry) in
+        ⌜ n ≡ numberOf answer ⌝
+        ∗ ⌜ is «table_size» ≡ ofGiven tableSize answer (was «table_size») ⌝
+        ∗ ⌜ is free ≡ ofGiven nextFree answer (was free) ⌝
+        ∗ ⌜ m .exit ≡ serialising.lentAfter A first (m .entry) ⌝ }
 {
     let tree = Held {
         root: root,
@@ -384,18 +407,15 @@ pub extern "C" fn xdvdfs_write_list(
     free: &mut u32,
     entry: &mut u32,
 ) -> u32
-    ensures { λ n. ⌜ n ≡ numberOf (whole.wholeOf (whole.listing count (now (start .entry)) (now (len .entry)) (now (size .entry)) (now (kind .entry)) (now (names .entry))) (whole.shortest (now (left .entry)) (now (right .entry)) (now (parent .entry)) (now (height .entry)) (now (key .entry)) (now (order .entry)) (now (place .entry))) first (length (now (out .entry)))) ⌝ }
-    ensures { λ _. ⌜ now («table_size» .exit) ≡ ofGiven tableSize (whole.wholeOf (whole.listing count (now (start .entry)) (now (len .entry)) (now (size .entry)) (now (kind .entry)) (now (names .entry))) (whole.shortest (now (left .entry)) (now (right .entry)) (now (parent .entry)) (now (height .entry)) (now (key .entry)) (now (order .entry)) (now (place .entry))) first (length (now (out .entry)))) (now («table_size» .entry)) ⌝ }
-    ensures { λ _. ⌜ now (free .exit) ≡ ofGiven nextFree (whole.wholeOf (whole.listing count (now (start .entry)) (now (len .entry)) (now (size .entry)) (now (kind .entry)) (now (names .entry))) (whole.shortest (now (left .entry)) (now (right .entry)) (now (parent .entry)) (now (height .entry)) (now (key .entry)) (now (order .entry)) (now (place .entry))) first (length (now (out .entry)))) (now (free .entry)) ⌝ }
-    ensures { λ _. ⌜ now (entry .exit) ≡ ofRefusal ofEntry (whole.wholeOf (whole.listing count (now (start .entry)) (now (len .entry)) (now (size .entry)) (now (kind .entry)) (now (names .entry))) (whole.shortest (now (left .entry)) (now (right .entry)) (now (parent .entry)) (now (height .entry)) (now (key .entry)) (now (order .entry)) (now (place .entry))) first (length (now (out .entry)))) (now (entry .entry)) ⌝ }
-    ensures { λ _. ⌜ now (out .exit) ≡ whole.outAfter (whole.listing count (now (start .entry)) (now (len .entry)) (now (size .entry)) (now (kind .entry)) (now (names .entry))) (whole.shortest (now (left .entry)) (now (right .entry)) (now (parent .entry)) (now (height .entry)) (now (key .entry)) (now (order .entry)) (now (place .entry))) first (now (out .entry)) ⌝ }
-    ensures { λ _. ⌜ now (left .exit) ≡ whole.scratchAfter (whole.listing count (now (start .entry)) (now (len .entry)) (now (size .entry)) (now (kind .entry)) (now (names .entry))) (whole.shortest (now (left .entry)) (now (right .entry)) (now (parent .entry)) (now (height .entry)) (now (key .entry)) (now (order .entry)) (now (place .entry))) (now (left .entry)) ⌝ }
-    ensures { λ _. ⌜ now (right .exit) ≡ whole.scratchAfter (whole.listing count (now (start .entry)) (now (len .entry)) (now (size .entry)) (now (kind .entry)) (now (names .entry))) (whole.shortest (now (left .entry)) (now (right .entry)) (now (parent .entry)) (now (height .entry)) (now (key .entry)) (now (order .entry)) (now (place .entry))) (now (right .entry)) ⌝ }
-    ensures { λ _. ⌜ now (parent .exit) ≡ whole.scratchAfter (whole.listing count (now (start .entry)) (now (len .entry)) (now (size .entry)) (now (kind .entry)) (now (names .entry))) (whole.shortest (now (left .entry)) (now (right .entry)) (now (parent .entry)) (now (height .entry)) (now (key .entry)) (now (order .entry)) (now (place .entry))) (now (parent .entry)) ⌝ }
-    ensures { λ _. ⌜ now (height .exit) ≡ whole.scratchAfter (whole.listing count (now (start .entry)) (now (len .entry)) (now (size .entry)) (now (kind .entry)) (now (names .entry))) (whole.shortest (now (left .entry)) (now (right .entry)) (now (parent .entry)) (now (height .entry)) (now (key .entry)) (now (order .entry)) (now (place .entry))) (now (height .entry)) ⌝ }
-    ensures { λ _. ⌜ now (key .exit) ≡ whole.scratchAfter (whole.listing count (now (start .entry)) (now (len .entry)) (now (size .entry)) (now (kind .entry)) (now (names .entry))) (whole.shortest (now (left .entry)) (now (right .entry)) (now (parent .entry)) (now (height .entry)) (now (key .entry)) (now (order .entry)) (now (place .entry))) (now (key .entry)) ⌝ }
-    ensures { λ _. ⌜ now (order .exit) ≡ whole.scratchAfter (whole.listing count (now (start .entry)) (now (len .entry)) (now (size .entry)) (now (kind .entry)) (now (names .entry))) (whole.shortest (now (left .entry)) (now (right .entry)) (now (parent .entry)) (now (height .entry)) (now (key .entry)) (now (order .entry)) (now (place .entry))) (now (order .entry)) ⌝ }
-    ensures { λ _. ⌜ now (place .exit) ≡ whole.scratchAfter (whole.listing count (now (start .entry)) (now (len .entry)) (now (size .entry)) (now (kind .entry)) (now (names .entry))) (whole.shortest (now (left .entry)) (now (right .entry)) (now (parent .entry)) (now (height .entry)) (now (key .entry)) (now (order .entry)) (now (place .entry))) (now (place .entry)) ⌝ }
+    ensures { λ n.
+        let list = whole.listed count start len size kind names in
+        let m = whole.memory left right parent height key order place out in
+        let answer = whole.answerIn list first (m .entry) in
+        ⌜ n ≡ numberOf answer ⌝
+        ∗ ⌜ is «table_size» ≡ ofGiven tableSize answer (was «table_size») ⌝
+        ∗ ⌜ is free ≡ ofGiven nextFree answer (was free) ⌝
+        ∗ ⌜ is entry ≡ ofRefusal ofEntry answer (was entry) ⌝
+        ∗ ⌜ m .exit ≡ whole.lentAfter list first (m .entry) ⌝ }
 {
     let r = xdvdfs::write_list(
         count,
@@ -445,13 +465,15 @@ pub extern "C" fn xdvdfs_plan(
     entry: &mut u32,
     directory: &mut u32,
 ) -> u32
-    ensures { λ n. ⌜ n ≡ numberOf (image.answerOf (image.imageOf (image.asked directories entries (now (first .entry)) (now (share .entry)) (now (start .entry)) (now (len .entry)) (now (kind .entry)) (now (value .entry)) (now (names .entry))) (image.lent (now (sizes .entry)) (now (tables .entry)) (now (sectors .entry)) (now (sized .entry)) (now (left .entry)) (now (right .entry)) (now (parent .entry)) (now (height .entry)) (now (key .entry)) (now (size .entry)) (now (order .entry))))) ⌝ }
-    ensures { λ _. ⌜ now (free .exit) ≡ ofGiven itself (image.answerOf (image.imageOf (image.asked directories entries (now (first .entry)) (now (share .entry)) (now (start .entry)) (now (len .entry)) (now (kind .entry)) (now (value .entry)) (now (names .entry))) (image.lent (now (sizes .entry)) (now (tables .entry)) (now (sectors .entry)) (now (sized .entry)) (now (left .entry)) (now (right .entry)) (now (parent .entry)) (now (height .entry)) (now (key .entry)) (now (size .entry)) (now (order .entry))))) (now (free .entry)) ⌝ }
-    ensures { λ _. ⌜ now (entry .exit) ≡ ofRefusal ofPlanned (image.answerOf (image.imageOf (image.asked directories entries (now (first .entry)) (now (share .entry)) (now (start .entry)) (now (len .entry)) (now (kind .entry)) (now (value .entry)) (now (names .entry))) (image.lent (now (sizes .entry)) (now (tables .entry)) (now (sectors .entry)) (now (sized .entry)) (now (left .entry)) (now (right .entry)) (now (parent .entry)) (now (height .entry)) (now (key .entry)) (now (size .entry)) (now (order .entry))))) (now (entry .entry)) ⌝ }
-    ensures { λ _. ⌜ now (directory .exit) ≡ ofRefusal ofDirectory (image.answerOf (image.imageOf (image.asked directories entries (now (first .entry)) (now (share .entry)) (now (start .entry)) (now (len .entry)) (now (kind .entry)) (now (value .entry)) (now (names .entry))) (image.lent (now (sizes .entry)) (now (tables .entry)) (now (sectors .entry)) (now (sized .entry)) (now (left .entry)) (now (right .entry)) (now (parent .entry)) (now (height .entry)) (now (key .entry)) (now (size .entry)) (now (order .entry))))) (now (directory .entry)) ⌝ }
-    ensures { λ _. ⌜ image.lent (now (sizes .exit)) (now (tables .exit)) (now (sectors .exit)) (now (sized .exit)) (now (left .exit)) (now (right .exit)) (now (parent .exit)) (now (height .exit)) (now (key .exit)) (now (size .exit)) (now (order .exit))
-        ≡ image.lentAfter (image.asked directories entries (now (first .entry)) (now (share .entry)) (now (start .entry)) (now (len .entry)) (now (kind .entry)) (now (value .entry)) (now (names .entry)))
-        (image.lent (now (sizes .entry)) (now (tables .entry)) (now (sectors .entry)) (now (sized .entry)) (now (left .entry)) (now (right .entry)) (now (parent .entry)) (now (height .entry)) (now (key .entry)) (now (size .entry)) (now (order .entry))) ⌝ }
+    ensures { λ n.
+        let a = image.asking directories entries first share start len kind value names in
+        let m = image.memory sizes tables sectors sized left right parent height key size order in
+        let answer = image.answerIn a (m .entry) in
+        ⌜ n ≡ numberOf answer ⌝
+        ∗ ⌜ is free ≡ ofGiven itself answer (was free) ⌝
+        ∗ ⌜ is entry ≡ ofRefusal ofPlanned answer (was entry) ⌝
+        ∗ ⌜ is directory ≡ ofRefusal ofDirectory answer (was directory) ⌝
+        ∗ ⌜ m .exit ≡ image.lentAfter a (m .entry) ⌝ }
 {
     let r = xdvdfs::plan(
         directories,

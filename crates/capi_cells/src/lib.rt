@@ -15,6 +15,7 @@ use xdvdfs::Taken;
 use xdvdfs::Walked;
 ghost use mathlib.Core.Path.{_≡_};
 ghost use Rattle.units.specs.Told.{numberOf};
+ghost use Rattle.units.specs.Lent.{was, is};
 ghost use Rattle.dirtab.specs.Serialise as serialising;
 ghost use Rattle.dirtab_add.specs.Add as adding;
 ghost use Rattle.dirtab_list.specs.Whole as whole;
@@ -43,7 +44,7 @@ fn widen_link(x: u16) -> u32
 
 // The six numbers of a header.
 pub fn store_fields(h: Header, fields: &mut [u32; 6])
-    ensures { λ _. ⌜ now (fields .exit) ≡ fieldsOf h ⌝ }
+    ensures { λ _. ⌜ is fields ≡ fieldsOf h ⌝ }
 {
     let left = h.left;
     let right = h.right;
@@ -61,8 +62,8 @@ pub fn store_fields(h: Header, fields: &mut [u32; 6])
 // Where the root table stands.
 pub fn store_descriptor(r: DescriptorRead, sector: &mut u32, size: &mut u32) -> u32
     ensures { λ n. ⌜ n ≡ numberOf (volume.readTold r) ⌝ }
-    ensures { λ _. ⌜ now (sector .exit) ≡ ofGiven rootSector (volume.readTold r) (now (sector .entry)) ⌝ }
-    ensures { λ _. ⌜ now (size .exit) ≡ ofGiven rootSize (volume.readTold r) (now (size .entry)) ⌝ }
+    ensures { λ _. ⌜ is sector ≡ ofGiven rootSector (volume.readTold r) (was sector) ⌝ }
+    ensures { λ _. ⌜ is size ≡ ofGiven rootSize (volume.readTold r) (was size) ⌝ }
 {
     match r {
         DescriptorRead::Volume(d) => {
@@ -79,9 +80,9 @@ pub fn store_descriptor(r: DescriptorRead, sector: &mut u32, size: &mut u32) -> 
 // Whether an entry is there, its fields and its place in the window.
 pub fn store_entry(r: Read, found: &mut u32, fields: &mut [u32; 6], place: &mut usize) -> u32
     ensures { λ n. ⌜ n ≡ numberOf (entry.told r) ⌝ }
-    ensures { λ _. ⌜ now (found .exit) ≡ ofGiven isSome (entry.told r) (now (found .entry)) ⌝ }
-    ensures { λ _. ⌜ now (fields .exit) ≡ ofSome placedFields (entry.told r) (now (fields .entry)) ⌝ }
-    ensures { λ _. ⌜ now (place .exit) ≡ ofSome placedAt (entry.told r) (now (place .entry)) ⌝ }
+    ensures { λ _. ⌜ is found ≡ ofGiven isSome (entry.told r) (was found) ⌝ }
+    ensures { λ _. ⌜ is fields ≡ ofSome placedFields (entry.told r) (was fields) ⌝ }
+    ensures { λ _. ⌜ is place ≡ ofSome placedAt (entry.told r) (was place) ⌝ }
 {
     match r {
         Read::Entry(h, p) => {
@@ -108,10 +109,10 @@ pub fn store_looked(
     headers: &mut u32,
 ) -> u32
     ensures { λ n. ⌜ n ≡ numberOf (lookup.told r) ⌝ }
-    ensures { λ _. ⌜ now (fields .exit) ≡ ofGiven foundFields (lookup.told r) (now (fields .entry)) ⌝ }
-    ensures { λ _. ⌜ now (place .exit) ≡ ofGiven foundPlace (lookup.told r) (now (place .entry)) ⌝ }
-    ensures { λ _. ⌜ now (offset .exit) ≡ ofRefusal atOffset (lookup.told r) (ofGiven foundOffset (lookup.told r) (now (offset .entry))) ⌝ }
-    ensures { λ _. ⌜ now (headers .exit) ≡ ofRefusal afterHeaders (lookup.told r) (ofGiven foundHeaders (lookup.told r) (now (headers .entry))) ⌝ }
+    ensures { λ _. ⌜ is fields ≡ ofGiven foundFields (lookup.told r) (was fields) ⌝ }
+    ensures { λ _. ⌜ is place ≡ ofGiven foundPlace (lookup.told r) (was place) ⌝ }
+    ensures { λ _. ⌜ is offset ≡ ofRefusal atOffset (lookup.told r) (ofGiven foundOffset (lookup.told r) (was offset)) ⌝ }
+    ensures { λ _. ⌜ is headers ≡ ofRefusal afterHeaders (lookup.told r) (ofGiven foundHeaders (lookup.told r) (was headers)) ⌝ }
 {
     match r {
         Looked::Found(h, p, o, n) => {
@@ -142,9 +143,9 @@ pub fn store_looked(
 // The entry's fields and its place in the window; of a refusal the offset.
 pub fn store_path(r: PathFound, fields: &mut [u32; 6], place: &mut usize, offset: &mut u32) -> u32
     ensures { λ n. ⌜ n ≡ numberOf (following.told r) ⌝ }
-    ensures { λ _. ⌜ now (fields .exit) ≡ ofGiven placedFields (following.told r) (now (fields .entry)) ⌝ }
-    ensures { λ _. ⌜ now (place .exit) ≡ ofGiven placedAt (following.told r) (now (place .entry)) ⌝ }
-    ensures { λ _. ⌜ now (offset .exit) ≡ ofRefusal atOffset (following.told r) (now (offset .entry)) ⌝ }
+    ensures { λ _. ⌜ is fields ≡ ofGiven placedFields (following.told r) (was fields) ⌝ }
+    ensures { λ _. ⌜ is place ≡ ofGiven placedAt (following.told r) (was place) ⌝ }
+    ensures { λ _. ⌜ is offset ≡ ofRefusal atOffset (following.told r) (was offset) ⌝ }
 {
     match r {
         PathFound::Entry(h, p) => {
@@ -172,8 +173,8 @@ pub fn store_path(r: PathFound, fields: &mut [u32; 6], place: &mut usize, offset
 // How many offsets are listed; of a refusal the offset.
 pub fn store_walked(r: Walked, count: &mut usize, offset: &mut u32) -> u32
     ensures { λ n. ⌜ n ≡ numberOf (walking.told r) ⌝ }
-    ensures { λ _. ⌜ now (count .exit) ≡ ofGiven itself (walking.told r) (now (count .entry)) ⌝ }
-    ensures { λ _. ⌜ now (offset .exit) ≡ ofRefusal atOffset (walking.told r) (now (offset .entry)) ⌝ }
+    ensures { λ _. ⌜ is count ≡ ofGiven itself (walking.told r) (was count) ⌝ }
+    ensures { λ _. ⌜ is offset ≡ ofRefusal atOffset (walking.told r) (was offset) ⌝ }
 {
     match r {
         Walked::Done(n) => {
@@ -196,8 +197,8 @@ pub fn store_walked(r: Walked, count: &mut usize, offset: &mut u32) -> u32
 // The same of the strict check.
 pub fn store_checked(r: Checked, count: &mut usize, offset: &mut u32) -> u32
     ensures { λ n. ⌜ n ≡ numberOf (checking.told r) ⌝ }
-    ensures { λ _. ⌜ now (count .exit) ≡ ofGiven itself (checking.told r) (now (count .entry)) ⌝ }
-    ensures { λ _. ⌜ now (offset .exit) ≡ ofRefusal atFault (checking.told r) (now (offset .entry)) ⌝ }
+    ensures { λ _. ⌜ is count ≡ ofGiven itself (checking.told r) (was count) ⌝ }
+    ensures { λ _. ⌜ is offset ≡ ofRefusal atFault (checking.told r) (was offset) ⌝ }
 {
     match r {
         Checked::Done(n) => {
@@ -242,8 +243,8 @@ pub fn number_of_written(r: DescriptorWritten) -> u32
 // The next free sector, and the first of the sectors taken.
 pub fn store_taken(r: Taken, next: &mut u32, start: &mut u32) -> u32
     ensures { λ n. ⌜ n ≡ numberOf (sectors.told r) ⌝ }
-    ensures { λ _. ⌜ now (next .exit) ≡ ofGiven runFree (sectors.told r) (now (next .entry)) ⌝ }
-    ensures { λ _. ⌜ now (start .exit) ≡ ofGiven runStart (sectors.told r) (now (start .entry)) ⌝ }
+    ensures { λ _. ⌜ is next ≡ ofGiven runFree (sectors.told r) (was next) ⌝ }
+    ensures { λ _. ⌜ is start ≡ ofGiven runStart (sectors.told r) (was start) ⌝ }
 {
     match r {
         Taken::Start(s, c) => {
@@ -259,8 +260,8 @@ pub fn store_taken(r: Taken, next: &mut u32, start: &mut u32) -> u32
 // Root and count of the held tree.
 pub fn store_added(r: Added, root: &mut u16, count: &mut u16) -> u32
     ensures { λ n. ⌜ n ≡ numberOf (adding.told r) ⌝ }
-    ensures { λ _. ⌜ now (root .exit) ≡ ofGiven grownRoot (adding.told r) (now (root .entry)) ⌝ }
-    ensures { λ _. ⌜ now (count .exit) ≡ ofGiven grownCount (adding.told r) (now (count .entry)) ⌝ }
+    ensures { λ _. ⌜ is root ≡ ofGiven grownRoot (adding.told r) (was root) ⌝ }
+    ensures { λ _. ⌜ is count ≡ ofGiven grownCount (adding.told r) (was count) ⌝ }
 {
     match r {
         Added::Done(tree) => {
@@ -281,8 +282,8 @@ pub fn store_added(r: Added, root: &mut u16, count: &mut u16) -> u32
 // The reported size and the next free sector.
 pub fn store_serialised(r: Serialised, table_size: &mut u32, free: &mut u32) -> u32
     ensures { λ n. ⌜ n ≡ numberOf (serialising.told r) ⌝ }
-    ensures { λ _. ⌜ now («table_size» .exit) ≡ ofGiven tableSize (serialising.told r) (now («table_size» .entry)) ⌝ }
-    ensures { λ _. ⌜ now (free .exit) ≡ ofGiven nextFree (serialising.told r) (now (free .entry)) ⌝ }
+    ensures { λ _. ⌜ is «table_size» ≡ ofGiven tableSize (serialising.told r) (was «table_size») ⌝ }
+    ensures { λ _. ⌜ is free ≡ ofGiven nextFree (serialising.told r) (was free) ⌝ }
 {
     match r {
         Serialised::Done(z, f) => {
@@ -301,9 +302,9 @@ pub fn store_serialised(r: Serialised, table_size: &mut u32, free: &mut u32) -> 
 // The same of a whole list; of a refusal the number of the entry.
 pub fn store_written(r: ListWritten, table_size: &mut u32, free: &mut u32, entry: &mut u32) -> u32
     ensures { λ n. ⌜ n ≡ numberOf (whole.told r) ⌝ }
-    ensures { λ _. ⌜ now («table_size» .exit) ≡ ofGiven tableSize (whole.told r) (now («table_size» .entry)) ⌝ }
-    ensures { λ _. ⌜ now (free .exit) ≡ ofGiven nextFree (whole.told r) (now (free .entry)) ⌝ }
-    ensures { λ _. ⌜ now (entry .exit) ≡ ofRefusal ofEntry (whole.told r) (now (entry .entry)) ⌝ }
+    ensures { λ _. ⌜ is «table_size» ≡ ofGiven tableSize (whole.told r) (was «table_size») ⌝ }
+    ensures { λ _. ⌜ is free ≡ ofGiven nextFree (whole.told r) (was free) ⌝ }
+    ensures { λ _. ⌜ is entry ≡ ofRefusal ofEntry (whole.told r) (was entry) ⌝ }
 {
     match r {
         ListWritten::Done(z, f) => {
@@ -345,9 +346,9 @@ pub fn store_written(r: ListWritten, table_size: &mut u32, free: &mut u32, entry
 // The next free sector of a plan; of a refusal the entry's place in the list, or the directory's number.
 pub fn store_planned(r: Planned, free: &mut u32, entry: &mut u32, directory: &mut u32) -> u32
     ensures { λ n. ⌜ n ≡ numberOf (planning.told r) ⌝ }
-    ensures { λ _. ⌜ now (free .exit) ≡ ofGiven itself (planning.told r) (now (free .entry)) ⌝ }
-    ensures { λ _. ⌜ now (entry .exit) ≡ ofRefusal ofPlanned (planning.told r) (now (entry .entry)) ⌝ }
-    ensures { λ _. ⌜ now (directory .exit) ≡ ofRefusal ofDirectory (planning.told r) (now (directory .entry)) ⌝ }
+    ensures { λ _. ⌜ is free ≡ ofGiven itself (planning.told r) (was free) ⌝ }
+    ensures { λ _. ⌜ is entry ≡ ofRefusal ofPlanned (planning.told r) (was entry) ⌝ }
+    ensures { λ _. ⌜ is directory ≡ ofRefusal ofDirectory (planning.told r) (was directory) ⌝ }
 {
     match r {
         Planned::Done(f) => {

@@ -12,8 +12,12 @@ use Rattle.table_model.specs.Table.{Placing, tableBytes}
 use Rattle.avl_arena.proofs.Tested.{and-l, and-r}
 use Rattle.dirtab_arena.specs.Arena.{Arena, entryAt, isArena, treeOf}
 use Rattle.dirtab.specs.declared.Serialised.{Serialised}
-use Rattle.dirtab.specs.Serialise.{scratchFits, ifFits, ifWritten, serialiseOf, outAfter, scratchAfter, told}
+use Rattle.dirtab.specs.Serialise.{scratchFits, ifFits, ifWritten, serialiseOf, outAfter, scratchAfter, lent, told}
 use Rattle.dirtab.specs.Steps.{writingOf, writingOut}
+
+-- all that was lent, from each part
+pub join : {a b c x y z : List ℕ} → a ≡ x → b ≡ y → c ≡ z → lent a b c ≡ lent x y z
+join p q r i = lent (p i) (q i) (r i)
 
 module _ (A : Arena) (s n m : ℕ) (is fit : Bool) (eh : is ≡ isArena A) (ef : fit ≡ scratchFits A n m) where
   answer-is : (bytes : ℕ) → serialiseOf A s n m bytes ≡ pick is (pick fit (writingOf (entryAt A) s (treeOf A) bytes) (refuses 6 [])) (refuses 12 [])

@@ -4,7 +4,9 @@ use mathlib.Core.Bool.{Bool, _&&_}
 use mathlib.Core.List.{List, [], _++_}
 use lib.Dec.{leb}
 use lib.ListN.{length, drop, replicate}
+use denote.Triple.Both.{Both}
 use Rattle.units.specs.Told.{Told, gives, refuses, pick}
+use Rattle.units.specs.Lent.{Slice, was, is}
 use Rattle.dirtab_entry.specs.Entry.{rounded}
 use Rattle.table_model.specs.Table.{Placing, placeOf, tableBytes}
 use Rattle.dirtab_arena.specs.Arena.{Arena, entryAt, isArena, treeOf}
@@ -38,6 +40,31 @@ outAfter A s n m out = ifWritten (serialiseOf A s n m (length out)) (tableBytes 
 -- THE SCRATCH AFTERWARDS: unchanged where either column is too short, else all zero
 unfoldable pub scratchAfter : Arena → ℕ → ℕ → List ℕ → List ℕ
 scratchAfter A n m xs = pick (scratchFits A n m) (replicate (length xs) 0) xs
+
+-- what is lent: two columns of scratch, and the output
+pub record Lent : Type 0 where
+  pub order : List ℕ
+  pub place : List ℕ
+  pub out : List ℕ
+
+abbrev pub lent : List ℕ → List ℕ → List ℕ → Lent
+lent order place out = record { order = order; place = place; out = out }
+
+-- the same at the call, and at the return
+abbrev pub memory : Slice → Slice → Slice → Both Lent Lent
+memory order place out = record { entry = lent (was order) (was place) (was out); exit = lent (is order) (is place) (is out) }
+
+-- the answer, by what is lent
+abbrev pub answerIn : Arena → ℕ → Lent → Told Placing
+answerIn A s m = serialiseOf A s (length (m .order)) (length (m .place)) (length (m .out))
+
+-- ALL THAT WAS LENT, AFTERWARDS
+abbrev pub lentAfter : Arena → ℕ → Lent → Lent
+lentAfter A s m = record {
+  order = scratchAfter A (length (m .order)) (length (m .place)) (m .order);
+  place = scratchAfter A (length (m .order)) (length (m .place)) (m .place);
+  out = outAfter A s (length (m .order)) (length (m .place)) (m .out);
+}
 
 -- what each answer of the code stands for
 abbrev pub told : Serialised → Told Placing

@@ -16,11 +16,12 @@ ghost use Prim.Native.Nat.{_≤_, _<_};
 ghost use lib.Dec.{leb};
 ghost use lib.ListN.{length, replicate};
 ghost use Rattle.units.specs.Told.{refuses, pick};
+ghost use Rattle.units.specs.Lent.{was, is};
 ghost use Rattle.dirtab_entry.specs.Entry.{rounded};
 ghost use Rattle.avl_model.specs.Tree.{Tree};
-ghost use Rattle.dirtab_arena.specs.Arena.{arena, columns};
-ghost use Rattle.dirtab.specs.Serialise.{told, serialiseOf, outAfter, scratchAfter};
-ghost use Rattle.dirtab.specs.Steps.{entriesIn, sizeFrom, writingOf, writingOut, Listing, Rooted};
+ghost use Rattle.dirtab_arena.specs.Arena.{arenaIn};
+ghost use Rattle.dirtab.specs.Serialise.{told, memory, answerIn, lentAfter};
+ghost use Rattle.dirtab.specs.Steps.{lentEntries, sizeFrom, writingOf, writingOut, Listing, Listed, Rooted, RootedIn};
 
 // What serialising answers.
 pub enum Serialised {
@@ -72,9 +73,14 @@ fn write_listed(
     place: &mut [u16],
     out: &mut [u8],
 ) -> Serialised
-    requires { ⌜ ((t : Tree) × Listing (now order) (now left) (now right) (now start) (now len) (now size) (now kind) (now names) (length (now place)) t) ⌝ }
-    ensures answer { λ r. ⌜ ((t : Tree) → Listing (now (order .entry)) (now (left .entry)) (now (right .entry)) (now (start .entry)) (now (len .entry)) (now (size .entry)) (now (kind .entry)) (now (names .entry)) (length (now (place .entry))) t → told r ≡ writingOf (entriesIn (now (start .entry)) (now (len .entry)) (now (size .entry)) (now (kind .entry)) (now (names .entry))) (first .0) t (length (now (out .entry)))) ⌝ }
-    ensures out { λ _. ⌜ ((t : Tree) → Listing (now (order .entry)) (now (left .entry)) (now (right .entry)) (now (start .entry)) (now (len .entry)) (now (size .entry)) (now (kind .entry)) (now (names .entry)) (length (now (place .entry))) t → now (out .exit) ≡ writingOut (entriesIn (now (start .entry)) (now (len .entry)) (now (size .entry)) (now (kind .entry)) (now (names .entry))) (first .0) t (now (out .entry))) ⌝ }
+    requires { ⌜ ((t : Tree) × Listing (now order) (now left) (now right)
+        (now start) (now len) (now size) (now kind) (now names) (length (now place)) t) ⌝ }
+    ensures answer { λ r.
+        let entry = lentEntries start len size kind names in
+        ⌜ ((t : Tree) → Listed order left right start len size kind names place t → told r ≡ writingOf entry (first .0) t (length (was out))) ⌝ }
+    ensures out { λ _.
+        let entry = lentEntries start len size kind names in
+        ⌜ ((t : Tree) → Listed order left right start len size kind names place t → is out ≡ writingOut entry (first .0) t (was out)) ⌝ }
 {
     match place_entries(order, len, place) {
         Ends::TooManyDirectoryEntries => Serialised::TooManyDirectoryEntries,
@@ -121,9 +127,17 @@ pub fn write_held(
     place: &mut [u16],
     out: &mut [u8],
 ) -> Serialised
-    requires { ⌜ ((t : Tree) × Rooted (now left) (now right) (now start) (now len) (now size) (now kind) (now names) (tree .root) (tree .count) t) × (tree .count ≤ length (now order)) × (tree .count ≤ length (now place)) ⌝ }
-    ensures answer { λ r. ⌜ ((t : Tree) → Rooted (now (left .entry)) (now (right .entry)) (now (start .entry)) (now (len .entry)) (now (size .entry)) (now (kind .entry)) (now (names .entry)) (tree .root) (tree .count) t → told r ≡ writingOf (entriesIn (now (start .entry)) (now (len .entry)) (now (size .entry)) (now (kind .entry)) (now (names .entry))) (first .0) t (length (now (out .entry)))) ⌝ }
-    ensures out { λ _. ⌜ ((t : Tree) → Rooted (now (left .entry)) (now (right .entry)) (now (start .entry)) (now (len .entry)) (now (size .entry)) (now (kind .entry)) (now (names .entry)) (tree .root) (tree .count) t → now (out .exit) ≡ writingOut (entriesIn (now (start .entry)) (now (len .entry)) (now (size .entry)) (now (kind .entry)) (now (names .entry))) (first .0) t (now (out .entry))) ⌝ }
+    requires { ⌜ ((t : Tree) × Rooted (now left) (now right)
+        (now start) (now len) (now size) (now kind) (now names) (tree .root) (tree .count) t)
+        × (tree .count ≤ length (now order)) × (tree .count ≤ length (now place)) ⌝ }
+    ensures answer { λ r.
+        let entry = lentEntries start len size kind names in
+        ⌜ ((t : Tree) → RootedIn left right start len size kind names (tree .root) (tree .count) t →
+        told r ≡ writingOf entry (first .0) t (length (was out))) ⌝ }
+    ensures out { λ _.
+        let entry = lentEntries start len size kind names in
+        ⌜ ((t : Tree) → RootedIn left right start len size kind names (tree .root) (tree .count) t →
+        is out ≡ writingOut entry (first .0) t (was out)) ⌝ }
 {
     let n = widen(tree.count);
     preorder(&left[..n], &right[..n], tree.root, order);
@@ -144,7 +158,8 @@ pub fn write_held(
 
 // Zero everywhere, of both columns of scratch.
 fn clear_both(order: &mut [u16], place: &mut [u16])
-    ensures { λ _. ⌜ (now (order .exit) ≡ replicate (length (now (order .entry))) 0) × (now (place .exit) ≡ replicate (length (now (place .entry))) 0) ⌝ }
+    ensures { λ _. ⌜ (is order ≡ replicate (length (was order)) 0)
+        × (is place ≡ replicate (length (was place)) 0) ⌝ }
 {
     clear_shorts(order);
     clear_shorts(place);
@@ -191,10 +206,11 @@ pub fn serialise(
     place: &mut [u16],
     out: &mut [u8],
 ) -> Serialised
-    ensures answer { λ r. ⌜ told r ≡ serialiseOf (arena (tree .root) (tree .count) (columns (now (left .entry)) (now (right .entry)) (now (parent .entry)) (now (height .entry)) (now (start .entry)) (now (len .entry)) (now (size .entry)) (now (kind .entry))) (now (names .entry))) (first .0) (length (now (order .entry))) (length (now (place .entry))) (length (now (out .entry))) ⌝ }
-    ensures out { λ _. ⌜ now (out .exit) ≡ outAfter (arena (tree .root) (tree .count) (columns (now (left .entry)) (now (right .entry)) (now (parent .entry)) (now (height .entry)) (now (start .entry)) (now (len .entry)) (now (size .entry)) (now (kind .entry))) (now (names .entry))) (first .0) (length (now (order .entry))) (length (now (place .entry))) (now (out .entry)) ⌝ }
-    ensures order { λ _. ⌜ now (order .exit) ≡ scratchAfter (arena (tree .root) (tree .count) (columns (now (left .entry)) (now (right .entry)) (now (parent .entry)) (now (height .entry)) (now (start .entry)) (now (len .entry)) (now (size .entry)) (now (kind .entry))) (now (names .entry))) (length (now (order .entry))) (length (now (place .entry))) (now (order .entry)) ⌝ }
-    ensures place { λ _. ⌜ now (place .exit) ≡ scratchAfter (arena (tree .root) (tree .count) (columns (now (left .entry)) (now (right .entry)) (now (parent .entry)) (now (height .entry)) (now (start .entry)) (now (len .entry)) (now (size .entry)) (now (kind .entry))) (now (names .entry))) (length (now (order .entry))) (length (now (place .entry))) (now (place .entry)) ⌝ }
+    ensures { λ r.
+        let A = arenaIn (tree .root) (tree .count) left right parent height start len size kind names in
+        let m = memory order place out in
+        ⌜ told r ≡ answerIn A (first .0) (m .entry) ⌝
+        ∗ ⌜ m .exit ≡ lentAfter A (first .0) (m .entry) ⌝ }
 {
     let held = is_arena(
         tree,

@@ -3,6 +3,7 @@ ghost use mathlib.Core.Path.{_≡_};
 ghost use mathlib.Core.Bool.{true};
 ghost use Prim.Native.Nat.{_+_, _≤_, _<_};
 ghost use lib.ListN.{length, set, take};
+ghost use Rattle.units.specs.Lent.{was, is};
 ghost use Rattle.dirtab_entry.specs.Entry.{isDirectory, storedSize, nameIn};
 ghost use Rattle.avl_model.specs.declared.Place.the-variants.{Root};
 ghost use Rattle.avl_model.specs.Lists.{lists};
@@ -12,7 +13,7 @@ ghost use Rattle.avl_model.specs.Tree.{ins};
 ghost use Rattle.avl_model.specs.Insert.{Placed};
 ghost use Rattle.avl_model.specs.Columns.{written};
 ghost use Rattle.avl_arena.specs.Test.{partOf};
-ghost use Rattle.dirtab_arena.specs.Arena.{columns, arena};
+ghost use Rattle.dirtab_arena.specs.Arena.{columns, lentColumns, arena, arenaIn};
 ghost use Rattle.dirtab_add.specs.Add.{hasRoom, kindNumber, told, addOf, columnsAfter};
 ghost use Rattle.dirtab_add.specs.Judging.{Checked, Judged};
 use avl_insert::find_spot;
@@ -76,7 +77,7 @@ fn has_room(
     size: &[u32],
     kind: &[u8],
 ) -> bool
-    ensures { λ r. ⌜ r ≡ hasRoom n (columns (now (left .entry)) (now (right .entry)) (now (parent .entry)) (now (height .entry)) (now (start .entry)) (now (len .entry)) (now (size .entry)) (now (kind .entry))) ⌝ }
+    ensures { λ r. let c = lentColumns left right parent height start len size kind in ⌜ r ≡ hasRoom n (c .entry) ⌝ }
 {
     if 16384 <= n {
         return false;
@@ -115,10 +116,13 @@ fn find_place(
     bytes: &[u8],
     entry: Entry,
 ) -> Spot
-    requires { ⌜ (tree .count ≤ length (now left)) × (tree .count ≤ length (now right)) × (entry .start + entry .len ≤ length (now bytes)) × (entry .len ≤ 255) ⌝ }
-    requires { ⌜ Sought (take (tree .count) (now left)) (take (tree .count) (now right)) (tree .root) (names (now bytes) (now start) (now len)) ⌝ }
-    ensures { λ s. ⌜ ((w : Sought (take (tree .count) (now (left .entry))) (take (tree .count) (now (right .entry))) (tree .root) (names (now (bytes .entry)) (now (start .entry)) (now (len .entry)))) →
-        s ≡ spotIn (toName (names (now (bytes .entry)) (now (start .entry)) (now (len .entry))) (nameIn (now (bytes .entry)) entry)) (w .linked .t) Root) ⌝ }
+    requires { ⌜ (tree .count ≤ length (now left)) × (tree .count ≤ length (now right))
+        × (entry .start + entry .len ≤ length (now bytes)) × (entry .len ≤ 255) ⌝ }
+    requires { ⌜ Sought (take (tree .count) (now left)) (take (tree .count) (now right)) (tree .root)
+        (names (now bytes) (now start) (now len)) ⌝ }
+    ensures { λ s. let n = names (was bytes) (was start) (was len) in
+        ⌜ ((w : Sought (take (tree .count) (was left)) (take (tree .count) (was right)) (tree .root) n) →
+        s ≡ spotIn (toName n (nameIn (was bytes) entry)) (w .linked .t) Root) ⌝ }
 {
     let n = widen(tree.count);
     let from = widen_place(entry.start);
@@ -148,8 +152,11 @@ fn judge_name(
     names: &[u8],
     entry: Entry,
 ) -> Verdict
-    requires { ⌜ Checked (arena (tree .root) (tree .count) (columns (now left) (now right) (now parent) (now height) (now start) (now len) (now size) (now kind)) (now names)) entry ⌝ }
-    ensures { λ v. ⌜ Judged v (arena (tree .root) (tree .count) (columns (now (left .entry)) (now (right .entry)) (now (parent .entry)) (now (height .entry)) (now (start .entry)) (now (len .entry)) (now (size .entry)) (now (kind .entry))) (now (names .entry))) entry ⌝ }
+    requires { ⌜ Checked (arena (tree .root) (tree .count) (columns (now left) (now right) (now parent) (now height)
+        (now start) (now len) (now size) (now kind)) (now names)) entry ⌝ }
+    ensures { λ v.
+        let A = arenaIn (tree .root) (tree .count) left right parent height start len size kind names in
+        ⌜ Judged v A entry ⌝ }
 {
     let n = widen(tree.count);
     let spot = find_place(tree, left, right, start, len, names, entry);
@@ -178,7 +185,9 @@ fn judge(
     names: &[u8],
     entry: Entry,
 ) -> Verdict
-    ensures { λ v. ⌜ Judged v (arena (tree .root) (tree .count) (columns (now (left .entry)) (now (right .entry)) (now (parent .entry)) (now (height .entry)) (now (start .entry)) (now (len .entry)) (now (size .entry)) (now (kind .entry))) (now (names .entry))) entry ⌝ }
+    ensures { λ v.
+        let A = arenaIn (tree .root) (tree .count) left right parent height start len size kind names in
+        ⌜ Judged v A entry ⌝ }
 {
     if is_arena(
         tree,
@@ -238,7 +247,10 @@ fn store_entry(
 )
     requires { ⌜ (i < length (now start)) × (i < length (now len)) × (i < length (now size)) × (i < length (now kind)) ⌝ }
     requires { ⌜ (isDirectory (entry .kind) ≡ true → entry .size ≤ 4294965248) ⌝ }
-    ensures { λ _. ⌜ (now (start .exit) ≡ set (now (start .entry)) i (entry .start)) × (now (len .exit) ≡ set (now (len .entry)) i (entry .len)) × (now (size .exit) ≡ set (now (size .entry)) i (storedSize (entry .kind) (entry .size))) × (now (kind .exit) ≡ set (now (kind .entry)) i (kindNumber (entry .kind))) ⌝ }
+    ensures { λ _. ⌜ (is start ≡ set (was start) i (entry .start))
+        × (is len ≡ set (was len) i (entry .len))
+        × (is size ≡ set (was size) i (storedSize (entry .kind) (entry .size)))
+        × (is kind ≡ set (was kind) i (kindNumber (entry .kind))) ⌝ }
 {
     let is = entry.kind;
     start[i] = entry.start;
@@ -256,11 +268,13 @@ fn grow(
     height: &mut [u8],
     place: Place,
 ) -> u16
-    requires { ⌜ (tree .count < length (now left)) × (tree .count < length (now right)) × (tree .count < length (now parent)) × (tree .count < length (now height)) ⌝ }
-    requires { ⌜ Placed (partOf (tree .count + 1) (lists (tree .root) (now left) (now right) (now parent) (now height))) place (tree .count) ⌝ }
-    ensures { λ r. ⌜ ((w : Placed (partOf (tree .count + 1) (lists (tree .root) (now (left .entry)) (now (right .entry)) (now (parent .entry)) (now (height .entry)))) place (tree .count)) →
-        lists r (now (left .exit)) (now (right .exit)) (now (parent .exit)) (now (height .exit))
-        ≡ written (ins (λ i. isLess (w .by i)) (tree .count) (w .arena .t)) (lists (tree .root) (now (left .entry)) (now (right .entry)) (now (parent .entry)) (now (height .entry)))) ⌝ }
+    requires { ⌜ (tree .count < length (now left)) × (tree .count < length (now right))
+        × (tree .count < length (now parent)) × (tree .count < length (now height)) ⌝ }
+    requires { ⌜ Placed (partOf (tree .count + 1) (lists (tree .root) (now left) (now right) (now parent) (now height)))
+        place (tree .count) ⌝ }
+    ensures { λ r. let s = lists (tree .root) (was left) (was right) (was parent) (was height) in
+        ⌜ ((w : Placed (partOf (tree .count + 1) s) place (tree .count)) →
+        lists r (is left) (is right) (is parent) (is height) ≡ written (ins (λ i. isLess (w .by i)) (tree .count) (w .arena .t)) s) ⌝ }
 {
     let m = widen(tree.count) + 1;
     let mut root = tree.root;
@@ -290,9 +304,11 @@ pub fn add(
     names: &[u8],
     entry: Entry,
 ) -> Added
-    ensures { λ r. ⌜ told r ≡ addOf (arena (tree .root) (tree .count) (columns (now (left .entry)) (now (right .entry)) (now (parent .entry)) (now (height .entry)) (now (start .entry)) (now (len .entry)) (now (size .entry)) (now (kind .entry))) (now (names .entry))) entry ⌝ }
-    ensures { λ _. ⌜ columns (now (left .exit)) (now (right .exit)) (now (parent .exit)) (now (height .exit)) (now (start .exit)) (now (len .exit)) (now (size .exit)) (now (kind .exit))
-        ≡ columnsAfter (arena (tree .root) (tree .count) (columns (now (left .entry)) (now (right .entry)) (now (parent .entry)) (now (height .entry)) (now (start .entry)) (now (len .entry)) (now (size .entry)) (now (kind .entry))) (now (names .entry))) entry ⌝ }
+    ensures { λ r.
+        let A = arenaIn (tree .root) (tree .count) left right parent height start len size kind names in
+        let c = lentColumns left right parent height start len size kind in
+        ⌜ told r ≡ addOf A entry ⌝
+        ∗ ⌜ c .exit ≡ columnsAfter A entry ⌝ }
 {
     let verdict = judge(
         tree,

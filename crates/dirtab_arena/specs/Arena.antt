@@ -4,7 +4,9 @@ use mathlib.Core.Bool.{Bool, true, false, _&&_}
 use mathlib.Core.List.{List}
 use lib.Dec.{leb}
 use lib.ListN.{length, getD}
+use denote.Triple.Both.{Both}
 use Rattle.units.specs.Told.{Told, gives, refuses}
+use Rattle.units.specs.Lent.{Slice, was, is}
 use Rattle.dirtab_entry.specs.declared.Entry as given
 use Rattle.dirtab_entry.specs.Entry.{kindFor, storedSize, checkOf}
 use Rattle.avl_model.specs.Lists.{Lists, lists}
@@ -27,6 +29,13 @@ pub record Columns : Type 0 where
 abbrev pub columns : List ℕ → List ℕ → List ℕ → List ℕ → List ℕ → List ℕ → List ℕ → List ℕ → Columns
 columns l r p h a n z k = record { left = l; right = r; parent = p; height = h; start = a; len = n; size = z; kind = k }
 
+-- the same as they are lent: at the call, and at the return
+abbrev pub lentColumns : Slice → Slice → Slice → Slice → Slice → Slice → Slice → Slice → Both Columns Columns
+lentColumns l r p h a n z k = record {
+  entry = columns (was l) (was r) (was p) (was h) (was a) (was n) (was z) (was k);
+  exit = columns (is l) (is r) (is p) (is h) (is a) (is n) (is z) (is k);
+}
+
 -- the held tree's root and count, the columns, and the bytes lent for names
 pub record Arena : Type 0 where
   pub root : ℕ
@@ -36,6 +45,10 @@ pub record Arena : Type 0 where
 
 abbrev pub arena : ℕ → ℕ → Columns → List ℕ → Arena
 arena t n c b = record { root = t; count = n; columns = c; bytes = b }
+
+-- the same as it is lent, at the call
+abbrev pub arenaIn : ℕ → ℕ → Slice → Slice → Slice → Slice → Slice → Slice → Slice → Slice → Slice → Arena
+arenaIn t n l r p h a m z k b = arena t n (lentColumns l r p h a m z k .entry) (was b)
 
 -- its tree's columns, and its names
 abbrev pub listsOf : Arena → Lists

@@ -3,9 +3,10 @@ ghost use mathlib.Core.Path.{_≡_};
 ghost use mathlib.Core.List.{[]};
 ghost use Prim.Native.Nat.{_≤_, _<_};
 ghost use lib.ListN.{length};
+ghost use Rattle.units.specs.Lent.{was};
 ghost use Rattle.dirtab_entry.specs.Entry.{checkOf};
 ghost use Rattle.avl_arena.specs.Test.{every};
-ghost use Rattle.dirtab_arena.specs.Arena.{columns, arena, isGiven, isTaken, isArena};
+ghost use Rattle.dirtab_arena.specs.Arena.{columns, arena, arenaIn, isGiven, isTaken, isArena};
 use avl_arena::is_tree;
 use dirtab_entry::Entry;
 use dirtab_entry::EntryChecked;
@@ -39,7 +40,7 @@ fn widen(x: u16) -> usize
 
 // Adding takes the entry.
 fn is_taken(names: &[u8], entry: Entry) -> bool
-    ensures { λ r. ⌜ r ≡ isGiven (checkOf (now (names .entry)) entry) ⌝ }
+    ensures { λ r. ⌜ r ≡ isGiven (checkOf (was names) entry) ⌝ }
 {
     match check_entry(names, entry) {
         EntryChecked::Good => true,
@@ -53,7 +54,7 @@ fn is_taken(names: &[u8], entry: Entry) -> bool
 // Adding takes each of the first n entries.
 fn are_taken(start: &[u32], len: &[u32], size: &[u32], kind: &[u8], names: &[u8], n: usize) -> bool
     requires { ⌜ (n ≤ length (now start)) × (n ≤ length (now len)) × (n ≤ length (now size)) × (n ≤ length (now kind)) ⌝ }
-    ensures { λ r. ⌜ r ≡ every (isTaken (arena 0 0 (columns [] [] [] [] (now (start .entry)) (now (len .entry)) (now (size .entry)) (now (kind .entry))) (now (names .entry)))) n ⌝ }
+    ensures { λ r. ⌜ r ≡ every (isTaken (arena 0 0 (columns [] [] [] [] (was start) (was len) (was size) (was kind)) (was names))) n ⌝ }
 {
     let mut i = 0;
     while i < n {
@@ -84,7 +85,7 @@ pub fn is_arena(
     kind: &[u8],
     names: &[u8],
 ) -> bool
-    ensures { λ r. ⌜ r ≡ isArena (arena (tree .root) (tree .count) (columns (now (left .entry)) (now (right .entry)) (now (parent .entry)) (now (height .entry)) (now (start .entry)) (now (len .entry)) (now (size .entry)) (now (kind .entry))) (now (names .entry))) ⌝ }
+    ensures { λ r. let A = arenaIn (tree .root) (tree .count) left right parent height start len size kind names in ⌜ r ≡ isArena A ⌝ }
 {
     let n = widen(tree.count);
     if size.len() < n {

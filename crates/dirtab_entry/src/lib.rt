@@ -2,6 +2,7 @@
 ghost use mathlib.Core.Path.{_≡_};
 ghost use mathlib.Core.Bool.{true};
 ghost use Prim.Native.Nat.{_≤_};
+ghost use Rattle.units.specs.Lent.{was};
 ghost use Rattle.dirtab_entry.specs.Entry.{told, checkOf, anyBad, isDirectory, storedSize, kindFor};
 
 pub enum Kind {
@@ -39,7 +40,7 @@ pub fn kind_of(n: u8) -> Kind
 
 // Some byte is 0 or above 127. All are looked at, which is faster than an early end.
 fn any_bad(s: &[u8]) -> bool
-    ensures { λ r. ⌜ r ≡ anyBad (now (s .entry)) ⌝ }
+    ensures { λ r. ⌜ r ≡ anyBad (was s) ⌝ }
 {
     let mut bad = false;
     let mut i = 0;
@@ -62,7 +63,7 @@ fn is_directory(kind: Kind) -> bool
 
 // What adding asks of an entry by itself: 1, 2, 3, 5 in that order.
 pub fn check_entry(names: &[u8], entry: Entry) -> EntryChecked
-    ensures { λ r. ⌜ told r ≡ checkOf (now (names .entry)) entry ⌝ }
+    ensures { λ r. ⌜ told r ≡ checkOf (was names) entry ⌝ }
 {
     let len = entry.len as usize;
     let start = entry.start as usize;

@@ -2,6 +2,7 @@
 use Prim.Native.Nat.{ℕ}
 use mathlib.Core.List.{List}
 use lib.ListN.{getD}
+use Rattle.units.specs.Lent.{Slice, was}
 use Rattle.dirtab_entry.specs.declared.Entry as given
 use Rattle.dirtab_entry.specs.Entry.{kindFor}
 
@@ -16,6 +17,10 @@ pub record Listing : Type 0 where
 
 abbrev pub listing : ℕ → List ℕ → List ℕ → List ℕ → List ℕ → List ℕ → Listing
 listing n a l z k b = record { count = n; start = a; len = l; size = z; kind = k; bytes = b }
+
+-- the same as it is lent, at the call
+abbrev pub listed : ℕ → Slice → Slice → Slice → Slice → Slice → Listing
+listed n a l z k b = listing n (was a) (was l) (was z) (was k) (was b)
 
 -- entry i as it is given
 abbrev pub givenIn : Listing → ℕ → given.Entry

@@ -4,6 +4,7 @@ ghost use mathlib.Core.Bool.{true};
 ghost use Prim.Native.Nat.{_-_, _≤_, _<_};
 ghost use lib.ListN.{length, getD};
 ghost use Rattle.units.specs.Told.{Told, gives};
+ghost use Rattle.units.specs.Lent.{was, is};
 ghost use Rattle.dirtab_entry.specs.Entry.{checkOf};
 ghost use Rattle.layout_name.specs.declared.Order.the-variants.{Greater};
 ghost use Rattle.avl_model.specs.declared.Place.the-variants.{Root, Right};
@@ -66,7 +67,7 @@ pub enum Built {
 // What adding asks of the entry i by itself.
 fn check_at(bytes: &[u8], start: &[u32], len: &[u32], size: &[u32], kind: &[u8], i: u16) -> Step
     requires { ⌜ Lent (listing 0 (now start) (now len) (now size) (now kind) (now bytes)) i ⌝ }
-    ensures { λ r. ⌜ ((x : Told Tree) → goOn r i x ≡ ifTaken i (checkOf (now (bytes .entry)) (givenIn (listing 0 (now (start .entry)) (now (len .entry)) (now (size .entry)) (now (kind .entry)) (now (bytes .entry))) i)) x) ⌝ }
+    ensures { λ r. ⌜ ((x : Told Tree) → goOn r i x ≡ ifTaken i (checkOf (was bytes) (givenIn (listing 0 (was start) (was len) (was size) (was kind) (was bytes)) i)) x) ⌝ }
 {
     let at = index(i);
     let entry = Entry {
@@ -97,8 +98,8 @@ fn find_seat(
 ) -> Seat
     requires { ⌜ KeySought (now left) (now right) (now key) root (names (now bytes) (now start) (now len)) ⌝ }
     requires { ⌜ Inside (names (now bytes) (now start) (now len)) new × (getD (now len) new 0 ≤ 255) ⌝ }
-    ensures { λ r. ⌜ ((w : KeySought (now (left .entry)) (now (right .entry)) (now (key .entry)) root (names (now (bytes .entry)) (now (start .entry)) (now (len .entry)))) →
-        Seated r (names (now (bytes .entry)) (now (start .entry)) (now (len .entry))) (spotIn (byName (names (now (bytes .entry)) (now (start .entry)) (now (len .entry))) new) (w .linked .t) Root) new) ⌝ }
+    ensures { λ r. ⌜ ((w : KeySought (was left) (was right) (was key) root (names (was bytes) (was start) (was len))) →
+        Seated r (names (was bytes) (was start) (was len)) (spotIn (byName (names (was bytes) (was start) (was len)) new) (w .linked .t) Root) new) ⌝ }
 {
     let name = name_of(bytes, start, len, new);
     let copy = raise_name(name);
@@ -118,7 +119,7 @@ fn find_seat(
 fn seat_after(bytes: &[u8], start: &[u32], len: &[u32], new: u16) -> Seat
     requires { ⌜ Inside (names (now bytes) (now start) (now len)) new × (getD (now len) new 0 ≤ 255) ⌝ }
     requires { ⌜ 0 < new ⌝ }
-    ensures { λ r. ⌜ ((s : Spot) → s ≡ Free (Right (new - 1)) → Seated r (names (now (bytes .entry)) (now (start .entry)) (now (len .entry))) s new) ⌝ }
+    ensures { λ r. ⌜ ((s : Spot) → s ≡ Free (Right (new - 1)) → Seated r (names (was bytes) (was start) (was len)) s new) ⌝ }
 {
     let name = name_of(bytes, start, len, new);
     let copy = raise_name(name);
@@ -144,8 +145,8 @@ fn choose_seat(
     requires { ⌜ KeySought (now left) (now right) (now key) root (names (now bytes) (now start) (now len)) ⌝ }
     requires { ⌜ Inside (names (now bytes) (now start) (now len)) new × (getD (now len) new 0 ≤ 255) ⌝ }
     requires { ⌜ After after (names (now bytes) (now start) (now len)) (treeAt 100 (now left) (now right) root) new ⌝ }
-    ensures { λ r. ⌜ ((w : KeySought (now (left .entry)) (now (right .entry)) (now (key .entry)) root (names (now (bytes .entry)) (now (start .entry)) (now (len .entry)))) →
-        Seated r (names (now (bytes .entry)) (now (start .entry)) (now (len .entry))) (spotIn (byName (names (now (bytes .entry)) (now (start .entry)) (now (len .entry))) new) (w .linked .t) Root) new) ⌝ }
+    ensures { λ r. ⌜ ((w : KeySought (was left) (was right) (was key) root (names (was bytes) (was start) (was len))) →
+        Seated r (names (was bytes) (was start) (was len)) (spotIn (byName (names (was bytes) (was start) (was len)) new) (w .linked .t) Root) new) ⌝ }
 {
     if after {
         return seat_after(bytes, start, len, new);
@@ -169,10 +170,10 @@ pub fn hang_entry(
 ) -> Step
     requires { ⌜ Hangable (lists (now root) (now left) (now right) (now parent) (now height)) (now key) (names (now bytes) (now start) (now len)) new ⌝ }
     requires { ⌜ After after (names (now bytes) (now start) (now len)) (treeAt 100 (now left) (now right) (now root)) new ⌝ }
-    ensures { λ r. ⌜ ((w : Growing (lists (now (root .entry)) (now (left .entry)) (now (right .entry)) (now (parent .entry)) (now (height .entry))) (now (key .entry)) (names (now (bytes .entry)) (now (start .entry)) (now (len .entry))) new) →
-        Stepped r (gives tt) (spotIn (byName (names (now (bytes .entry)) (now (start .entry)) (now (len .entry))) new) (w .t) Root) new
-        (lists (now (root .exit)) (now (left .exit)) (now (right .exit)) (now (parent .exit)) (now (height .exit))) (now (key .exit)) (names (now (bytes .entry)) (now (start .entry)) (now (len .entry)))
-        (ins (λ i. isLess (byName (names (now (bytes .entry)) (now (start .entry)) (now (len .entry))) new i)) new (w .t))) ⌝ }
+    ensures { λ r. ⌜ ((w : Growing (lists (was root) (was left) (was right) (was parent) (was height)) (was key) (names (was bytes) (was start) (was len)) new) →
+        Stepped r (gives tt) (spotIn (byName (names (was bytes) (was start) (was len)) new) (w .t) Root) new
+        (lists (is root) (is left) (is right) (is parent) (is height)) (is key) (names (was bytes) (was start) (was len))
+        (ins (λ i. isLess (byName (names (was bytes) (was start) (was len)) new i)) new (w .t))) ⌝ }
 {
     match choose_seat(left, right, key, bytes, start, len, *root, new, after) {
         Seat::Refused(cause) => Step::Refused(cause),
@@ -204,11 +205,11 @@ fn add_entry(
     requires { ⌜ Lent (listing 0 (now start) (now len) (now size) (now kind) (now bytes)) i ⌝ }
     requires { ⌜ Wide (lists (now root) (now left) (now right) (now parent) (now height)) (now key) i ⌝ }
     requires { ⌜ ((w : Growing (lists (now root) (now left) (now right) (now parent) (now height)) (now key) (names (now bytes) (now start) (now len)) i) × After after (names (now bytes) (now start) (now len)) (w .t) i) ⌝ }
-    ensures { λ r. ⌜ ((w : Growing (lists (now (root .entry)) (now (left .entry)) (now (right .entry)) (now (parent .entry)) (now (height .entry))) (now (key .entry)) (names (now (bytes .entry)) (now (start .entry)) (now (len .entry))) i) →
-        Stepped r (checkOf (now (bytes .entry)) (givenIn (listing 0 (now (start .entry)) (now (len .entry)) (now (size .entry)) (now (kind .entry)) (now (bytes .entry))) i))
-        (spotIn (byName (names (now (bytes .entry)) (now (start .entry)) (now (len .entry))) i) (w .t) Root) i
-        (lists (now (root .exit)) (now (left .exit)) (now (right .exit)) (now (parent .exit)) (now (height .exit))) (now (key .exit)) (names (now (bytes .entry)) (now (start .entry)) (now (len .entry)))
-        (ins (λ j. isLess (byName (names (now (bytes .entry)) (now (start .entry)) (now (len .entry))) i j)) i (w .t))) ⌝ }
+    ensures { λ r. ⌜ ((w : Growing (lists (was root) (was left) (was right) (was parent) (was height)) (was key) (names (was bytes) (was start) (was len)) i) →
+        Stepped r (checkOf (was bytes) (givenIn (listing 0 (was start) (was len) (was size) (was kind) (was bytes)) i))
+        (spotIn (byName (names (was bytes) (was start) (was len)) i) (w .t) Root) i
+        (lists (is root) (is left) (is right) (is parent) (is height)) (is key) (names (was bytes) (was start) (was len))
+        (ins (λ j. isLess (byName (names (was bytes) (was start) (was len)) i j)) i (w .t))) ⌝ }
 {
     match check_at(bytes, start, len, size, kind, i) {
         Step::Refused(cause) => Step::Refused(cause),
@@ -240,7 +241,7 @@ fn wide(x: u32) -> usize
 // The name of an entry stands inside the bytes lent for names.
 fn has_name(bytes: &[u8], start: &[u32], len: &[u32], at: u16) -> bool
     requires { ⌜ (at < length (now start)) × (at < length (now len)) ⌝ }
-    ensures { λ r. ⌜ (r ≡ true → Inside (names (now (bytes .entry)) (now (start .entry)) (now (len .entry))) at) ⌝ }
+    ensures { λ r. ⌜ (r ≡ true → Inside (names (was bytes) (was start) (was len)) at) ⌝ }
 {
     let i = index(at);
     let from = wide(start[i]);
@@ -251,7 +252,7 @@ fn has_name(bytes: &[u8], start: &[u32], len: &[u32], at: u16) -> bool
 // The name of an entry is greater than that of the entry before it.
 fn comes_after(bytes: &[u8], start: &[u32], len: &[u32], at: u16) -> bool
     requires { ⌜ (at < length (now start)) × (at < length (now len)) × (0 < at) ⌝ }
-    ensures { λ r. ⌜ (r ≡ true → byName (names (now (bytes .entry)) (now (start .entry)) (now (len .entry))) at (at - 1) ≡ Greater) ⌝ }
+    ensures { λ r. ⌜ (r ≡ true → byName (names (was bytes) (was start) (was len)) at (at - 1) ≡ Greater) ⌝ }
 {
     let before = at - 1;
     if has_name(bytes, start, len, at) {
@@ -271,7 +272,7 @@ fn comes_after(bytes: &[u8], start: &[u32], len: &[u32], at: u16) -> bool
 // The entries so far came in order (`up`), and the next one goes on so.
 fn goes_up(bytes: &[u8], start: &[u32], len: &[u32], at: u16, up: bool) -> bool
     requires { ⌜ (at < length (now start)) × (at < length (now len)) × (up ≡ true → 0 < at) ⌝ }
-    ensures { λ r. ⌜ (r ≡ true → (up ≡ true) × (byName (names (now (bytes .entry)) (now (start .entry)) (now (len .entry))) at (at - 1) ≡ Greater)) ⌝ }
+    ensures { λ r. ⌜ (r ≡ true → (up ≡ true) × (byName (names (was bytes) (was start) (was len)) at (at - 1) ≡ Greater)) ⌝ }
 {
     if up {
         return comes_after(bytes, start, len, at);
@@ -303,8 +304,8 @@ pub fn build(
     key: &mut [u32],
 ) -> Built
     requires { ⌜ Roomy (listing count (now start) (now len) (now size) (now kind) (now bytes)) (lists (now root) (now left) (now right) (now parent) (now height)) (now key) count ⌝ }
-    ensures { λ r. ⌜ Outcome r (grow (now (bytes .entry)) (givenIn (listing count (now (start .entry)) (now (len .entry)) (now (size .entry)) (now (kind .entry)) (now (bytes .entry)))) count)
-        (lists (now (root .exit)) (now (left .exit)) (now (right .exit)) (now (parent .exit)) (now (height .exit))) (names (now (bytes .entry)) (now (start .entry)) (now (len .entry))) count ⌝ }
+    ensures { λ r. ⌜ Outcome r (grow (was bytes) (givenIn (listing count (was start) (was len) (was size) (was kind) (was bytes))) count)
+        (lists (is root) (is left) (is right) (is parent) (is height)) (names (was bytes) (was start) (was len)) count ⌝ }
 {
     *root = 65535;
     let mut up = false;

@@ -15,7 +15,7 @@ use Rattle.dirtab.specs.Serialise.{ifFits, ifWritten}
 use Rattle.dirtab_grow.specs.Listing.{Listing, givenIn}
 use Rattle.dirtab_grow.specs.Grow.{grow}
 use Rattle.dirtab_grow.specs.Growing.{Roomy}
-use Rattle.dirtab_list.specs.Whole.{entryIn, ifGrown, tableFor, shortest, hasPlaces, wholeOf, outAfter, scratchAfter}
+use Rattle.dirtab_list.specs.Whole.{entryIn, ifGrown, tableFor, shortest, hasPlaces, wholeOf, outAfter, scratchAfter, Lent, lent, placesIn, lentAfter}
 use Rattle.dirtab_list.specs.Steps.{answerOf, outputOf}
 
 min-le : (n a b : ℕ) → n ≤ min a b → (n ≤ a) × (n ≤ b)
@@ -86,3 +86,22 @@ module _ (L : Listing) (n : ℕ) where
   pub short-scratch : (xs : List ℕ) → hasPlaces L n ≡ false → xs ≡ scratchAfter L n xs
   unfolding scratchAfter
   short-scratch xs e = ap (λ (b : Bool). pick b (replicate (length xs) 0) xs) (sym e)
+
+-- all that was lent, from each part
+pub join : {l r p h k o q z l′ r′ p′ h′ k′ o′ q′ z′ : List ℕ} → l ≡ l′ → r ≡ r′ → p ≡ p′ → h ≡ h′ → k ≡ k′ → o ≡ o′ → q ≡ q′ → z ≡ z′
+    → lent l r p h k o q z ≡ lent l′ r′ p′ h′ k′ o′ q′ z′
+join l r p h k o q z i = lent (l i) (r i) (p i) (h i) (k i) (o i) (q i) (z i)
+
+-- all of it where a column is too short
+pub short-lent : (L : Listing) (s : ℕ) (m : Lent) → hasPlaces L (placesIn m) ≡ false → m ≡ lentAfter L s m
+short-lent L s m e =
+    let n = placesIn m in
+    join
+    (short-scratch L n (m .left) e)
+    (short-scratch L n (m .right) e)
+    (short-scratch L n (m .parent) e)
+    (short-scratch L n (m .height) e)
+    (short-scratch L n (m .key) e)
+    (short-scratch L n (m .order) e)
+    (short-scratch L n (m .place) e)
+    (short-out L n s (m .out) e)

@@ -4,7 +4,9 @@ use mathlib.Core.Bool.{Bool, _&&_}
 use mathlib.Core.List.{List, [], _∷_}
 use lib.Dec.{leb}
 use lib.ListN.{length, getD, replicate}
+use denote.Triple.Both.{Both}
 use Rattle.units.specs.Told.{Told, gives, refuses, pick}
+use Rattle.units.specs.Lent.{Slice, was, is}
 use Rattle.dirtab_entry.specs.Entry.{kindFor, storedSize, nameIn}
 use Rattle.avl_model.specs.Tree.{Tree}
 use Rattle.table_model.specs.Entry.{Entry}
@@ -12,7 +14,7 @@ use Rattle.table_model.specs.Table.{Placing, placeOf, tableBytes}
 pub use Rattle.dirtab.specs.Serialise.{ifFits, ifWritten}
 use Rattle.dirtab_list.specs.declared.ListWritten.{ListWritten}
 use Rattle.dirtab_list.specs.declared.ListWritten.the-variants as written
-pub use Rattle.dirtab_grow.specs.Listing.{Listing, listing, givenIn}
+pub use Rattle.dirtab_grow.specs.Listing.{Listing, listing, listed, givenIn}
 use Rattle.dirtab_grow.specs.Grow.{grow}
 
 -- entry i as a table has it (a directory's size rounded)
@@ -57,6 +59,57 @@ outAfter L n s out =
 -- EACH COLUMN OF SCRATCH AFTERWARDS: unchanged after the first 6, else all zero
 unfoldable pub scratchAfter : Listing → ℕ → List ℕ → List ℕ
 scratchAfter L n xs = pick (hasPlaces L n) (replicate (length xs) 0) xs
+
+-- what is lent: seven columns of scratch, and the output
+pub record Lent : Type 0 where
+  pub left : List ℕ
+  pub right : List ℕ
+  pub parent : List ℕ
+  pub height : List ℕ
+  pub key : List ℕ
+  pub order : List ℕ
+  pub place : List ℕ
+  pub out : List ℕ
+
+abbrev pub lent : List ℕ → List ℕ → List ℕ → List ℕ → List ℕ → List ℕ → List ℕ → List ℕ → Lent
+lent left right parent height key order place out = record {
+  left = left;
+  right = right;
+  parent = parent;
+  height = height;
+  key = key;
+  order = order;
+  place = place;
+  out = out;
+}
+
+-- the same at the call, and at the return
+abbrev pub memory : Slice → Slice → Slice → Slice → Slice → Slice → Slice → Slice → Both Lent Lent
+memory left right parent height key order place out = record {
+  entry = lent (was left) (was right) (was parent) (was height) (was key) (was order) (was place) (was out);
+  exit = lent (is left) (is right) (is parent) (is height) (is key) (is order) (is place) (is out);
+}
+
+-- the length of the shortest column of scratch
+abbrev pub placesIn : Lent → ℕ
+placesIn m = shortest (m .left) (m .right) (m .parent) (m .height) (m .key) (m .order) (m .place)
+
+-- the answer, by what is lent
+abbrev pub answerIn : Listing → ℕ → Lent → Told Placing
+answerIn L s m = wholeOf L (placesIn m) s (length (m .out))
+
+-- ALL THAT WAS LENT, AFTERWARDS
+abbrev pub lentAfter : Listing → ℕ → Lent → Lent
+lentAfter L s m = record {
+  left = scratchAfter L (placesIn m) (m .left);
+  right = scratchAfter L (placesIn m) (m .right);
+  parent = scratchAfter L (placesIn m) (m .parent);
+  height = scratchAfter L (placesIn m) (m .height);
+  key = scratchAfter L (placesIn m) (m .key);
+  order = scratchAfter L (placesIn m) (m .order);
+  place = scratchAfter L (placesIn m) (m .place);
+  out = outAfter L (placesIn m) s (m .out);
+}
 
 -- what each answer of the code stands for
 abbrev pub told : ListWritten → Told Placing

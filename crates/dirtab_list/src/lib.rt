@@ -16,13 +16,14 @@ ghost use Prim.Native.Nat.{_≤_, min};
 ghost use lib.Dec.{leb};
 ghost use lib.ListN.{length, replicate};
 ghost use Rattle.units.specs.Told.{refuses};
+ghost use Rattle.units.specs.Lent.{was, is};
 ghost use Rattle.avl_model.specs.Tree.{Tree};
 ghost use Rattle.avl_model.specs.Lists.{lists};
 ghost use Rattle.dirtab.specs.Serialise as serialise;
-ghost use Rattle.dirtab.specs.Steps.{Rooted, writingOf, writingOut};
-ghost use Rattle.dirtab_grow.specs.Listing.{listing};
+ghost use Rattle.dirtab.specs.Steps.{Rooted, RootedIn, writingOf, writingOut};
+ghost use Rattle.dirtab_grow.specs.Listing.{listing, listed};
 ghost use Rattle.dirtab_grow.specs.Growing.{numberOf, Roomy};
-ghost use Rattle.dirtab_list.specs.Whole.{told, entryIn, shortest, wholeOf, outAfter, scratchAfter};
+ghost use Rattle.dirtab_list.specs.Whole.{told, entryIn, shortest, memory, answerIn, lentAfter};
 ghost use Rattle.dirtab_list.specs.Steps.{answerOf, outputOf};
 
 // What writing a list answers.
@@ -46,7 +47,8 @@ pub enum ListWritten {
 
 // Three columns, zero everywhere.
 fn clear_three(a: &mut [u16], b: &mut [u16], d: &mut [u16])
-    ensures { λ _. ⌜ (now (a .exit) ≡ replicate (length (now (a .entry))) 0) × ((now (b .exit) ≡ replicate (length (now (b .entry))) 0) × (now (d .exit) ≡ replicate (length (now (d .entry))) 0)) ⌝ }
+    ensures { λ _. ⌜ (is a ≡ replicate (length (was a)) 0)
+        × ((is b ≡ replicate (length (was b)) 0) × (is d ≡ replicate (length (was d)) 0)) ⌝ }
 {
     clear_shorts(a);
     clear_shorts(b);
@@ -55,7 +57,8 @@ fn clear_three(a: &mut [u16], b: &mut [u16], d: &mut [u16])
 
 // Four columns, zero everywhere.
 fn clear_four(height: &mut [u8], key: &mut [u32], order: &mut [u16], place: &mut [u16])
-    ensures { λ _. ⌜ ((now (height .exit) ≡ replicate (length (now (height .entry))) 0) × (now (key .exit) ≡ replicate (length (now (key .entry))) 0)) × ((now (order .exit) ≡ replicate (length (now (order .entry))) 0) × (now (place .exit) ≡ replicate (length (now (place .entry))) 0)) ⌝ }
+    ensures { λ _. ⌜ ((is height ≡ replicate (length (was height)) 0) × (is key ≡ replicate (length (was key)) 0))
+        × ((is order ≡ replicate (length (was order)) 0) × (is place ≡ replicate (length (was place)) 0)) ⌝ }
 {
     clear_bytes(height);
     clear_words(key);
@@ -147,11 +150,15 @@ fn write_built(
     place: &mut [u16],
     out: &mut [u8],
 ) -> ListWritten
-    requires { ⌜ (count ≤ 16384) × (((t : Tree) × Rooted (now left) (now right) (now start) (now len) (now size) (now kind) (now names) root count t) × ((count ≤ length (now order)) × (count ≤ length (now place)))) ⌝ }
-    ensures answer { λ r. ⌜ ((t : Tree) → Rooted (now (left .entry)) (now (right .entry)) (now (start .entry)) (now (len .entry)) (now (size .entry)) (now (kind .entry)) (now (names .entry)) root count t →
-        told r ≡ writingOf (entryIn (listing count (now (start .entry)) (now (len .entry)) (now (size .entry)) (now (kind .entry)) (now (names .entry)))) (first .0) t (length (now (out .entry)))) ⌝ }
-    ensures out { λ _. ⌜ ((t : Tree) → Rooted (now (left .entry)) (now (right .entry)) (now (start .entry)) (now (len .entry)) (now (size .entry)) (now (kind .entry)) (now (names .entry)) root count t →
-        now (out .exit) ≡ writingOut (entryIn (listing count (now (start .entry)) (now (len .entry)) (now (size .entry)) (now (kind .entry)) (now (names .entry)))) (first .0) t (now (out .entry))) ⌝ }
+    requires { ⌜ (count ≤ 16384) × (((t : Tree) × Rooted (now left) (now right)
+        (now start) (now len) (now size) (now kind) (now names) root count t)
+        × ((count ≤ length (now order)) × (count ≤ length (now place)))) ⌝ }
+    ensures answer { λ r. let list = listed count start len size kind names in
+        ⌜ ((t : Tree) → RootedIn left right start len size kind names root count t →
+        told r ≡ writingOf (entryIn list) (first .0) t (length (was out))) ⌝ }
+    ensures out { λ _. let list = listed count start len size kind names in
+        ⌜ ((t : Tree) → RootedIn left right start len size kind names root count t →
+        is out ≡ writingOut (entryIn list) (first .0) t (was out)) ⌝ }
 {
     let held = Held {
         root: root,
@@ -192,9 +199,13 @@ fn write_checked(
     place: &mut [u16],
     out: &mut [u8],
 ) -> ListWritten
-    requires { ⌜ Roomy (listing count (now start) (now len) (now size) (now kind) (now names)) (lists 65535 (now left) (now right) (now parent) (now height)) (now key) count × ((count ≤ length (now order)) × (count ≤ length (now place))) ⌝ }
-    ensures answer { λ r. ⌜ told r ≡ answerOf (listing count (now (start .entry)) (now (len .entry)) (now (size .entry)) (now (kind .entry)) (now (names .entry))) (first .0) (length (now (out .entry))) ⌝ }
-    ensures out { λ _. ⌜ now (out .exit) ≡ outputOf (listing count (now (start .entry)) (now (len .entry)) (now (size .entry)) (now (kind .entry)) (now (names .entry))) (first .0) (now (out .entry)) ⌝ }
+    requires { ⌜ Roomy (listing count (now start) (now len) (now size) (now kind) (now names))
+        (lists 65535 (now left) (now right) (now parent) (now height)) (now key) count
+        × ((count ≤ length (now order)) × (count ≤ length (now place))) ⌝ }
+    ensures answer { λ r. let list = listed count start len size kind names in
+        ⌜ told r ≡ answerOf list (first .0) (length (was out)) ⌝ }
+    ensures out { λ _. let list = listed count start len size kind names in
+        ⌜ is out ≡ outputOf list (first .0) (was out) ⌝ }
 {
     let mut root: u16 = 65535;
     match build(
@@ -240,7 +251,7 @@ fn measure(
     order: &[u16],
     place: &[u16],
 ) -> usize
-    ensures { λ r. ⌜ r ≡ shortest (now (left .entry)) (now (right .entry)) (now (parent .entry)) (now (height .entry)) (now (key .entry)) (now (order .entry)) (now (place .entry)) ⌝ }
+    ensures { λ r. ⌜ r ≡ shortest (was left) (was right) (was parent) (was height) (was key) (was order) (was place) ⌝ }
 {
     least(
         left.len(),
@@ -275,15 +286,11 @@ pub fn write_list(
     place: &mut [u16],
     out: &mut [u8],
 ) -> ListWritten
-    ensures answer { λ r. ⌜ told r ≡ wholeOf (listing count (now (start .entry)) (now (len .entry)) (now (size .entry)) (now (kind .entry)) (now (names .entry))) (shortest (now (left .entry)) (now (right .entry)) (now (parent .entry)) (now (height .entry)) (now (key .entry)) (now (order .entry)) (now (place .entry))) (first .0) (length (now (out .entry))) ⌝ }
-    ensures out { λ _. ⌜ now (out .exit) ≡ outAfter (listing count (now (start .entry)) (now (len .entry)) (now (size .entry)) (now (kind .entry)) (now (names .entry))) (shortest (now (left .entry)) (now (right .entry)) (now (parent .entry)) (now (height .entry)) (now (key .entry)) (now (order .entry)) (now (place .entry))) (first .0) (now (out .entry)) ⌝ }
-    ensures left { λ _. ⌜ now (left .exit) ≡ scratchAfter (listing count (now (start .entry)) (now (len .entry)) (now (size .entry)) (now (kind .entry)) (now (names .entry))) (shortest (now (left .entry)) (now (right .entry)) (now (parent .entry)) (now (height .entry)) (now (key .entry)) (now (order .entry)) (now (place .entry))) (now (left .entry)) ⌝ }
-    ensures right { λ _. ⌜ now (right .exit) ≡ scratchAfter (listing count (now (start .entry)) (now (len .entry)) (now (size .entry)) (now (kind .entry)) (now (names .entry))) (shortest (now (left .entry)) (now (right .entry)) (now (parent .entry)) (now (height .entry)) (now (key .entry)) (now (order .entry)) (now (place .entry))) (now (right .entry)) ⌝ }
-    ensures parent { λ _. ⌜ now (parent .exit) ≡ scratchAfter (listing count (now (start .entry)) (now (len .entry)) (now (size .entry)) (now (kind .entry)) (now (names .entry))) (shortest (now (left .entry)) (now (right .entry)) (now (parent .entry)) (now (height .entry)) (now (key .entry)) (now (order .entry)) (now (place .entry))) (now (parent .entry)) ⌝ }
-    ensures height { λ _. ⌜ now (height .exit) ≡ scratchAfter (listing count (now (start .entry)) (now (len .entry)) (now (size .entry)) (now (kind .entry)) (now (names .entry))) (shortest (now (left .entry)) (now (right .entry)) (now (parent .entry)) (now (height .entry)) (now (key .entry)) (now (order .entry)) (now (place .entry))) (now (height .entry)) ⌝ }
-    ensures key { λ _. ⌜ now (key .exit) ≡ scratchAfter (listing count (now (start .entry)) (now (len .entry)) (now (size .entry)) (now (kind .entry)) (now (names .entry))) (shortest (now (left .entry)) (now (right .entry)) (now (parent .entry)) (now (height .entry)) (now (key .entry)) (now (order .entry)) (now (place .entry))) (now (key .entry)) ⌝ }
-    ensures order { λ _. ⌜ now (order .exit) ≡ scratchAfter (listing count (now (start .entry)) (now (len .entry)) (now (size .entry)) (now (kind .entry)) (now (names .entry))) (shortest (now (left .entry)) (now (right .entry)) (now (parent .entry)) (now (height .entry)) (now (key .entry)) (now (order .entry)) (now (place .entry))) (now (order .entry)) ⌝ }
-    ensures place { λ _. ⌜ now (place .exit) ≡ scratchAfter (listing count (now (start .entry)) (now (len .entry)) (now (size .entry)) (now (kind .entry)) (now (names .entry))) (shortest (now (left .entry)) (now (right .entry)) (now (parent .entry)) (now (height .entry)) (now (key .entry)) (now (order .entry)) (now (place .entry))) (now (place .entry)) ⌝ }
+    ensures { λ r.
+        let list = listed count start len size kind names in
+        let m = memory left right parent height key order place out in
+        ⌜ told r ≡ answerIn list (first .0) (m .entry) ⌝
+        ∗ ⌜ m .exit ≡ lentAfter list (first .0) (m .entry) ⌝ }
 {
     let scratch = measure(left, right, parent, height, key, order, place);
     if have_places(

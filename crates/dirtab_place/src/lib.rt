@@ -9,6 +9,7 @@ use units::Sector;
 ghost use mathlib.Core.Path.{_≡_};
 ghost use Prim.Native.Nat.{_/_, _≤_, _<_};
 ghost use lib.ListN.{length};
+ghost use Rattle.units.specs.Lent.{was, is};
 ghost use Rattle.layout_node.specs.Header.{entryLength};
 ghost use Rattle.table_model.specs.Place.{startAfter};
 ghost use Rattle.dirtab_place.specs.Places.{Placeable, Countable, Sized, sizeIn, toldEnd, endsOver, placesOver, toldFree, freeOver};
@@ -65,8 +66,8 @@ fn link_to(o: u32) -> u16
 // Each entry of the order gets its offset over 4, at its number.
 pub fn place_entries(order: &[u16], len: &[u32], place: &mut [u16]) -> Ends
     requires { ⌜ Placeable (now order) (now len) (length (now place)) ⌝ }
-    ensures answer { λ r. ⌜ toldEnd r ≡ endsOver (now (len .entry)) 0 (now (order .entry)) ⌝ }
-    ensures place { λ _. ⌜ now (place .exit) ≡ placesOver (now (len .entry)) 0 (now (order .entry)) (now (place .entry)) ⌝ }
+    ensures answer { λ r. ⌜ toldEnd r ≡ endsOver (was len) 0 (was order) ⌝ }
+    ensures place { λ _. ⌜ is place ≡ placesOver (was len) 0 (was order) (was place) ⌝ }
 {
     let mut e: u32 = 0;
     let mut k: usize = 0;
@@ -87,7 +88,7 @@ pub fn place_entries(order: &[u16], len: &[u32], place: &mut [u16]) -> Ends
 // The size that an entry is stored with.
 pub fn stored_at(size: &[u32], kind: &[u8], i: usize) -> u32
     requires { ⌜ Sized (now size) (now kind) i ⌝ }
-    ensures { λ r. ⌜ r ≡ sizeIn (now (size .entry)) (now (kind .entry)) i ⌝ }
+    ensures { λ r. ⌜ r ≡ sizeIn (was size) (was kind) i ⌝ }
 {
     stored_size(kind_of(kind[i]), size[i])
 }
@@ -95,7 +96,7 @@ pub fn stored_at(size: &[u32], kind: &[u8], i: usize) -> u32
 // The entries of the order take their sectors, from the first on.
 pub fn count_sectors(order: &[u16], size: &[u32], kind: &[u8], first: Sector) -> Counted
     requires { ⌜ Countable (now order) (now size) (now kind) ⌝ }
-    ensures { λ r. ⌜ toldFree r ≡ freeOver (now (size .entry)) (now (kind .entry)) (first .0) (now (order .entry)) ⌝ }
+    ensures { λ r. ⌜ toldFree r ≡ freeOver (was size) (was kind) (first .0) (was order) ⌝ }
 {
     let mut counter = SectorCounter::starting_at(first);
     let mut k: usize = 0;

@@ -15,6 +15,7 @@ ghost use mathlib.Core.Path.{_≡_};
 ghost use mathlib.Core.List.{_++_};
 ghost use Prim.Native.Nat.{_+_, _*_, _≤_, _<_};
 ghost use lib.ListN.{length, getD};
+ghost use Rattle.units.specs.Lent.{was, is};
 ghost use Rattle.layout_bytes.specs.Bytes.{putAt};
 ghost use Rattle.layout_node.specs.Header.{headerBytes};
 ghost use Rattle.layout_sector.specs.Counter.{alignedUp};
@@ -35,7 +36,7 @@ fn widen(x: u16) -> usize
 // The link to a child: 0 where there is none.
 fn link_of(place: &[u16], child: u16) -> u16
     requires { ⌜ LinkIn (now place) child ⌝ }
-    ensures { λ r. ⌜ r ≡ linkBy (now (place .entry)) child ⌝ }
+    ensures { λ r. ⌜ r ≡ linkBy (was place) child ⌝ }
 {
     if child == NONE {
         return 0;
@@ -65,7 +66,7 @@ fn header_by(
     n: u8,
 ) -> Header
     requires { ⌜ Headed (now left) (now right) (now place) (now size) (now kind) i ⌝ }
-    ensures { λ r. ⌜ r ≡ headerBy (now (left .entry)) (now (right .entry)) (now (place .entry)) (now (size .entry)) (now (kind .entry)) i (sector .0) n ⌝ }
+    ensures { λ r. ⌜ r ≡ headerBy (was left) (was right) (was place) (was size) (was kind) i (sector .0) n ⌝ }
 {
     Header {
         left: Link::new(link_of(place, left[i])),
@@ -80,7 +81,7 @@ fn header_by(
 // A header and a name.
 fn put_entry(out: &mut [u8], at: usize, header: Header, name: &[u8])
     requires { ⌜ at + 14 + length (now name) ≤ length (now out) ⌝ }
-    ensures { λ _. ⌜ now (out .exit) ≡ putAt (now (out .entry)) at (headerBytes header ++ now (name .entry)) ⌝ }
+    ensures { λ _. ⌜ is out ≡ putAt (was out) at (headerBytes header ++ was name) ⌝ }
 {
     put_header(out, at, header);
     put_bytes(out, at + 14, name);
@@ -101,7 +102,7 @@ fn put_item(
     sector: Sector,
 )
     requires { ⌜ Numbered (cols (now left) (now right) (now place) (now start) (now len) (now size) (now kind) (now names)) (length (now out)) number ⌝ }
-    ensures { λ _. ⌜ now (out .exit) ≡ putAt (now (out .entry)) (4 * getD (now (place .entry)) number 0) (stored (itemBy (cols (now (left .entry)) (now (right .entry)) (now (place .entry)) (now (start .entry)) (now (len .entry)) (now (size .entry)) (now (kind .entry)) (now (names .entry))) (sector .0) number)) ⌝ }
+    ensures { λ _. ⌜ is out ≡ putAt (was out) (4 * getD (was place) number 0) (stored (itemBy (cols (was left) (was right) (was place) (was start) (was len) (was size) (was kind) (was names)) (sector .0) number)) ⌝ }
 {
     let i = widen(number);
     let name = name_of(names, start, len, number);
@@ -126,8 +127,8 @@ fn put_node(
     counter: SectorCounter,
 ) -> SectorCounter
     requires { ⌜ Numbered (cols (now left) (now right) (now place) (now start) (now len) (now size) (now kind) (now names)) (length (now out)) number × (freeIn (now size) (now kind) (counter .next .0) number ≤ 4294967295) ⌝ }
-    ensures counter { λ r. ⌜ r .next .0 ≡ freeIn (now (size .entry)) (now (kind .entry)) (counter .next .0) number ⌝ }
-    ensures out { λ _. ⌜ now (out .exit) ≡ putAt (now (out .entry)) (4 * getD (now (place .entry)) number 0) (stored (itemBy (cols (now (left .entry)) (now (right .entry)) (now (place .entry)) (now (start .entry)) (now (len .entry)) (now (size .entry)) (now (kind .entry)) (now (names .entry))) (alignedUp 1 (counter .next .0)) number)) ⌝ }
+    ensures counter { λ r. ⌜ r .next .0 ≡ freeIn (was size) (was kind) (counter .next .0) number ⌝ }
+    ensures out { λ _. ⌜ is out ≡ putAt (was out) (4 * getD (was place) number 0) (stored (itemBy (cols (was left) (was right) (was place) (was start) (was len) (was size) (was kind) (was names)) (alignedUp 1 (counter .next .0)) number)) ⌝ }
 {
     let bytes = stored_at(size, kind, widen(number));
     match counter.take(bytes as u64) {
@@ -166,7 +167,7 @@ fn write_entries(
     first: Sector,
 )
     requires { ⌜ Writes (cols (now left) (now right) (now place) (now start) (now len) (now size) (now kind) (now names)) (now order) (first .0) (length (now out)) ⌝ }
-    ensures { λ _. ⌜ now (out .exit) ≡ putAll (itemsBy (cols (now (left .entry)) (now (right .entry)) (now (place .entry)) (now (start .entry)) (now (len .entry)) (now (size .entry)) (now (kind .entry)) (now (names .entry))) (first .0) (now (order .entry))) (now (out .entry)) ⌝ }
+    ensures { λ _. ⌜ is out ≡ putAll (itemsBy (cols (was left) (was right) (was place) (was start) (was len) (was size) (was kind) (was names)) (first .0) (was order)) (was out) ⌝ }
 {
     let mut counter = SectorCounter::starting_at(first);
     let mut k: usize = 0;
@@ -204,7 +205,7 @@ pub fn write_table(
     first: Sector,
 )
     requires { ⌜ Spaces (cols (now left) (now right) (now place) (now start) (now len) (now size) (now kind) (now names)) (now order) (first .0) n (length (now out)) ⌝ }
-    ensures { λ _. ⌜ now (out .exit) ≡ writtenOver n (itemsBy (cols (now (left .entry)) (now (right .entry)) (now (place .entry)) (now (start .entry)) (now (len .entry)) (now (size .entry)) (now (kind .entry)) (now (names .entry))) (first .0) (now (order .entry))) (now (out .entry)) ⌝ }
+    ensures { λ _. ⌜ is out ≡ writtenOver n (itemsBy (cols (was left) (was right) (was place) (was start) (was len) (was size) (was kind) (was names)) (first .0) (was order)) (was out) ⌝ }
 {
     fill(out, n, 0xff);
     write_entries(

@@ -4,7 +4,9 @@ use mathlib.Core.Bool.{Bool, true, _&&_}
 use mathlib.Core.List.{List, [], _∷_, _++_}
 use lib.Dec.{leb}
 use lib.ListN.{length, take, drop, replicate}
+use denote.Triple.Both.{Both}
 use Rattle.units.specs.Told.{Told, gives, refuses, pick}
+use Rattle.units.specs.Lent.{Slice, was, is}
 use Rattle.img_model.specs.Shares.{Request, request}
 use Rattle.img_model.specs.Plan.{Plan, planOf}
 
@@ -33,6 +35,11 @@ asked directories entries first share start len kind value bytes = record {
   bytes = bytes;
 }
 
+-- the same as it is lent, at the call
+abbrev pub asking : ℕ → ℕ → Slice → Slice → Slice → Slice → Slice → Slice → Slice → Asked
+asking directories entries first share start len kind value bytes =
+    asked directories entries (was first) (was share) (was start) (was len) (was kind) (was value) (was bytes)
+
 -- what is lent: the size and the sector of each table, the sector of each entry; and scratch: a size for each directory, the columns of a tree, an order
 pub record Lent : Type 0 where
   pub sizes : List ℕ
@@ -60,6 +67,13 @@ lent sizes tables sectors sized left right parent height key size order = record
   key = key;
   size = size;
   order = order;
+}
+
+-- the same at the call, and at the return
+abbrev pub memory : Slice → Slice → Slice → Slice → Slice → Slice → Slice → Slice → Slice → Slice → Slice → Both Lent Lent
+memory sizes tables sectors sized left right parent height key size order = record {
+  entry = lent (was sizes) (was tables) (was sectors) (was sized) (was left) (was right) (was parent) (was height) (was key) (was size) (was order);
+  exit = lent (is sizes) (is tables) (is sectors) (is sized) (is left) (is right) (is parent) (is height) (is key) (is size) (is order);
 }
 
 -- the length of the shortest column that has a place for each directory, for each entry, and for each node of a tree
@@ -96,6 +110,9 @@ imageOf A L =
 abbrev pub answerOf : Told Plan → Told ℕ
 answerOf (gives p) = gives (p .taken .free)
 answerOf (refuses k vs) = refuses k vs
+
+abbrev pub answerIn : Asked → Lent → Told ℕ
+answerIn A L = answerOf (imageOf A L)
 
 -- a column afterwards: what the plan has for its first n places, the rest unchanged; all unchanged after a refusal
 abbrev pub columnAfter : Told Plan → (Plan → List ℕ) → ℕ → List ℕ → List ℕ

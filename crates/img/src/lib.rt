@@ -18,11 +18,12 @@ ghost use Prim.Native.Nat.{_≤_, _<_, min};
 ghost use lib.Dec.{leb};
 ghost use lib.ListN.{length, take, replicate};
 ghost use Rattle.units.specs.Told.{refuses};
+ghost use Rattle.units.specs.Lent.{was, is};
 ghost use Rattle.dirtab_grow.specs.Growing.{numberOf};
-ghost use Rattle.img_model.specs.Shares.{columns, isTree};
+ghost use Rattle.img_model.specs.Shares.{columns, columnsIn, isTree};
 ghost use Rattle.img_model.specs.Plan.{told, total, takingUp, rooted, planOf};
 ghost use Rattle.img_take.specs.Forward.{Sized, requestOf};
-ghost use Rattle.img.specs.Image.{asked, lent, fits, imageOf, answerOf, lentAfter};
+ghost use Rattle.img.specs.Image.{asked, asking, lent, memory, fits, answerIn, lentAfter};
 ghost use Rattle.img.specs.Steps.{Exact, Wide, HandedOut, PlannedBy, Cut, PlannedIn};
 
 // A count of four bytes as an index.
@@ -41,7 +42,7 @@ fn least(a: usize, b: usize) -> usize
 
 // Each share, as far as the entries go, has its places in columns of n.
 fn fit_shares(share: &[u32], entries: usize, n: usize) -> bool
-    ensures { λ r. ⌜ r ≡ fits n entries (now (share .entry)) ⌝ }
+    ensures { λ r. ⌜ r ≡ fits n entries (was share) ⌝ }
 {
     let mut d = 0;
     while d < share.len() {
@@ -56,7 +57,7 @@ fn fit_shares(share: &[u32], entries: usize, n: usize) -> bool
 // How many entries the shares have together.
 fn add_shares(share: &[u32]) -> u64
     requires { ⌜ length (now share) ≤ 4294967295 ⌝ }
-    ensures { λ r. ⌜ r ≡ total (now (share .entry)) ⌝ }
+    ensures { λ r. ⌜ r ≡ total (was share) ⌝ }
 {
     let mut sum: u64 = 0;
     let mut d = 0;
@@ -95,11 +96,14 @@ fn hand_out(
     tables: &mut [u32],
     sectors: &mut [u32],
 ) -> Planned
-    requires { ⌜ Sized (now first) (now share) (now kind) (now value) (now sized) (now order) (length (now size)) × (end ≡ total (now share)) ⌝ }
-    requires { ⌜ (length (now sizes) ≡ length (now first)) × ((length (now tables) ≡ length (now first)) × (length (now sectors) ≡ length (now kind))) ⌝ }
-    ensures { λ r. ⌜ ((w : Sized (now (first .entry)) (now (share .entry)) (now (kind .entry)) (now (value .entry)) (now (sized .entry)) (now (order .entry)) (length (now (size .entry)))) →
-        HandedOut r (now (sized .entry)) (takingUp (requestOf w) (now (sized .entry)) (length (now (first .entry))) 0 (rooted (requestOf w) (now (sized .entry)) (now (tables .entry)) (now (sectors .entry))))
-        (now (sizes .entry)) (now (sizes .exit)) (now (tables .entry)) (now (tables .exit)) (now (sectors .entry)) (now (sectors .exit))) ⌝ }
+    requires { ⌜ Sized (now first) (now share) (now kind) (now value) (now sized) (now order) (length (now size))
+        × (end ≡ total (now share)) ⌝ }
+    requires { ⌜ (length (now sizes) ≡ length (now first))
+        × ((length (now tables) ≡ length (now first)) × (length (now sectors) ≡ length (now kind))) ⌝ }
+    ensures { λ r. ⌜ ((w : Sized (was first) (was share) (was kind) (was value) (was sized) (was order) (length (was size))) →
+        HandedOut r (was sized)
+        (takingUp (requestOf w) (was sized) (length (was first)) 0 (rooted (requestOf w) (was sized) (was tables) (was sectors)))
+        (was sizes) (is sizes) (was tables) (is tables) (was sectors) (is sectors)) ⌝ }
 {
     match check_tables(first, share, kind, value, sized, order, size, end) {
         Fitting::TooManyDirectoryEntries(d) => Planned::TooManyDirectoryEntries(d),
@@ -144,11 +148,15 @@ fn plan_tree(
     tables: &mut [u32],
     sectors: &mut [u32],
 ) -> Planned
-    requires { ⌜ isTree (columns (now first) (now share) (now start) (now len) (now kind) (now value) (now names)) ≡ true ⌝ }
-    requires { ⌜ Exact (columns (now first) (now share) (now start) (now len) (now kind) (now value) (now names)) (length (now sized)) (length (now sizes)) (length (now tables)) (length (now sectors)) ⌝ }
-    requires { ⌜ Wide (columns (now first) (now share) (now start) (now len) (now kind) (now value) (now names)) (length (now left)) (length (now right)) (length (now parent)) (length (now height)) (length (now key)) (length (now size)) ⌝ }
-    ensures { λ r. ⌜ PlannedBy r (planOf (columns (now (first .entry)) (now (share .entry)) (now (start .entry)) (now (len .entry)) (now (kind .entry)) (now (value .entry)) (now (names .entry))) (length (now (order .entry))) (now (tables .entry)) (now (sectors .entry)))
-        (now (sizes .entry)) (now (sizes .exit)) (now (tables .entry)) (now (tables .exit)) (now (sectors .entry)) (now (sectors .exit)) ⌝ }
+    requires {
+        let R = columns (now first) (now share) (now start) (now len) (now kind) (now value) (now names) in
+        ⌜ isTree R ≡ true ⌝
+        ∗ ⌜ Exact R (length (now sized)) (length (now sizes)) (length (now tables)) (length (now sectors)) ⌝
+        ∗ ⌜ Wide R (length (now left)) (length (now right)) (length (now parent))
+            (length (now height)) (length (now key)) (length (now size)) ⌝ }
+    ensures { λ r. let R = columnsIn first share start len kind value names in
+        ⌜ PlannedBy r (planOf R (length (was order)) (was tables) (was sectors))
+        (was sizes) (is sizes) (was tables) (is tables) (was sectors) (is sectors) ⌝ }
 {
     let end = add_shares(share);
     if (order.len() as u64) < end {
@@ -210,10 +218,14 @@ fn plan_counted(
     tables: &mut [u32],
     sectors: &mut [u32],
 ) -> Planned
-    requires { ⌜ Exact (columns (now first) (now share) (now start) (now len) (now kind) (now value) (now names)) (length (now sized)) (length (now sizes)) (length (now tables)) (length (now sectors)) ⌝ }
-    requires { ⌜ Wide (columns (now first) (now share) (now start) (now len) (now kind) (now value) (now names)) (length (now left)) (length (now right)) (length (now parent)) (length (now height)) (length (now key)) (length (now size)) ⌝ }
-    ensures { λ r. ⌜ PlannedBy r (planOf (columns (now (first .entry)) (now (share .entry)) (now (start .entry)) (now (len .entry)) (now (kind .entry)) (now (value .entry)) (now (names .entry))) (length (now (order .entry))) (now (tables .entry)) (now (sectors .entry)))
-        (now (sizes .entry)) (now (sizes .exit)) (now (tables .entry)) (now (tables .exit)) (now (sectors .entry)) (now (sectors .exit)) ⌝ }
+    requires {
+        let R = columns (now first) (now share) (now start) (now len) (now kind) (now value) (now names) in
+        ⌜ Exact R (length (now sized)) (length (now sizes)) (length (now tables)) (length (now sectors)) ⌝
+        ∗ ⌜ Wide R (length (now left)) (length (now right)) (length (now parent))
+            (length (now height)) (length (now key)) (length (now size)) ⌝ }
+    ensures { λ r. let R = columnsIn first share start len kind value names in
+        ⌜ PlannedBy r (planOf R (length (was order)) (was tables) (was sectors))
+        (was sizes) (is sizes) (was tables) (is tables) (was sectors) (is sectors) ⌝ }
 {
     if is_tree(first, share, kind, value, sized) {
         return plan_tree(
@@ -263,10 +275,15 @@ fn plan_cut(
     size: &mut [u32],
     order: &mut [u16],
 ) -> Planned
-    requires { ⌜ Cut (asked directories entries (now first) (now share) (now start) (now len) (now kind) (now value) (now names)) (lent (now sizes) (now tables) (now sectors) (now sized) (now left) (now right) (now parent) (now height) (now key) (now size) (now order)) ⌝ }
-    ensures { λ r. ⌜ PlannedIn r (asked directories entries (now (first .entry)) (now (share .entry)) (now (start .entry)) (now (len .entry)) (now (kind .entry)) (now (value .entry)) (now (names .entry)))
-        (lent (now (sizes .entry)) (now (tables .entry)) (now (sectors .entry)) (now (sized .entry)) (now (left .entry)) (now (right .entry)) (now (parent .entry)) (now (height .entry)) (now (key .entry)) (now (size .entry)) (now (order .entry)))
-        (now (sizes .exit)) (now (tables .exit)) (now (sectors .exit)) ⌝ }
+    requires {
+        let a = asked directories entries (now first) (now share) (now start) (now len) (now kind) (now value) (now names) in
+        let m = lent (now sizes) (now tables) (now sectors) (now sized) (now left) (now right)
+            (now parent) (now height) (now key) (now size) (now order) in
+        ⌜ Cut a m ⌝ }
+    ensures { λ r.
+        let a = asking directories entries first share start len kind value names in
+        let m = memory sizes tables sectors sized left right parent height key size order in
+        ⌜ PlannedIn r a (m .entry) (is sizes) (is tables) (is sectors) ⌝ }
 {
     plan_counted(
         &first[..directories],
@@ -292,7 +309,8 @@ fn plan_cut(
 
 // The columns of links and heights, zero everywhere.
 fn clear_links(left: &mut [u16], right: &mut [u16], parent: &mut [u16], height: &mut [u8])
-    ensures { λ _. ⌜ ((now (left .exit) ≡ replicate (length (now (left .entry))) 0) × (now (right .exit) ≡ replicate (length (now (right .entry))) 0)) × ((now (parent .exit) ≡ replicate (length (now (parent .entry))) 0) × (now (height .exit) ≡ replicate (length (now (height .entry))) 0)) ⌝ }
+    ensures { λ _. ⌜ ((is left ≡ replicate (length (was left)) 0) × (is right ≡ replicate (length (was right)) 0))
+        × ((is parent ≡ replicate (length (was parent)) 0) × (is height ≡ replicate (length (was height)) 0)) ⌝ }
 {
     clear_shorts(left);
     clear_shorts(right);
@@ -302,7 +320,8 @@ fn clear_links(left: &mut [u16], right: &mut [u16], parent: &mut [u16], height: 
 
 // The other columns of scratch, zero everywhere.
 fn clear_rest(sized: &mut [u32], key: &mut [u32], size: &mut [u32], order: &mut [u16])
-    ensures { λ _. ⌜ ((now (sized .exit) ≡ replicate (length (now (sized .entry))) 0) × (now (key .exit) ≡ replicate (length (now (key .entry))) 0)) × ((now (size .exit) ≡ replicate (length (now (size .entry))) 0) × (now (order .exit) ≡ replicate (length (now (order .entry))) 0)) ⌝ }
+    ensures { λ _. ⌜ ((is sized ≡ replicate (length (was sized)) 0) × (is key ≡ replicate (length (was key)) 0))
+        × ((is size ≡ replicate (length (was size)) 0) × (is order ≡ replicate (length (was order)) 0)) ⌝ }
 {
     clear_words(sized);
     clear_words(key);
@@ -318,7 +337,8 @@ fn measure_directories(
     tables: &[u32],
     sized: &[u32],
 ) -> usize
-    ensures { λ r. ⌜ r ≡ min (length (now (first .entry))) (min (length (now (share .entry))) (min (length (now (sizes .entry))) (min (length (now (tables .entry))) (length (now (sized .entry)))))) ⌝ }
+    ensures { λ r. ⌜ r ≡ min (length (was first)) (min (length (was share))
+        (min (length (was sizes)) (min (length (was tables)) (length (was sized))))) ⌝ }
 {
     least(
         first.len(),
@@ -338,7 +358,8 @@ fn measure_entries(
     sectors: &[u32],
     order: &[u16],
 ) -> usize
-    ensures { λ r. ⌜ r ≡ min (length (now (start .entry))) (min (length (now (len .entry))) (min (length (now (kind .entry))) (min (length (now (value .entry))) (min (length (now (sectors .entry))) (length (now (order .entry))))))) ⌝ }
+    ensures { λ r. ⌜ r ≡ min (length (was start)) (min (length (was len)) (min (length (was kind))
+        (min (length (was value)) (min (length (was sectors)) (length (was order)))))) ⌝ }
 {
     least(
         start.len(),
@@ -361,7 +382,8 @@ fn measure_nodes(
     key: &[u32],
     size: &[u32],
 ) -> usize
-    ensures { λ r. ⌜ r ≡ min (length (now (left .entry))) (min (length (now (right .entry))) (min (length (now (parent .entry))) (min (length (now (height .entry))) (min (length (now (key .entry))) (length (now (size .entry))))))) ⌝ }
+    ensures { λ r. ⌜ r ≡ min (length (was left)) (min (length (was right)) (min (length (was parent))
+        (min (length (was height)) (min (length (was key)) (length (was size)))))) ⌝ }
 {
     least(
         left.len(),
@@ -385,7 +407,7 @@ fn have_room(
     n: usize,
 ) -> bool
     requires { ⌜ d ≤ length (now share) ⌝ }
-    ensures { λ r. ⌜ r ≡ leb directories d && (leb entries e && fits n entries (take directories (now (share .entry)))) ⌝ }
+    ensures { λ r. ⌜ r ≡ leb directories d && (leb entries e && fits n entries (take directories (was share))) ⌝ }
 {
     if d < directories {
         return false;
@@ -419,11 +441,11 @@ pub fn plan(
     size: &mut [u32],
     order: &mut [u16],
 ) -> Planned
-    ensures answer { λ r. ⌜ told r ≡ answerOf (imageOf (asked directories entries (now (first .entry)) (now (share .entry)) (now (start .entry)) (now (len .entry)) (now (kind .entry)) (now (value .entry)) (now (names .entry)))
-        (lent (now (sizes .entry)) (now (tables .entry)) (now (sectors .entry)) (now (sized .entry)) (now (left .entry)) (now (right .entry)) (now (parent .entry)) (now (height .entry)) (now (key .entry)) (now (size .entry)) (now (order .entry)))) ⌝ }
-    ensures lent { λ _. ⌜ lent (now (sizes .exit)) (now (tables .exit)) (now (sectors .exit)) (now (sized .exit)) (now (left .exit)) (now (right .exit)) (now (parent .exit)) (now (height .exit)) (now (key .exit)) (now (size .exit)) (now (order .exit))
-        ≡ lentAfter (asked directories entries (now (first .entry)) (now (share .entry)) (now (start .entry)) (now (len .entry)) (now (kind .entry)) (now (value .entry)) (now (names .entry)))
-        (lent (now (sizes .entry)) (now (tables .entry)) (now (sectors .entry)) (now (sized .entry)) (now (left .entry)) (now (right .entry)) (now (parent .entry)) (now (height .entry)) (now (key .entry)) (now (size .entry)) (now (order .entry))) ⌝ }
+    ensures { λ r.
+        let a = asking directories entries first share start len kind value names in
+        let m = memory sizes tables sectors sized left right parent height key size order in
+        ⌜ told r ≡ answerIn a (m .entry) ⌝
+        ∗ ⌜ m .exit ≡ lentAfter a (m .entry) ⌝ }
 {
     let by_directory = measure_directories(first, share, sizes, tables, sized);
     let by_entry = measure_entries(start, len, kind, value, sectors, order);

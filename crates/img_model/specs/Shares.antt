@@ -5,6 +5,7 @@ use mathlib.Core.List.{List}
 use lib.Dec.{ltb, leb, eqb}
 use lib.ListN.{length, getD, take, drop}
 use Rattle.units.specs.Told.{pick}
+use Rattle.units.specs.Lent.{Slice, was}
 use Rattle.avl_arena.specs.Test.{every}
 
 -- what is to be planned: for each directory the place of its first entry in the list of entries and how many it has, the root first; for each entry its
@@ -22,6 +23,11 @@ pub record Request : Type 0 where
 abbrev pub columns : List ℕ → List ℕ → List ℕ → List ℕ → List ℕ → List ℕ → List ℕ → Request
 columns first share start len kind value bytes =
     record { first = first; share = share; start = start; len = len; kind = kind; value = value; bytes = bytes }
+
+-- the same as they are lent, at the call
+abbrev pub columnsIn : Slice → Slice → Slice → Slice → Slice → Slice → Slice → Request
+columnsIn first share start len kind value bytes =
+    columns (was first) (was share) (was start) (was len) (was kind) (was value) (was bytes)
 
 -- the columns that are lent, as far as the two counts go
 abbrev pub request : ℕ → ℕ → List ℕ → List ℕ → List ℕ → List ℕ → List ℕ → List ℕ → List ℕ → Request

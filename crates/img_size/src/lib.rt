@@ -5,6 +5,7 @@ use img_table::size_table;
 ghost use mathlib.Core.Path.{_≡_};
 ghost use Prim.Native.Nat.{_+_, _≤_, _<_};
 ghost use lib.ListN.{length, take};
+ghost use Rattle.units.specs.Lent.{was, is};
 ghost use Rattle.img_model.specs.Shares.{columns, directoriesOf, countOf, shareOf, part};
 ghost use Rattle.img_model.specs.Plan.{tableIn, sizesDown};
 ghost use Rattle.img_table.specs.declared.Arranged.the-variants.{Done};
@@ -35,8 +36,8 @@ fn size_directory(
     requires { ⌜ Roomy (columns (now first) (now share) (now start) (now len) (now kind) (now value) (now names)) (length (now sized)) (length (now left)) (length (now right)) (length (now parent)) (length (now height)) (length (now key)) (length (now size)) (length (now order)) ⌝ }
     requires { ⌜ d < directoriesOf (columns (now first) (now share) (now start) (now len) (now kind) (now value) (now names)) ⌝ }
     requires { ⌜ at + countOf (columns (now first) (now share) (now start) (now len) (now kind) (now value) (now names)) d ≤ length (now order) ⌝ }
-    ensures table { λ r. ⌜ Sizing r (shareOf (columns (now (first .entry)) (now (share .entry)) (now (start .entry)) (now (len .entry)) (now (kind .entry)) (now (value .entry)) (now (names .entry))) d) (tableIn (now (sized .entry))) (part at (countOf (columns (now (first .entry)) (now (share .entry)) (now (start .entry)) (now (len .entry)) (now (kind .entry)) (now (value .entry)) (now (names .entry))) d) (now (order .exit))) ⌝ }
-    ensures earlier { λ r. ⌜ take at (now (order .exit)) ≡ take at (now (order .entry)) ⌝ }
+    ensures table { λ r. ⌜ Sizing r (shareOf (columns (was first) (was share) (was start) (was len) (was kind) (was value) (was names)) d) (tableIn (was sized)) (part at (countOf (columns (was first) (was share) (was start) (was len) (was kind) (was value) (was names)) d) (is order)) ⌝ }
+    ensures earlier { λ r. ⌜ take at (is order) ≡ take at (was order) ⌝ }
 {
     let f = first[d] as usize;
     let n = share[d] as usize;
@@ -87,8 +88,8 @@ pub fn size_tables(
 ) -> Arranged
     requires { ⌜ Sizeable (columns (now first) (now share) (now start) (now len) (now kind) (now value) (now names)) ⌝ }
     requires { ⌜ Roomy (columns (now first) (now share) (now start) (now len) (now kind) (now value) (now names)) (length (now sized)) (length (now left)) (length (now right)) (length (now parent)) (length (now height)) (length (now key)) (length (now size)) (length (now order)) ⌝ }
-    ensures answer { λ r. ⌜ toldSizes r (now (sized .exit)) ≡ sizesDown (columns (now (first .entry)) (now (share .entry)) (now (start .entry)) (now (len .entry)) (now (kind .entry)) (now (value .entry)) (now (names .entry))) (length (now (first .entry))) (now (sized .entry)) ⌝ }
-    ensures tables { λ r. ⌜ (r ≡ Done → TablesIn (columns (now (first .entry)) (now (share .entry)) (now (start .entry)) (now (len .entry)) (now (kind .entry)) (now (value .entry)) (now (names .entry))) (now (sized .exit)) (now (order .exit))) ⌝ }
+    ensures answer { λ r. ⌜ toldSizes r (is sized) ≡ sizesDown (columns (was first) (was share) (was start) (was len) (was kind) (was value) (was names)) (length (was first)) (was sized) ⌝ }
+    ensures tables { λ r. ⌜ (r ≡ Done → TablesIn (columns (was first) (was share) (was start) (was len) (was kind) (was value) (was names)) (is sized) (is order)) ⌝ }
 {
     let mut at: usize = 0;
     let mut d = first.len();

@@ -11,6 +11,7 @@ ghost use mathlib.Core.Bool.{true};
 ghost use lib.Dec.{eqb};
 ghost use lib.ListN.{length, getD};
 ghost use Rattle.units.specs.Told.{pick};
+ghost use Rattle.units.specs.Lent.{was, is};
 ghost use Rattle.layout_node.specs.Header.{entryLength};
 ghost use Rattle.table_model.specs.Place.{startAfter};
 ghost use Rattle.img_model.specs.Plan.{tableIn, sizeAt, treeIn};
@@ -48,7 +49,7 @@ fn widen(n: u32) -> u64
 // The size of an entry: a directory's is its table's.
 fn size_for(kind: u8, value: u64, sized: &[u32]) -> u64
     requires { ⌜ (eqb kind 1 ≡ true → value < length (now sized)) ⌝ }
-    ensures { λ r. ⌜ r ≡ pick (eqb kind 1) (tableIn (now (sized .entry)) value) value ⌝ }
+    ensures { λ r. ⌜ r ≡ pick (eqb kind 1) (tableIn (was sized) value) value ⌝ }
 {
     if kind == 1 {
         return widen(sized[index_of(value)]);
@@ -59,8 +60,8 @@ fn size_for(kind: u8, value: u64, sized: &[u32]) -> u64
 // The sizes of a directory's entries into the first places of a column, up to the first that four bytes do not hold: its number, or how many there are.
 pub fn fill_sizes(kind: &[u8], value: &[u64], sized: &[u32], size: &mut [u32]) -> u32
     requires { ⌜ Fillable (shareBy [] [] (now kind) (now value) []) (length (now sized)) (length (now size)) ⌝ }
-    ensures answer { λ r. ⌜ r ≡ fitting (sizeAt (shareBy [] [] (now (kind .entry)) (now (value .entry)) []) (tableIn (now (sized .entry)))) (length (now (kind .entry))) 0 ⌝ }
-    ensures sizes { λ r. ⌜ ((i : ℕ) → i < r → getD (now (size .exit)) i 0 ≡ sizeAt (shareBy [] [] (now (kind .entry)) (now (value .entry)) []) (tableIn (now (sized .entry))) i) ⌝ }
+    ensures answer { λ r. ⌜ r ≡ fitting (sizeAt (shareBy [] [] (was kind) (was value) []) (tableIn (was sized))) (length (was kind)) 0 ⌝ }
+    ensures sizes { λ r. ⌜ ((i : ℕ) → i < r → getD (is size) i 0 ≡ sizeAt (shareBy [] [] (was kind) (was value) []) (tableIn (was sized)) i) ⌝ }
 {
     let mut i = 0;
     while i < kind.len() {
@@ -91,7 +92,7 @@ fn arrange(
     order: &mut [u16],
 ) -> Arranged
     requires { ⌜ Arrangeable (shareBy (now start) (now len) (now kind) (now value) (now names)) (length (now sized)) (length (now left)) (length (now right)) (length (now parent)) (length (now height)) (length (now key)) (length (now size)) (length (now order)) ⌝ }
-    ensures { λ r. ⌜ Arrangement r (treeIn (shareBy (now (start .entry)) (now (len .entry)) (now (kind .entry)) (now (value .entry)) (now (names .entry))) (tableIn (now (sized .entry)))) (now (order .exit)) ⌝ }
+    ensures { λ r. ⌜ Arrangement r (treeIn (shareBy (was start) (was len) (was kind) (was value) (was names)) (tableIn (was sized))) (is order) ⌝ }
 {
     let count = fill_sizes(kind, value, sized, size);
     let mut root: u16 = 65535;
@@ -150,7 +151,7 @@ fn length_for(n: u32) -> u32
 // The reported size of a table with entries in this order: the last end, or 2,048 for an empty one.
 fn measure(order: &[u16], len: &[u32]) -> u32
     requires { ⌜ Measurable (now order) (now len) ⌝ }
-    ensures { λ r. ⌜ r ≡ sizeAlong (now (len .entry)) (now (order .entry)) ⌝ }
+    ensures { λ r. ⌜ r ≡ sizeAlong (was len) (was order) ⌝ }
 {
     if order.len() == 0 {
         return 2048;
@@ -183,7 +184,7 @@ pub fn size_table(
     order: &mut [u16],
 ) -> TableSized
     requires { ⌜ Arrangeable (shareBy (now start) (now len) (now kind) (now value) (now names)) (length (now sized)) (length (now left)) (length (now right)) (length (now parent)) (length (now height)) (length (now key)) (length (now size)) (length (now order)) ⌝ }
-    ensures { λ r. ⌜ Sizing r (shareBy (now (start .entry)) (now (len .entry)) (now (kind .entry)) (now (value .entry)) (now (names .entry))) (tableIn (now (sized .entry))) (now (order .exit)) ⌝ }
+    ensures { λ r. ⌜ Sizing r (shareBy (was start) (was len) (was kind) (was value) (was names)) (tableIn (was sized)) (is order) ⌝ }
 {
     match arrange(
         names,

@@ -13,6 +13,7 @@ ghost use Prim.Native.Nat.{ℕ, _+_, _≤_, _<_};
 ghost use lib.Dec.{eqb};
 ghost use lib.ListN.{length, getD, set};
 ghost use Rattle.units.specs.Told.{gives, pick};
+ghost use Rattle.units.specs.Lent.{was, is};
 ghost use Rattle.layout_sector.specs.Counter.{sectorsFor};
 ghost use Rattle.table_model.specs.Place.{freeOf};
 ghost use Rattle.dirtab_place.specs.Places.{toldFree};
@@ -38,7 +39,7 @@ fn index_of(i: u16) -> usize
 // The number of the k-th entry of an order.
 fn entry_at(order: &[u16], k: usize) -> usize
     requires { ⌜ k < length (now order) ⌝ }
-    ensures { λ r. ⌜ r ≡ getD (now (order .entry)) k 0 ⌝ }
+    ensures { λ r. ⌜ r ≡ getD (was order) k 0 ⌝ }
 {
     index_of(order[k])
 }
@@ -86,7 +87,7 @@ fn count_table(
     free: Sector,
 ) -> Counted
     requires { ⌜ Treed (now order) (now kind) (now value) (now sized) (length (now size)) ⌝ }
-    ensures { λ r. ⌜ ((w : Treed (now (order .entry)) (now (kind .entry)) (now (value .entry)) (now (sized .entry)) (length (now (size .entry)))) → toldFree r ≡ limited (freeOf (entriesOf w) 1 (free .0) (w .t))) ⌝ }
+    ensures { λ r. ⌜ ((w : Treed (was order) (was kind) (was value) (was sized) (length (was size))) → toldFree r ≡ limited (freeOf (entriesOf w) 1 (free .0) (w .t))) ⌝ }
 {
     fill_sizes(kind, value, sized, size);
     count_sectors(order, size, kind, free)
@@ -107,7 +108,7 @@ fn check_table(
     free: Sector,
 ) -> Fitting
     requires { ⌜ Turn (now first) (now share) (now kind) (now value) (now sized) (now order) (length (now size)) d to ⌝ }
-    ensures { λ r. ⌜ ((w : Sized (now (first .entry)) (now (share .entry)) (now (kind .entry)) (now (value .entry)) (now (sized .entry)) (now (order .entry)) (length (now (size .entry)))) → toldFitting r ≡ freeTold (takingUp (requestOf w) (now (sized .entry)) 1 d (taking [] [] (free .0)))) ⌝ }
+    ensures { λ r. ⌜ ((w : Sized (was first) (was share) (was kind) (was value) (was sized) (was order) (length (was size))) → toldFitting r ≡ freeTold (takingUp (requestOf w) (was sized) 1 d (taking [] [] (free .0)))) ⌝ }
 {
     if 262144 < sized[d] {
         return Fitting::TooManyDirectoryEntries(d as u32);
@@ -139,8 +140,8 @@ pub fn check_tables(
     end: usize,
 ) -> Fitting
     requires { ⌜ Sized (now first) (now share) (now kind) (now value) (now sized) (now order) (length (now size)) × (end ≡ total (now share)) ⌝ }
-    ensures { λ r. ⌜ ((w : Sized (now (first .entry)) (now (share .entry)) (now (kind .entry)) (now (value .entry)) (now (sized .entry)) (now (order .entry)) (length (now (size .entry)))) (tables sectors : List ℕ) →
-        toldFitting r ≡ freeTold (takingUp (requestOf w) (now (sized .entry)) (length (now (first .entry))) 0 (rooted (requestOf w) (now (sized .entry)) tables sectors))) ⌝ }
+    ensures { λ r. ⌜ ((w : Sized (was first) (was share) (was kind) (was value) (was sized) (was order) (length (was size))) (tables sectors : List ℕ) →
+        toldFitting r ≡ freeTold (takingUp (requestOf w) (was sized) (length (was first)) 0 (rooted (requestOf w) (was sized) tables sectors))) ⌝ }
 {
     let mut free = free_after_root(sized[0]);
     let mut to = end;
@@ -162,7 +163,7 @@ pub fn check_tables(
 // An entry that names a directory gives its table the sector.
 fn name_table(kind: u8, value: u64, sector: u32, tables: &mut [u32])
     requires { ⌜ (eqb kind 1 ≡ true → value < length (now tables)) ⌝ }
-    ensures { λ _. ⌜ now (tables .exit) ≡ pick (eqb kind 1) (set (now (tables .entry)) value sector) (now (tables .entry)) ⌝ }
+    ensures { λ _. ⌜ is tables ≡ pick (eqb kind 1) (set (was tables) value sector) (was tables) ⌝ }
 {
     if kind == 1 {
         tables[place_in(value)] = sector;
@@ -182,7 +183,7 @@ fn take_entry(
 ) -> u32
     requires { ⌜ Enters (now kind) (now value) (now size) f i (length (now tables)) (length (now sectors)) ⌝ }
     requires { ⌜ takeOne (now kind) (now value) (now size) f (taking (now tables) (now sectors) free) i .free ≤ 4294967295 ⌝ }
-    ensures { λ r. ⌜ taking (now (tables .exit)) (now (sectors .exit)) r ≡ takeOne (now (kind .entry)) (now (value .entry)) (now (size .entry)) f (taking (now (tables .entry)) (now (sectors .entry)) free) i ⌝ }
+    ensures { λ r. ⌜ taking (is tables) (is sectors) r ≡ takeOne (was kind) (was value) (was size) f (taking (was tables) (was sectors) free) i ⌝ }
 {
     sectors[f + i] = free;
     name_table(kind[i], value[i], free, tables);
@@ -202,7 +203,7 @@ fn take_entries(
 ) -> u32
     requires { ⌜ EntersAll (now order) (now kind) (now value) (now size) f (length (now tables)) (length (now sectors)) ⌝ }
     requires { ⌜ takeAlong (now kind) (now value) (now size) f (taking (now tables) (now sectors) free) (now order) .free ≤ 4294967295 ⌝ }
-    ensures { λ r. ⌜ taking (now (tables .exit)) (now (sectors .exit)) r ≡ takeAlong (now (kind .entry)) (now (value .entry)) (now (size .entry)) f (taking (now (tables .entry)) (now (sectors .entry)) free) (now (order .entry)) ⌝ }
+    ensures { λ r. ⌜ taking (is tables) (is sectors) r ≡ takeAlong (was kind) (was value) (was size) f (taking (was tables) (was sectors) free) (was order) ⌝ }
 {
     let mut next = free;
     let mut k: usize = 0;
@@ -239,8 +240,8 @@ fn take_table(
 ) -> u32
     requires { ⌜ Turn (now first) (now share) (now kind) (now value) (now sized) (now order) (length (now size)) d to × ((length (now tables) ≡ length (now first)) × (length (now sectors) ≡ length (now kind))) ⌝ }
     requires { ⌜ ((w : Sized (now first) (now share) (now kind) (now value) (now sized) (now order) (length (now size))) × ((p : Taking) × (takingUp (requestOf w) (now sized) 1 d (taking (now tables) (now sectors) free) ≡ gives p))) ⌝ }
-    ensures { λ r. ⌜ ((w : Sized (now (first .entry)) (now (share .entry)) (now (kind .entry)) (now (value .entry)) (now (sized .entry)) (now (order .entry)) (length (now (size .entry)))) (p : Taking) →
-        takingUp (requestOf w) (now (sized .entry)) 1 d (taking (now (tables .entry)) (now (sectors .entry)) free) ≡ gives p → taking (now (tables .exit)) (now (sectors .exit)) r ≡ p) ⌝ }
+    ensures { λ r. ⌜ ((w : Sized (was first) (was share) (was kind) (was value) (was sized) (was order) (length (was size))) (p : Taking) →
+        takingUp (requestOf w) (was sized) 1 d (taking (was tables) (was sectors) free) ≡ gives p → taking (is tables) (is sectors) r ≡ p) ⌝ }
 {
     let f = widen(first[d]);
     let n = widen(share[d]);
@@ -272,9 +273,9 @@ pub fn take_tables(
 )
     requires { ⌜ ((w : Sized (now first) (now share) (now kind) (now value) (now sized) (now order) (length (now size))) × ((p : Taking) × (takingUp (requestOf w) (now sized) (length (now first)) 0 (rooted (requestOf w) (now sized) (now tables) (now sectors)) ≡ gives p))) ⌝ }
     requires { ⌜ (end ≡ total (now share)) × ((length (now tables) ≡ length (now first)) × (length (now sectors) ≡ length (now kind))) ⌝ }
-    ensures { λ _. ⌜ ((w : Sized (now (first .entry)) (now (share .entry)) (now (kind .entry)) (now (value .entry)) (now (sized .entry)) (now (order .entry)) (length (now (size .entry)))) (p : Taking) →
-        takingUp (requestOf w) (now (sized .entry)) (length (now (first .entry))) 0 (rooted (requestOf w) (now (sized .entry)) (now (tables .entry)) (now (sectors .entry))) ≡ gives p →
-        (now (tables .exit) ≡ p .tables) × (now (sectors .exit) ≡ p .sectors)) ⌝ }
+    ensures { λ _. ⌜ ((w : Sized (was first) (was share) (was kind) (was value) (was sized) (was order) (length (was size))) (p : Taking) →
+        takingUp (requestOf w) (was sized) (length (was first)) 0 (rooted (requestOf w) (was sized) (was tables) (was sectors)) ≡ gives p →
+        (is tables ≡ p .tables) × (is sectors ≡ p .sectors)) ⌝ }
 {
     tables[0] = SectorCounter::FIRST;
     let mut free = free_after_root(sized[0]).number();

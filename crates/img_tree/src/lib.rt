@@ -3,13 +3,14 @@ use scratch::clear_words;
 ghost use mathlib.Core.Path.{_≡_};
 ghost use mathlib.Core.Bool.{true};
 ghost use lib.ListN.{length};
+ghost use Rattle.units.specs.Lent.{was, is};
 ghost use Rattle.avl_arena.specs.Test.{every};
 ghost use Rattle.img_model.specs.Shares.{part, isTree};
 ghost use Rattle.img_tree.specs.Marks.{shares, Even, entries, isFree, markedAt, isEntryFree, entryMarked, Marks, isMarkable, Marked, isPartMarkable, isNamed};
 
 // Marks the directory x, which an entry of directory d names: false where it is d, an earlier one or none, or is marked.
 fn mark(d: usize, x: u64, named: &mut [u32]) -> bool
-    ensures { λ r. ⌜ (r ≡ isFree (now (named .entry)) d x) × (now (named .exit) ≡ markedAt (now (named .entry)) d x) ⌝ }
+    ensures { λ r. ⌜ (r ≡ isFree (was named) d x) × (is named ≡ markedAt (was named) d x) ⌝ }
 {
     if x <= (d as u64) {
         return false;
@@ -27,7 +28,7 @@ fn mark(d: usize, x: u64, named: &mut [u32]) -> bool
 
 // The same for any entry of directory d: a file names none.
 fn mark_entry(d: usize, kind: u8, value: u64, named: &mut [u32]) -> bool
-    ensures { λ r. ⌜ (r ≡ isEntryFree (now (named .entry)) d kind value) × (now (named .exit) ≡ entryMarked (now (named .entry)) d kind value) ⌝ }
+    ensures { λ r. ⌜ (r ≡ isEntryFree (was named) d kind value) × (is named ≡ entryMarked (was named) d kind value) ⌝ }
 {
     if kind == 1 {
         return mark(d, value, named);
@@ -38,7 +39,7 @@ fn mark_entry(d: usize, kind: u8, value: u64, named: &mut [u32]) -> bool
 // Marks the directories that the entries of directory d name.
 fn mark_share(d: usize, kind: &[u8], value: &[u64], named: &mut [u32]) -> bool
     requires { ⌜ (length (now value) ≡ length (now kind)) × Marks (now named) ⌝ }
-    ensures { λ r. ⌜ (r ≡ isMarkable (now (named .entry)) d (entries (length (now (kind .entry))) (now (kind .entry)) (now (value .entry)))) × (r ≡ true → Marked (now (named .entry)) (entries (length (now (kind .entry))) (now (kind .entry)) (now (value .entry))) (now (named .exit))) ⌝ }
+    ensures { λ r. ⌜ (r ≡ isMarkable (was named) d (entries (length (was kind)) (was kind) (was value))) × (r ≡ true → Marked (was named) (entries (length (was kind)) (was kind) (was value)) (is named)) ⌝ }
 {
     let mut i = 0;
     while i < kind.len() {
@@ -53,7 +54,7 @@ fn mark_share(d: usize, kind: &[u8], value: &[u64], named: &mut [u32]) -> bool
 // The same for n entries from the place f on: false where they reach past the list.
 fn mark_directory(d: usize, f: u32, n: u32, kind: &[u8], value: &[u64], named: &mut [u32]) -> bool
     requires { ⌜ (length (now value) ≡ length (now kind)) × Marks (now named) ⌝ }
-    ensures { λ r. ⌜ (r ≡ isPartMarkable (now (named .entry)) d f n (now (kind .entry)) (now (value .entry))) × (r ≡ true → Marked (now (named .entry)) (entries n (part f n (now (kind .entry))) (part f n (now (value .entry)))) (now (named .exit))) ⌝ }
+    ensures { λ r. ⌜ (r ≡ isPartMarkable (was named) d f n (was kind) (was value)) × (r ≡ true → Marked (was named) (entries n (part f n (was kind)) (part f n (was value))) (is named)) ⌝ }
 {
     let from = f as usize;
     let to = from + (n as usize);
@@ -65,7 +66,7 @@ fn mark_directory(d: usize, f: u32, n: u32, kind: &[u8], value: &[u64], named: &
 
 // Every directory but the root is marked.
 fn all_marked(named: &[u32]) -> bool
-    ensures { λ r. ⌜ r ≡ every (isNamed (now (named .entry))) (length (now (named .entry))) ⌝ }
+    ensures { λ r. ⌜ r ≡ every (isNamed (was named)) (length (was named)) ⌝ }
 {
     let mut x = 1;
     while x < named.len() {
@@ -80,7 +81,7 @@ fn all_marked(named: &[u32]) -> bool
 // There is a directory, every share lies in the list, and every directory but the root is named exactly once, by an earlier one. `named` is scratch.
 pub fn is_tree(first: &[u32], share: &[u32], kind: &[u8], value: &[u64], named: &mut [u32]) -> bool
     requires { ⌜ Even (shares (now first) (now share) (now kind) (now value)) (length (now named)) ⌝ }
-    ensures { λ r. ⌜ r ≡ isTree (shares (now (first .entry)) (now (share .entry)) (now (kind .entry)) (now (value .entry))) ⌝ }
+    ensures { λ r. ⌜ r ≡ isTree (shares (was first) (was share) (was kind) (was value)) ⌝ }
 {
     if first.len() == 0 {
         return false;

@@ -3,6 +3,7 @@ ghost use mathlib.Core.Path.{_≡_};
 ghost use mathlib.Core.List.{[], _∷_, _++_};
 ghost use Prim.Native.Nat.{_+_, _≤_, _<_};
 ghost use lib.ListN.{length, drop, replicate};
+ghost use Rattle.units.specs.Lent.{was, is};
 ghost use Rattle.layout_bytes.specs.Bytes.{u16At, u32At, le16, le32, putAt, all};
 
 fn wide16(x: u8) -> u16
@@ -20,7 +21,7 @@ fn wide32(x: u16) -> u32
 // The number of two bytes at a place.
 pub fn u16_at(s: &[u8], at: usize) -> u16
     requires { ⌜ at + 2 ≤ length (now s) ⌝ }
-    ensures { λ r. ⌜ r ≡ u16At (now (s .entry)) at ⌝ }
+    ensures { λ r. ⌜ r ≡ u16At (was s) at ⌝ }
 {
     wide16(s[at]) + 256 * wide16(s[at + 1])
 }
@@ -28,14 +29,14 @@ pub fn u16_at(s: &[u8], at: usize) -> u16
 // The number of four bytes at a place.
 pub fn u32_at(s: &[u8], at: usize) -> u32
     requires { ⌜ at + 4 ≤ length (now s) ⌝ }
-    ensures { λ r. ⌜ r ≡ u32At (now (s .entry)) at ⌝ }
+    ensures { λ r. ⌜ r ≡ u32At (was s) at ⌝ }
 {
     wide32(u16_at(s, at)) + 65536 * wide32(u16_at(s, at + 2))
 }
 
 // Every byte is b.
 pub fn all_are(s: &[u8], b: u8) -> bool
-    ensures { λ r. ⌜ r ≡ all b (now (s .entry)) ⌝ }
+    ensures { λ r. ⌜ r ≡ all b (was s) ⌝ }
 {
     let mut i = 0;
     while i < s.len() {
@@ -50,7 +51,7 @@ pub fn all_are(s: &[u8], b: u8) -> bool
 // A number of two bytes written at a place.
 pub fn put16(out: &mut [u8], at: usize, x: u16)
     requires { ⌜ at + 2 ≤ length (now out) ⌝ }
-    ensures { λ _. ⌜ now (out .exit) ≡ putAt (now (out .entry)) at (le16 x) ⌝ }
+    ensures { λ _. ⌜ is out ≡ putAt (was out) at (le16 x) ⌝ }
 {
     out[at] = (x % 256) as u8;
     out[at + 1] = (x / 256 % 256) as u8;
@@ -59,7 +60,7 @@ pub fn put16(out: &mut [u8], at: usize, x: u16)
 // A number of four bytes written at a place.
 pub fn put32(out: &mut [u8], at: usize, x: u32)
     requires { ⌜ at + 4 ≤ length (now out) ⌝ }
-    ensures { λ _. ⌜ now (out .exit) ≡ putAt (now (out .entry)) at (le32 x) ⌝ }
+    ensures { λ _. ⌜ is out ≡ putAt (was out) at (le32 x) ⌝ }
 {
     out[at] = (x % 256) as u8;
     out[at + 1] = (x / 256 % 256) as u8;
@@ -70,7 +71,7 @@ pub fn put32(out: &mut [u8], at: usize, x: u32)
 // Two bytes written at a place.
 pub fn put_two(out: &mut [u8], at: usize, a: u8, b: u8)
     requires { ⌜ at + 2 ≤ length (now out) ⌝ }
-    ensures { λ _. ⌜ now (out .exit) ≡ putAt (now (out .entry)) at (a ∷ b ∷ []) ⌝ }
+    ensures { λ _. ⌜ is out ≡ putAt (was out) at (a ∷ b ∷ []) ⌝ }
 {
     out[at] = a;
     out[at + 1] = b;
@@ -79,7 +80,7 @@ pub fn put_two(out: &mut [u8], at: usize, a: u8, b: u8)
 // The bytes of s written at a place.
 pub fn put_bytes(out: &mut [u8], at: usize, s: &[u8])
     requires { ⌜ at + length (now s) ≤ length (now out) ⌝ }
-    ensures { λ _. ⌜ now (out .exit) ≡ putAt (now (out .entry)) at (now (s .entry)) ⌝ }
+    ensures { λ _. ⌜ is out ≡ putAt (was out) at (was s) ⌝ }
 {
     let mut i = 0;
     while i < s.len() {
@@ -91,7 +92,7 @@ pub fn put_bytes(out: &mut [u8], at: usize, s: &[u8])
 // The byte b in the first n places.
 pub fn fill(out: &mut [u8], n: usize, b: u8)
     requires { ⌜ n ≤ length (now out) ⌝ }
-    ensures { λ _. ⌜ now (out .exit) ≡ replicate n b ++ drop n (now (out .entry)) ⌝ }
+    ensures { λ _. ⌜ is out ≡ replicate n b ++ drop n (was out) ⌝ }
 {
     let mut i = 0;
     while i < n {

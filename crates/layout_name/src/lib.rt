@@ -4,6 +4,7 @@ ghost use mathlib.Core.Bool.{_&&_};
 ghost use Prim.Native.Nat.{_+_, _≤_, min};
 ghost use lib.Dec.{eqb};
 ghost use lib.ListN.{length, drop, getD};
+ghost use Rattle.units.specs.Lent.{was};
 ghost use Rattle.layout_name.specs.Order.{raised, byteOrder, nameOrder, raisedCopy};
 
 // How one name stands to another.
@@ -44,7 +45,7 @@ pub fn byte_order(p: u8, q: u8) -> Order
 // Four bytes of two names, from a place on, are the same as they stand. There is no branch between them, so that they are compared at once.
 fn same_four(a: &[u8], b: &[u8], at: usize) -> bool
     requires { ⌜ (at + 4 ≤ length (now a)) × (at + 4 ≤ length (now b)) ⌝ }
-    ensures { λ r. ⌜ r ≡ ((eqb (getD (now (a .entry)) at 0) (getD (now (b .entry)) at 0) && eqb (getD (now (a .entry)) (at + 1) 0) (getD (now (b .entry)) (at + 1) 0)) && eqb (getD (now (a .entry)) (at + 2) 0) (getD (now (b .entry)) (at + 2) 0)) && eqb (getD (now (a .entry)) (at + 3) 0) (getD (now (b .entry)) (at + 3) 0) ⌝ }
+    ensures { λ r. ⌜ r ≡ ((eqb (getD (was a) at 0) (getD (was b) at 0) && eqb (getD (was a) (at + 1) 0) (getD (was b) (at + 1) 0)) && eqb (getD (was a) (at + 2) 0) (getD (was b) (at + 2) 0)) && eqb (getD (was a) (at + 3) 0) (getD (was b) (at + 3) 0) ⌝ }
 {
     (a[at] == b[at])
         & (a[at + 1] == b[at + 1])
@@ -61,7 +62,7 @@ fn shorter(n: usize, m: usize) -> usize
 
 // How many bytes are the same at the front of two names, counted by fours: what is left of the names decides.
 fn same_front(a: &[u8], b: &[u8]) -> usize
-    ensures { λ r. ⌜ (r ≤ length (now (a .entry))) × (r ≤ length (now (b .entry))) × (nameOrder (now (a .entry)) (now (b .entry)) ≡ nameOrder (drop r (now (a .entry))) (drop r (now (b .entry)))) ⌝ }
+    ensures { λ r. ⌜ (r ≤ length (was a)) × (r ≤ length (was b)) × (nameOrder (was a) (was b) ≡ nameOrder (drop r (was a)) (drop r (was b))) ⌝ }
 {
     let n = shorter(a.len(), b.len());
     let mut i = 0;
@@ -77,7 +78,7 @@ fn same_front(a: &[u8], b: &[u8]) -> usize
 
 // The order of two names: byte by byte, raised; a proper prefix is less.
 pub fn compare(a: &[u8], b: &[u8]) -> Order
-    ensures { λ r. ⌜ r ≡ nameOrder (now (a .entry)) (now (b .entry)) ⌝ }
+    ensures { λ r. ⌜ r ≡ nameOrder (was a) (was b) ⌝ }
 {
     let mut i = same_front(a, b);
     while i < a.len() {
@@ -100,7 +101,7 @@ pub fn compare(a: &[u8], b: &[u8]) -> Order
 // The name raised, in an array of 255 bytes that are zero past its end.
 pub fn raise_name(name: &[u8]) -> [u8; 255]
     requires { ⌜ length (now name) ≤ 255 ⌝ }
-    ensures { λ r. ⌜ r ≡ raisedCopy (now (name .entry)) ⌝ }
+    ensures { λ r. ⌜ r ≡ raisedCopy (was name) ⌝ }
 {
     let mut copy = [0u8; 255];
     let mut i = 0;
@@ -132,7 +133,7 @@ fn raised_byte_order(p: u8, up: u8, q: u8) -> Order
 // The order of a name, whose raised copy is at hand, to another.
 pub fn compare_raised(copy: &[u8; 255], name: &[u8], other: &[u8]) -> Order
     requires { ⌜ (length (now name) ≤ 255) × (now copy ≡ raisedCopy (now name)) ⌝ }
-    ensures { λ r. ⌜ r ≡ nameOrder (now (name .entry)) (now (other .entry)) ⌝ }
+    ensures { λ r. ⌜ r ≡ nameOrder (was name) (was other) ⌝ }
 {
     let mut i = same_front(name, other);
     while i < name.len() {

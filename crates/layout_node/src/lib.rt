@@ -4,6 +4,7 @@ use units::Sector;
 ghost use mathlib.Core.Path.{_≡_};
 ghost use Prim.Native.Nat.{_+_, _≤_};
 ghost use lib.ListN.{length};
+ghost use Rattle.units.specs.Lent.{was, is};
 ghost use Rattle.layout_bytes.specs.Bytes.{putAt};
 ghost use Rattle.layout_node.specs.Header.{headerOf, headerBytes, isBlank, isDirectory, entryLength};
 
@@ -20,7 +21,7 @@ pub struct Header {
 // The fields that fourteen bytes say.
 pub fn header_of(h: &[u8]) -> Header
     requires { ⌜ length (now h) ≡ 14 ⌝ }
-    ensures { λ r. ⌜ r ≡ headerOf (now (h .entry)) ⌝ }
+    ensures { λ r. ⌜ r ≡ headerOf (was h) ⌝ }
 {
     Header {
         left: Link::new(layout_bytes::u16_at(h, 0)),
@@ -35,7 +36,7 @@ pub fn header_of(h: &[u8]) -> Header
 // The fields written as fourteen bytes at a place.
 pub fn put_header(out: &mut [u8], at: usize, header: Header)
     requires { ⌜ at + 14 ≤ length (now out) ⌝ }
-    ensures { λ _. ⌜ now (out .exit) ≡ putAt (now (out .entry)) at (headerBytes header) ⌝ }
+    ensures { λ _. ⌜ is out ≡ putAt (was out) at (headerBytes header) ⌝ }
 {
     let left = header.left;
     let right = header.right;
@@ -50,7 +51,7 @@ pub fn put_header(out: &mut [u8], at: usize, header: Header)
 // No entry: fourteen bytes of 0xff, or of 0. The last byte is looked at first.
 pub fn is_blank(h: &[u8]) -> bool
     requires { ⌜ length (now h) ≡ 14 ⌝ }
-    ensures { λ r. ⌜ r ≡ isBlank (now (h .entry)) ⌝ }
+    ensures { λ r. ⌜ r ≡ isBlank (was h) ⌝ }
 {
     let last = h[13];
     if last == 0xff {

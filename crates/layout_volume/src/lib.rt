@@ -2,6 +2,7 @@
 use units::Region;
 use units::Sector;
 ghost use mathlib.Core.Path.{_≡_};
+ghost use Rattle.units.specs.Lent.{was, is};
 ghost use Rattle.layout_volume.specs.Descriptor.{mark, sameList, writeTold, writeOf, bytesAfter, readTold, readOf};
 ghost use lib.ListN.{take, drop};
 
@@ -26,7 +27,7 @@ pub enum DescriptorRead {
 
 // The twenty bytes of the mark stand at a place.
 fn has_mark(s: &[u8], at: usize) -> bool
-    ensures { λ r. ⌜ r ≡ sameList (take 20 (drop at (now (s .entry)))) mark ⌝ }
+    ensures { λ r. ⌜ r ≡ sameList (take 20 (drop at (was s))) mark ⌝ }
 {
     let wanted = b"MICROSOFT*XBOX*MEDIA";
     if s.len() < at {
@@ -47,8 +48,8 @@ fn has_mark(s: &[u8], at: usize) -> bool
 
 // Writes a descriptor into the first 2,048 bytes of the output.
 pub fn write_descriptor(out: &mut [u8], d: Descriptor) -> DescriptorWritten
-    ensures { λ r. ⌜ writeTold r ≡ writeOf (now (out .entry)) ⌝ }
-    ensures { λ _. ⌜ now (out .exit) ≡ bytesAfter (now (out .entry)) d ⌝ }
+    ensures { λ r. ⌜ writeTold r ≡ writeOf (was out) ⌝ }
+    ensures { λ _. ⌜ is out ≡ bytesAfter (was out) d ⌝ }
 {
     if out.len() < 2048 {
         return DescriptorWritten::BufferTooSmall;
@@ -65,7 +66,7 @@ pub fn write_descriptor(out: &mut [u8], d: Descriptor) -> DescriptorWritten
 
 // Reads the descriptor that the bytes start with.
 pub fn read_descriptor(s: &[u8]) -> DescriptorRead
-    ensures { λ r. ⌜ readTold r ≡ readOf (now (s .entry)) ⌝ }
+    ensures { λ r. ⌜ readTold r ≡ readOf (was s) ⌝ }
 {
     if has_mark(s, 0) {
         if has_mark(s, 2028) {

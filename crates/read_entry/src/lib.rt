@@ -6,6 +6,7 @@ use units::Region;
 use units::Sector;
 ghost use mathlib.Core.Path.{_≡_};
 ghost use Prim.Native.Nat.{_<_, _^_};
+ghost use Rattle.units.specs.Lent.{was};
 ghost use Rattle.read_entry.specs.Entry.{told, readHere, readAt, nameOf};
 
 // What reading at an offset finds.
@@ -29,7 +30,7 @@ fn wide(x: u8) -> usize
 // The entry at place p of the window, which is the table's offset.
 fn read_here(w: &[u8], p: usize, offset: Offset) -> Read
     requires { ⌜ p < 2 ^ 45 ⌝ }
-    ensures { λ r. ⌜ told r ≡ readHere (now (w .entry)) p (offset .0) ⌝ }
+    ensures { λ r. ⌜ told r ≡ readHere (was w) p (offset .0) ⌝ }
 {
     if w.len() < p + 14 {
         return Read::Truncated(offset);
@@ -49,7 +50,7 @@ fn read_here(w: &[u8], p: usize, offset: Offset) -> Read
 
 // The entry at an offset of a table.
 pub fn read_at(w: &[u8], first: Sector, table: Region, offset: Offset) -> Read
-    ensures { λ r. ⌜ told r ≡ readAt (now (w .entry)) first table (offset .0) ⌝ }
+    ensures { λ r. ⌜ told r ≡ readAt (was w) first table (offset .0) ⌝ }
 {
     match table.locate(offset) {
         Located::OutOfBounds(o) => Read::OutOfBounds(o),
@@ -65,7 +66,7 @@ pub fn read_at(w: &[u8], first: Sector, table: Region, offset: Offset) -> Read
 
 // The name of an entry whose first byte stands at a place of the window, as that part of the window itself.
 pub fn name_of(w: &[u8], place: usize, n: u8) -> &[u8]
-    ensures { λ r. ⌜ now r ≡ nameOf (now (w .entry)) place n ⌝ }
+    ensures { λ r. ⌜ now r ≡ nameOf (was w) place n ⌝ }
 {
     if w.len() < 14 {
         return &w[..0];

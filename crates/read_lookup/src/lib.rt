@@ -7,6 +7,7 @@ use units::Offset;
 use units::Region;
 use units::Sector;
 ghost use mathlib.Core.Path.{_≡_};
+ghost use Rattle.units.specs.Lent.{was};
 ghost use Rattle.read_entry.specs.Links.{lookupAbsent};
 ghost use Rattle.read_lookup.specs.Lookup.{leading, byLink, stepAt, anyHigh, told, lookupOf};
 
@@ -55,7 +56,7 @@ fn by_link(l: Link) -> Step
 
 // One step: the header at an offset.
 fn step_at(w: &[u8], first: Sector, table: Region, name: &[u8], offset: Offset) -> Step
-    ensures { λ r. ⌜ leading r ≡ stepAt lookupAbsent (now (w .entry)) first table (now (name .entry)) (offset .0) ⌝ }
+    ensures { λ r. ⌜ leading r ≡ stepAt lookupAbsent (was w) first table (was name) (offset .0) ⌝ }
 {
     match read_entry::read_at(w, first, table, offset) {
         Read::Entry(h, place) => {
@@ -73,7 +74,7 @@ fn step_at(w: &[u8], first: Sector, table: Region, name: &[u8], offset: Offset) 
 
 // Some byte is above 127.
 pub fn any_high(s: &[u8]) -> bool
-    ensures { λ r. ⌜ r ≡ anyHigh (now (s .entry)) ⌝ }
+    ensures { λ r. ⌜ r ≡ anyHigh (was s) ⌝ }
 {
     let mut i = 0;
     while i < s.len() {
@@ -87,7 +88,7 @@ pub fn any_high(s: &[u8]) -> bool
 
 // The entry of a name in a table. A chain of links that has read 65,536 headers never ends: there are no more offsets that a link can name.
 pub fn look_up(w: &[u8], first: Sector, table: Region, name: &[u8]) -> Looked
-    ensures { λ r. ⌜ told r ≡ lookupOf (now (w .entry)) first table (now (name .entry)) ⌝ }
+    ensures { λ r. ⌜ told r ≡ lookupOf (was w) first table (was name) ⌝ }
 {
     if any_high(name) {
         return Looked::BadByte;

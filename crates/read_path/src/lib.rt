@@ -7,6 +7,7 @@ use units::Sector;
 ghost use mathlib.Core.Path.{_≡_};
 ghost use Prim.Native.Nat.{_+_, _≤_};
 ghost use lib.ListN.{length, drop};
+ghost use Rattle.units.specs.Lent.{was};
 ghost use Rattle.read_lookup.specs.Lookup as lookup;
 ghost use Rattle.read_path.specs.Path.{trim, firstLen, told, turning, lastOf, turnOf, pathOf};
 
@@ -36,7 +37,7 @@ pub enum Turn {
 
 // The end of the leading slashes.
 fn trimmed(s: &[u8]) -> usize
-    ensures { λ r. ⌜ (r ≤ length (now (s .entry))) × (drop r (now (s .entry)) ≡ trim (now (s .entry))) ⌝ }
+    ensures { λ r. ⌜ (r ≤ length (was s)) × (drop r (was s) ≡ trim (was s)) ⌝ }
 {
     let mut i = 0;
     while i < s.len() {
@@ -51,7 +52,7 @@ fn trimmed(s: &[u8]) -> usize
 // The end of the part that starts at a place: the next slash, or the end.
 fn part_end(s: &[u8], from: usize) -> usize
     requires { ⌜ from ≤ length (now s) ⌝ }
-    ensures { λ r. ⌜ (r ≡ from + firstLen (drop from (now (s .entry)))) × (r ≤ length (now (s .entry))) ⌝ }
+    ensures { λ r. ⌜ (r ≡ from + firstLen (drop from (was s))) × (r ≤ length (was s)) ⌝ }
 {
     let mut i = from;
     while i < s.len() {
@@ -102,7 +103,7 @@ fn turn_of(a: Looked) -> Turn
 
 // The entry that a path leads to from a table.
 pub fn find_path(w: &[u8], first: Sector, table: Region, path: &[u8]) -> PathFound
-    ensures { λ r. ⌜ told r ≡ pathOf (now (w .entry)) first table (now (path .entry)) ⌝ }
+    ensures { λ r. ⌜ told r ≡ pathOf (was w) first table (was path) ⌝ }
 {
     if read_lookup::any_high(path) {
         return PathFound::BadByte;

@@ -6,6 +6,7 @@ use units::Offset;
 use units::Region;
 use units::Sector;
 ghost use mathlib.Core.Path.{_≡_};
+ghost use Rattle.units.specs.Lent.{was};
 ghost use Rattle.read_entry.specs.Links.{walkAbsent};
 ghost use Rattle.read_place.specs.Place.{entered, headerEntered, tableAt, linked, byLink, leftAt, rightAt, nameAt};
 
@@ -47,7 +48,7 @@ fn enter_header(h: Header) -> Entered
 
 // The table of the directory at a place.
 pub fn table_at(w: &[u8], first: Sector, table: Region, offset: Offset) -> Entered
-    ensures { λ r. ⌜ entered r ≡ tableAt (now (w .entry)) first table (offset .0) ⌝ }
+    ensures { λ r. ⌜ entered r ≡ tableAt (was w) first table (offset .0) ⌝ }
 {
     match read_entry::read_at(w, first, table, offset) {
         Read::Entry(h, _) => enter_header(h),
@@ -73,7 +74,7 @@ fn by_link(l: Link) -> Linked
 
 // Where the left link of the entry at a place leads.
 pub fn left_at(w: &[u8], first: Sector, table: Region, offset: Offset) -> Linked
-    ensures { λ r. ⌜ linked r ≡ leftAt (now (w .entry)) first table (offset .0) ⌝ }
+    ensures { λ r. ⌜ linked r ≡ leftAt (was w) first table (offset .0) ⌝ }
 {
     match read_entry::read_at(w, first, table, offset) {
         Read::Entry(h, _) => by_link(h.left),
@@ -85,7 +86,7 @@ pub fn left_at(w: &[u8], first: Sector, table: Region, offset: Offset) -> Linked
 
 // Where the right link of the entry at a place leads.
 pub fn right_at(w: &[u8], first: Sector, table: Region, offset: Offset) -> Linked
-    ensures { λ r. ⌜ linked r ≡ rightAt (now (w .entry)) first table (offset .0) ⌝ }
+    ensures { λ r. ⌜ linked r ≡ rightAt (was w) first table (offset .0) ⌝ }
 {
     match read_entry::read_at(w, first, table, offset) {
         Read::Entry(h, _) => by_link(h.right),
@@ -97,7 +98,7 @@ pub fn right_at(w: &[u8], first: Sector, table: Region, offset: Offset) -> Linke
 
 // The name of the entry at a place, as that part of the window itself; an empty part where there is none.
 pub fn name_at(w: &[u8], first: Sector, table: Region, offset: Offset) -> &[u8]
-    ensures { λ r. ⌜ now r ≡ nameAt (now (w .entry)) first table (offset .0) ⌝ }
+    ensures { λ r. ⌜ now r ≡ nameAt (was w) first table (offset .0) ⌝ }
 {
     match read_entry::read_at(w, first, table, offset) {
         Read::Entry(h, place) => read_entry::name_of(w, place, h.name_len),

@@ -10,6 +10,7 @@ ghost use mathlib.Core.Path.{_≡_};
 ghost use mathlib.Core.List.{[], _∷_};
 ghost use Prim.Native.Nat.{_<_};
 ghost use lib.ListN.{length};
+ghost use Rattle.units.specs.Lent.{was, is};
 ghost use Rattle.read_entry.specs.Entry.{readAt};
 ghost use Rattle.read_entry.specs.Links.{walkAbsent};
 ghost use Rattle.read_walk.specs.Walk.{walkFrom, told, walkAnswer, listAfter, scratchAfter};
@@ -31,7 +32,7 @@ pub enum Walked {
 // A link's offset on the stack: 0 and 0xffff are absent. The answer is the stack's new height.
 fn push_link(scratch: &mut [u32], top: usize, l: Link) -> usize
     requires { ⌜ top < length (now scratch) ⌝ }
-    ensures { λ r. ⌜ Pushed walkAbsent (l .0) (now (scratch .entry)) top (now (scratch .exit)) r ⌝ }
+    ensures { λ r. ⌜ Pushed walkAbsent (l .0) (was scratch) top (is scratch) r ⌝ }
 {
     let n = l.number();
     if n == 0 {
@@ -48,7 +49,7 @@ fn push_link(scratch: &mut [u32], top: usize, l: Link) -> usize
 // The walk itself. What it leaves in the list past its count, and in the scratch, is cleared by the caller.
 fn run(w: &[u8], first: Sector, table: Region, list: &mut [u32], scratch: &mut [u32]) -> Walked
     requires { ⌜ length (now list) < length (now scratch) ⌝ }
-    ensures { λ r. ⌜ Runs (walkFrom walkAbsent (readAt (now (w .entry)) first table) (length (now (list .entry))) (0 ∷ [])) r (now (list .exit)) ⌝ }
+    ensures { λ r. ⌜ Runs (walkFrom walkAbsent (readAt (was w) first table) (length (was list)) (0 ∷ [])) r (is list) ⌝ }
 {
     scratch[0] = 0;
     let mut top: usize = 1;
@@ -90,9 +91,9 @@ fn kept(r: Walked) -> usize
 // The walk of a table: the offsets of its entries in the list, and zeros past them; or a refusal, and a list of zeros. The scratch is all
 // zero after it. Where the scratch is not longer than the list, all is unchanged.
 pub fn walk(w: &[u8], first: Sector, table: Region, list: &mut [u32], scratch: &mut [u32]) -> Walked
-    ensures answer { λ r. ⌜ told r ≡ walkAnswer (now (w .entry)) first table (length (now (list .entry))) (length (now (scratch .entry))) ⌝ }
-    ensures list { λ _. ⌜ now (list .exit) ≡ listAfter (now (w .entry)) first table (now (list .entry)) (length (now (scratch .entry))) ⌝ }
-    ensures scratch { λ _. ⌜ now (scratch .exit) ≡ scratchAfter (length (now (list .entry))) (now (scratch .entry)) ⌝ }
+    ensures answer { λ r. ⌜ told r ≡ walkAnswer (was w) first table (length (was list)) (length (was scratch)) ⌝ }
+    ensures list { λ _. ⌜ is list ≡ listAfter (was w) first table (was list) (length (was scratch)) ⌝ }
+    ensures scratch { λ _. ⌜ is scratch ≡ scratchAfter (length (was list)) (was scratch) ⌝ }
 {
     if scratch.len() <= list.len() {
         return Walked::Room;

@@ -25,6 +25,7 @@ pub use units::Offset;
 pub use units::Region;
 pub use units::Sector;
 ghost use mathlib.Core.Path.{_≡_};
+ghost use Rattle.units.specs.Lent.{was};
 ghost use Rattle.read_entry.specs.Entry as reading;
 ghost use Rattle.read_lookup.specs.Lookup as lookup;
 ghost use Rattle.read_place.specs.Place as place;
@@ -72,7 +73,7 @@ impl<'a> Reader<'a> {
 
     // Looks a name up in the table, from offset 0 on, wherever the position is. 2, 21, then 22 with the number of headers read, 23, 24, 25.
     pub fn look_up(self, name: &[u8]) -> Looked
-        ensures { λ r. ⌜ lookup.told r ≡ lookup.lookupOf (now (self .entry .window)) (self .entry .first) (self .entry .table) (now (name .entry)) ⌝ }
+        ensures { λ r. ⌜ lookup.told r ≡ lookup.lookupOf (now (self .entry .window)) (self .entry .first) (self .entry .table) (was name) ⌝ }
     {
         xdvdfs::look_up(self.window, self.first, self.table, name)
     }

@@ -12,48 +12,49 @@ use units::Offset;
 use units::Region;
 use units::Sector;
 ghost use mathlib.Core.Path.{_≡_};
+ghost use Rattle.units.specs.Lent.{was};
 ghost use Rattle.read_entry.specs.Entry as reading;
 ghost use Rattle.read_lookup.specs.Lookup as lookup;
 ghost use Rattle.read_place.specs.Place as place;
 
 fn find(w: &[u8], first: Sector, table: Region, name: &[u8]) -> Looked
-    ensures { λ r. ⌜ lookup.told r ≡ lookup.lookupOf (now (w .entry)) first table (now (name .entry)) ⌝ }
+    ensures { λ r. ⌜ lookup.told r ≡ lookup.lookupOf (was w) first table (was name) ⌝ }
 {
     Reader::new(w, first, table).look_up(name)
 }
 
 fn find_within(w: &[u8], first: Sector, table: Region, inner: Region, name: &[u8]) -> Looked
-    ensures { λ r. ⌜ lookup.told r ≡ lookup.lookupOf (now (w .entry)) first inner (now (name .entry)) ⌝ }
+    ensures { λ r. ⌜ lookup.told r ≡ lookup.lookupOf (was w) first inner (was name) ⌝ }
 {
     Reader::new(w, first, table).within(inner).look_up(name)
 }
 
 fn entry_at(w: &[u8], first: Sector, table: Region, at: Offset) -> Read
-    ensures { λ r. ⌜ reading.told r ≡ reading.readAt (now (w .entry)) first table (at .0) ⌝ }
+    ensures { λ r. ⌜ reading.told r ≡ reading.readAt (was w) first table (at .0) ⌝ }
 {
     Reader::new(w, first, table).placed(at).entry()
 }
 
 fn name_at(w: &[u8], first: Sector, table: Region, at: Offset) -> &[u8]
-    ensures { λ r. ⌜ now r ≡ place.nameAt (now (w .entry)) first table (at .0) ⌝ }
+    ensures { λ r. ⌜ now r ≡ place.nameAt (was w) first table (at .0) ⌝ }
 {
     Reader::new(w, first, table).placed(at).name()
 }
 
 fn enter_at(w: &[u8], first: Sector, table: Region, at: Offset) -> Entered
-    ensures { λ r. ⌜ place.entered r ≡ place.tableAt (now (w .entry)) first table (at .0) ⌝ }
+    ensures { λ r. ⌜ place.entered r ≡ place.tableAt (was w) first table (at .0) ⌝ }
 {
     Reader::new(w, first, table).placed(at).enter()
 }
 
 fn left_at(w: &[u8], first: Sector, table: Region, at: Offset) -> Linked
-    ensures { λ r. ⌜ place.linked r ≡ place.leftAt (now (w .entry)) first table (at .0) ⌝ }
+    ensures { λ r. ⌜ place.linked r ≡ place.leftAt (was w) first table (at .0) ⌝ }
 {
     Reader::new(w, first, table).placed(at).left()
 }
 
 fn right_at(w: &[u8], first: Sector, table: Region, at: Offset) -> Linked
-    ensures { λ r. ⌜ place.linked r ≡ place.rightAt (now (w .entry)) first table (at .0) ⌝ }
+    ensures { λ r. ⌜ place.linked r ≡ place.rightAt (was w) first table (at .0) ⌝ }
 {
     Reader::new(w, first, table).placed(at).right()
 }

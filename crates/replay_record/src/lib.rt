@@ -3,6 +3,7 @@
 ghost use mathlib.Core.Path.{_≡_};
 ghost use Prim.Native.Nat.{_<_, _≤_};
 ghost use lib.ListN.{length};
+ghost use Rattle.units.specs.Lent.{was, is};
 
 fn wide(x: u16) -> usize
     ensures { λ r. ⌜ (r ≡ x) × (r < 65536) ⌝ }
@@ -89,7 +90,7 @@ pub fn is_row(s: &[u8], at: usize, row: &[u32], n: usize, x: u32) -> bool
 // Numbers from a place on, as many as there are places for them.
 pub fn fill(s: &[u8], at: usize, to: &mut [u32])
     requires { ⌜ (at < 4000000) × (length (now to) ≤ 65536) ⌝ }
-    ensures { λ _. ⌜ length (now (to .exit)) ≡ length (now (to .entry)) ⌝ }
+    ensures { λ _. ⌜ length (is to) ≡ length (was to) ⌝ }
 {
     let mut i = 0;
     while i < to.len() {
@@ -101,7 +102,7 @@ pub fn fill(s: &[u8], at: usize, to: &mut [u32])
 // Numbers of eight bytes from a place on, as many as there are places for them.
 pub fn fill_long(s: &[u8], at: usize, to: &mut [u64])
     requires { ⌜ (at < 4000000) × (length (now to) ≤ 65536) ⌝ }
-    ensures { λ _. ⌜ length (now (to .exit)) ≡ length (now (to .entry)) ⌝ }
+    ensures { λ _. ⌜ length (is to) ≡ length (was to) ⌝ }
 {
     let mut i = 0;
     while i < to.len() {

@@ -3,10 +3,11 @@ ghost use mathlib.Core.Path.{_≡_};
 ghost use mathlib.Core.List.{_++_};
 ghost use Prim.Native.Nat.{_-_, _≤_};
 ghost use lib.ListN.{length, take, replicate};
+ghost use Rattle.units.specs.Lent.{was, is};
 
 // Zero everywhere, in a column of bytes.
 pub fn clear_bytes(bytes: &mut [u8])
-    ensures { λ _. ⌜ now (bytes .exit) ≡ replicate (length (now (bytes .entry))) 0 ⌝ }
+    ensures { λ _. ⌜ is bytes ≡ replicate (length (was bytes)) 0 ⌝ }
 {
     let mut i = 0;
     while i < bytes.len() {
@@ -17,7 +18,7 @@ pub fn clear_bytes(bytes: &mut [u8])
 
 // Zero everywhere, in a column of two bytes a place.
 pub fn clear_shorts(shorts: &mut [u16])
-    ensures { λ _. ⌜ now (shorts .exit) ≡ replicate (length (now (shorts .entry))) 0 ⌝ }
+    ensures { λ _. ⌜ is shorts ≡ replicate (length (was shorts)) 0 ⌝ }
 {
     let mut i = 0;
     while i < shorts.len() {
@@ -28,7 +29,7 @@ pub fn clear_shorts(shorts: &mut [u16])
 
 // Zero everywhere, in a column of eight bytes a place.
 pub fn clear_longs(longs: &mut [u64])
-    ensures { λ _. ⌜ now (longs .exit) ≡ replicate (length (now (longs .entry))) 0 ⌝ }
+    ensures { λ _. ⌜ is longs ≡ replicate (length (was longs)) 0 ⌝ }
 {
     let mut i = 0;
     while i < longs.len() {
@@ -40,7 +41,7 @@ pub fn clear_longs(longs: &mut [u64])
 // Zero from a place on, in a column of four bytes a place.
 pub fn clear_from(words: &mut [u32], from: usize)
     requires { ⌜ from ≤ length (now words) ⌝ }
-    ensures { λ _. ⌜ now (words .exit) ≡ take from (now (words .entry)) ++ replicate (length (now (words .entry)) - from) 0 ⌝ }
+    ensures { λ _. ⌜ is words ≡ take from (was words) ++ replicate (length (was words) - from) 0 ⌝ }
 {
     let mut i = from;
     while i < words.len() {
@@ -51,7 +52,7 @@ pub fn clear_from(words: &mut [u32], from: usize)
 
 // Zero everywhere, in a column of four bytes a place.
 pub fn clear_words(words: &mut [u32])
-    ensures { λ _. ⌜ now (words .exit) ≡ replicate (length (now (words .entry))) 0 ⌝ }
+    ensures { λ _. ⌜ is words ≡ replicate (length (was words)) 0 ⌝ }
 {
     clear_from(words, 0);
 }
@@ -59,7 +60,7 @@ pub fn clear_words(words: &mut [u32])
 // One column into another of the same length.
 pub fn copy_words(from: &[u32], to: &mut [u32])
     requires { ⌜ length (now to) ≡ length (now from) ⌝ }
-    ensures { λ _. ⌜ now (to .exit) ≡ now (from .entry) ⌝ }
+    ensures { λ _. ⌜ is to ≡ was from ⌝ }
 {
     let mut at = 0;
     while at < from.len() {

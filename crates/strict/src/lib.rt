@@ -17,6 +17,7 @@ ghost use Prim.Native.Nat.{ℕ, _+_, _*_, _/_, _%_, _≤_, _<_};
 ghost use lib.Dec.{eqb};
 ghost use lib.ListN.{length};
 ghost use Rattle.units.specs.Told.{Told};
+ghost use Rattle.units.specs.Lent.{was, is};
 ghost use Rattle.layout_name.specs.Order.{nameOrder};
 ghost use Rattle.read_entry.specs.Entry.{Placed, readAt};
 ghost use Rattle.strict_map.specs.Map.{Marked};
@@ -48,7 +49,7 @@ enum Verdict {
 
 // One name is less than another.
 fn is_less(a: &[u8], b: &[u8]) -> bool
-    ensures { λ r. ⌜ r ≡ isLess (nameOrder (now (a .entry)) (now (b .entry))) ⌝ }
+    ensures { λ r. ⌜ r ≡ isLess (nameOrder (was a) (was b)) ⌝ }
 {
     match layout_name::compare(a, b) {
         Order::Less => true,
@@ -59,7 +60,7 @@ fn is_less(a: &[u8], b: &[u8]) -> bool
 
 // The name of the entry at an offset, as that part of the window; where there is none, nothing.
 fn name_at(w: &[u8], first: Sector, table: Region, o: Offset) -> &[u8]
-    ensures { λ r. ⌜ now r ≡ nameBy (now (w .entry)) (readAt (now (w .entry)) first table (o .0)) ⌝ }
+    ensures { λ r. ⌜ now r ≡ nameBy (was w) (readAt (was w) first table (o .0)) ⌝ }
 {
     match read_entry::read_at(w, first, table, o) {
         Read::Entry(h, at) => read_entry::name_of(w, at, h.name_len),
@@ -71,7 +72,7 @@ fn name_at(w: &[u8], first: Sector, table: Region, o: Offset) -> &[u8]
 
 // The name is less than that of the entry at a link, if there is one.
 fn is_under(w: &[u8], first: Sector, table: Region, name: &[u8], l: Link) -> bool
-    ensures { λ r. ⌜ r ≡ lessThan (now (name .entry)) (nameAt (now (w .entry)) (readAt (now (w .entry)) first table) (boundOf (l .0))) ⌝ }
+    ensures { λ r. ⌜ r ≡ lessThan (was name) (nameAt (was w) (readAt (was w) first table) (boundOf (l .0))) ⌝ }
 {
     let n = l.number();
     if n == 0xffff {
@@ -82,7 +83,7 @@ fn is_under(w: &[u8], first: Sector, table: Region, name: &[u8], l: Link) -> boo
 
 // The name is greater than that of the entry at a link, if there is one.
 fn is_over(w: &[u8], first: Sector, table: Region, name: &[u8], l: Link) -> bool
-    ensures { λ r. ⌜ r ≡ moreThan (now (name .entry)) (nameAt (now (w .entry)) (readAt (now (w .entry)) first table) (boundOf (l .0))) ⌝ }
+    ensures { λ r. ⌜ r ≡ moreThan (was name) (nameAt (was w) (readAt (was w) first table) (boundOf (l .0))) ⌝ }
 {
     let n = l.number();
     if n == 0xffff {
@@ -93,7 +94,7 @@ fn is_over(w: &[u8], first: Sector, table: Region, name: &[u8], l: Link) -> bool
 
 // The name stands to its parent's as the visit asks.
 fn is_ordered(w: &[u8], first: Sector, table: Region, c: u64, name: &[u8]) -> bool
-    ensures { λ r. ⌜ r ≡ ordered (now (w .entry)) (readAt (now (w .entry)) first table) (visitOf c) (now (name .entry)) ⌝ }
+    ensures { λ r. ⌜ r ≡ ordered (was w) (readAt (was w) first table) (visitOf c) (was name) ⌝ }
 {
     let under = Link::new((c / 65536 % 65536) as u16);
     let over = Link::new((c / 4294967296 % 65536) as u16);
@@ -106,7 +107,7 @@ fn is_ordered(w: &[u8], first: Sector, table: Region, c: u64, name: &[u8]) -> bo
 
 // An entry at a link is inside the table, over no sector line, and over no entry that is marked on the map.
 fn is_placed(table: Region, map: &[u8; 65604], l: Link, h: Header) -> bool
-    ensures { λ r. ⌜ ((f : ℕ → Told (Option Placed)) (seen : List ℕ) → Mapped f seen (now (map .entry)) → r ≡ placed f (table .size) (4 * l .0) (endOf h (4 * l .0)) seen) ⌝ }
+    ensures { λ r. ⌜ ((f : ℕ → Told (Option Placed)) (seen : List ℕ) → Mapped f seen (was map) → r ≡ placed f (table .size) (4 * l .0) (endOf h (4 * l .0)) seen) ⌝ }
 {
     let from = l.offset();
     let o = from.number();
@@ -124,7 +125,7 @@ fn is_placed(table: Region, map: &[u8; 65604], l: Link, h: Header) -> bool
 // An entry at a link marked on the map.
 fn mark_entry(map: &mut [u8; 65604], l: Link, h: Header)
     requires { ⌜ length (now map) ≡ 65604 ⌝ }
-    ensures { λ _. ⌜ (Marked (now (map .entry)) (l .0) (endOf h (4 * l .0) / 4) (now (map .exit))) × (endOf h (4 * l .0) / 4 ≤ 65604) ⌝ }
+    ensures { λ _. ⌜ (Marked (was map) (l .0) (endOf h (4 * l .0) / 4) (is map)) × (endOf h (4 * l .0) / 4 ≤ 65604) ⌝ }
 {
     let from = l.offset();
     let o = from.number();
@@ -143,7 +144,7 @@ fn judge(
     h: Header,
     at: usize,
 ) -> Verdict
-    ensures { λ r. ⌜ ((seen : List ℕ) → Mapped (readAt (now (w .entry)) first table) seen (now (map .entry)) → Judged r (verdictAt (now (w .entry)) (readAt (now (w .entry)) first table) (table .size) seen (eqb left 0) (visitOf c) (record { header = h; place = at }))) ⌝ }
+    ensures { λ r. ⌜ ((seen : List ℕ) → Mapped (readAt (was w) first table) seen (was map) → Judged r (verdictAt (was w) (readAt (was w) first table) (table .size) seen (eqb left 0) (visitOf c) (record { header = h; place = at }))) ⌝ }
 {
     let l = Link::new((c % 65536) as u16);
     let o = l.offset();
@@ -165,7 +166,7 @@ fn judge(
 // A link on the stack with the rest of its number: 0 and 0xffff are absent. The answer is the stack's new height.
 fn push_link(scratch: &mut [u64], top: usize, l: Link, rest: u64) -> usize
     requires { ⌜ (top < length (now scratch)) × (rest < 4294967296) ⌝ }
-    ensures { λ r. ⌜ Pushed (l .0) rest (now (scratch .entry)) top (now (scratch .exit)) r ⌝ }
+    ensures { λ r. ⌜ Pushed (l .0) rest (was scratch) top (is scratch) r ⌝ }
 {
     let n = l.number();
     if n == 0 {
@@ -181,7 +182,7 @@ fn push_link(scratch: &mut [u64], top: usize, l: Link, rest: u64) -> usize
 // The children of the entry at a visit on the stack, the left one on top: its name must be less than the entry's, the right one's greater.
 fn push_links(scratch: &mut [u64], top: usize, c: u64, h: Header) -> usize
     requires { ⌜ (top + 1 < length (now scratch)) × (c % 65536 < 65535) ⌝ }
-    ensures { λ r. ⌜ Entered (visitOf c) h (now (scratch .entry)) top (now (scratch .exit)) r ⌝ }
+    ensures { λ r. ⌜ Entered (visitOf c) h (was scratch) top (is scratch) r ⌝ }
 {
     let k = c % 65536;
     let right = h.right;
@@ -193,7 +194,7 @@ fn push_links(scratch: &mut [u64], top: usize, c: u64, h: Header) -> usize
 // The check itself. What it leaves in the list past its count, and in the scratch, is cleared by the caller.
 fn run(w: &[u8], first: Sector, table: Region, list: &mut [u32], scratch: &mut [u64]) -> Checked
     requires { ⌜ length (now list) < length (now scratch) ⌝ }
-    ensures { λ r. ⌜ Runs (strictFrom (now (w .entry)) (readAt (now (w .entry)) first table) (table .size) (length (now (list .entry))) [] (root ∷ [])) r (now (list .exit)) ⌝ }
+    ensures { λ r. ⌜ Runs (strictFrom (was w) (readAt (was w) first table) (table .size) (length (was list)) [] (root ∷ [])) r (is list) ⌝ }
 {
     let mut map = [0u8; 65604];
     // The root: link 0, and 0xffff twice.
@@ -248,9 +249,9 @@ pub fn check_table(
     list: &mut [u32],
     scratch: &mut [u64],
 ) -> Checked
-    ensures { λ r. ⌜ told r ≡ strictAnswer (now (w .entry)) first table (length (now (list .entry))) (length (now (scratch .entry))) ⌝ }
-    ensures { λ _. ⌜ now (list .exit) ≡ listAfter (now (w .entry)) first table (now (list .entry)) (length (now (scratch .entry))) ⌝ }
-    ensures { λ _. ⌜ now (scratch .exit) ≡ scratchAfter (length (now (list .entry))) (now (scratch .entry)) ⌝ }
+    ensures { λ r. ⌜ told r ≡ strictAnswer (was w) first table (length (was list)) (length (was scratch)) ⌝ }
+    ensures { λ _. ⌜ is list ≡ listAfter (was w) first table (was list) (length (was scratch)) ⌝ }
+    ensures { λ _. ⌜ is scratch ≡ scratchAfter (length (was list)) (was scratch) ⌝ }
 {
     if scratch.len() <= list.len() {
         return Checked::Room;

@@ -4,12 +4,13 @@ ghost use mathlib.Core.Path.{_≡_};
 ghost use Prim.Native.Nat.{_≤_, _<_};
 ghost use lib.Dec.{eqb};
 ghost use lib.ListN.{length, getD};
+ghost use Rattle.units.specs.Lent.{was, is};
 ghost use Rattle.strict_map.specs.Map.{Tested, Marked};
 
 // An entry starts at the unit.
 pub fn is_start(map: &[u8; 65604], unit: usize) -> bool
     requires { ⌜ unit < 65604 ⌝ }
-    ensures { λ r. ⌜ r ≡ eqb (getD (now (map .entry)) unit 0) 1 ⌝ }
+    ensures { λ r. ⌜ r ≡ eqb (getD (was map) unit 0) 1 ⌝ }
 {
     map[unit] == 1
 }
@@ -17,7 +18,7 @@ pub fn is_start(map: &[u8; 65604], unit: usize) -> bool
 // The last unit and every fourth from the first are free: no entry of four units or more stands on any between them.
 pub fn is_free(map: &[u8; 65604], from: usize, to: usize) -> bool
     requires { ⌜ (from < to) × (to ≤ 65604) ⌝ }
-    ensures { λ r. ⌜ Tested (now (map .entry)) from to r ⌝ }
+    ensures { λ r. ⌜ Tested (was map) from to r ⌝ }
 {
     let last = map[to - 1];
     if last != 0 {
@@ -36,7 +37,7 @@ pub fn is_free(map: &[u8; 65604], from: usize, to: usize) -> bool
 // An entry marked on its units.
 pub fn mark(map: &mut [u8; 65604], from: usize, to: usize)
     requires { ⌜ (from < to) × (to ≤ 65604) × (length (now map) ≡ 65604) ⌝ }
-    ensures { λ _. ⌜ Marked (now (map .entry)) from to (now (map .exit)) ⌝ }
+    ensures { λ _. ⌜ Marked (was map) from to (is map) ⌝ }
 {
     map[from] = 1;
     let mut i = from + 1;

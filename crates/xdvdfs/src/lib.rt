@@ -30,9 +30,10 @@ pub use units::Region;
 pub use units::Sector;
 ghost use mathlib.Core.Path.{_≡_};
 ghost use lib.ListN.{length};
+ghost use Rattle.units.specs.Lent.{was, is};
 ghost use Rattle.dirtab.specs.Serialise as serialising;
 ghost use Rattle.dirtab_add.specs.Add as adding;
-ghost use Rattle.dirtab_arena.specs.Arena.{arena, columns};
+ghost use Rattle.dirtab_arena.specs.Arena.{arenaIn, lentColumns};
 ghost use Rattle.dirtab_list.specs.Whole as whole;
 ghost use Rattle.img.specs.Image as image;
 ghost use Rattle.img_model.specs.Plan as planning;
@@ -47,44 +48,45 @@ ghost use Rattle.strict.specs.Strict as checking;
 
 // Reads the volume descriptor that the bytes start with: where the root table stands. 20 where a mark differs or is cut.
 pub fn read_descriptor(s: &[u8]) -> DescriptorRead
-    ensures { λ r. ⌜ volume.readTold r ≡ volume.readOf (now (s .entry)) ⌝ }
+    ensures { λ r. ⌜ volume.readTold r ≡ volume.readOf (was s) ⌝ }
 {
     layout_volume::read_descriptor(s)
 }
 
 // Reads the entry at an offset of a table: its header and place in the window, or that there is none. 23, 24 with the offset.
 pub fn read_entry(w: &[u8], first: Sector, table: Region, offset: Offset) -> Read
-    ensures { λ r. ⌜ entry.told r ≡ entry.readAt (now (w .entry)) first table (offset .0) ⌝ }
+    ensures { λ r. ⌜ entry.told r ≡ entry.readAt (was w) first table (offset .0) ⌝ }
 {
     read_entry::read_at(w, first, table, offset)
 }
 
 // The name of an entry whose first byte stands at a place of the window: that part of the window itself.
 pub fn entry_name(w: &[u8], place: usize, n: u8) -> &[u8]
-    ensures { λ r. ⌜ now r ≡ entry.nameOf (now (w .entry)) place n ⌝ }
+    ensures { λ r. ⌜ now r ≡ entry.nameOf (was w) place n ⌝ }
 {
     read_entry::name_of(w, place, n)
 }
 
 // Looks a name up in a table. 2, 21, then 22 with the number of headers read, 23, 24, 25.
 pub fn look_up(w: &[u8], first: Sector, table: Region, name: &[u8]) -> Looked
-    ensures { λ r. ⌜ lookup.told r ≡ lookup.lookupOf (now (w .entry)) first table (now (name .entry)) ⌝ }
+    ensures { λ r. ⌜ lookup.told r ≡ lookup.lookupOf (was w) first table (was name) ⌝ }
 {
     read_lookup::look_up(w, first, table, name)
 }
 
 // Follows a path from a table. 2, 28, then for each part what its lookup gives, and 27 where a part but the last is no directory.
 pub fn find_path(w: &[u8], first: Sector, table: Region, path: &[u8]) -> PathFound
-    ensures { λ r. ⌜ following.told r ≡ following.pathOf (now (w .entry)) first table (now (path .entry)) ⌝ }
+    ensures { λ r. ⌜ following.told r ≡ following.pathOf (was w) first table (was path) ⌝ }
 {
     read_path::find_path(w, first, table, path)
 }
 
 // Lists the offsets of a table's entries in preorder. 6, then 23, 24, 26 as they are met.
 pub fn walk(w: &[u8], first: Sector, table: Region, list: &mut [u32], scratch: &mut [u32]) -> Walked
-    ensures { λ r. ⌜ walking.told r ≡ walking.walkAnswer (now (w .entry)) first table (length (now (list .entry))) (length (now (scratch .entry))) ⌝ }
-    ensures { λ _. ⌜ now (list .exit) ≡ walking.listAfter (now (w .entry)) first table (now (list .entry)) (length (now (scratch .entry))) ⌝ }
-    ensures { λ _. ⌜ now (scratch .exit) ≡ walking.scratchAfter (length (now (list .entry))) (now (scratch .entry)) ⌝ }
+    ensures answer { λ r.
+        ⌜ walking.told r ≡ walking.walkAnswer (was w) first table (length (was list)) (length (was scratch)) ⌝ }
+    ensures list { λ _. ⌜ is list ≡ walking.listAfter (was w) first table (was list) (length (was scratch)) ⌝ }
+    ensures scratch { λ _. ⌜ is scratch ≡ walking.scratchAfter (length (was list)) (was scratch) ⌝ }
 {
     read_walk::walk(w, first, table, list, scratch)
 }
@@ -97,9 +99,10 @@ pub fn check_table(
     list: &mut [u32],
     scratch: &mut [u64],
 ) -> Checked
-    ensures { λ r. ⌜ checking.told r ≡ checking.strictAnswer (now (w .entry)) first table (length (now (list .entry))) (length (now (scratch .entry))) ⌝ }
-    ensures { λ _. ⌜ now (list .exit) ≡ checking.listAfter (now (w .entry)) first table (now (list .entry)) (length (now (scratch .entry))) ⌝ }
-    ensures { λ _. ⌜ now (scratch .exit) ≡ checking.scratchAfter (length (now (list .entry))) (now (scratch .entry)) ⌝ }
+    ensures answer { λ r.
+        ⌜ checking.told r ≡ checking.strictAnswer (was w) first table (length (was list)) (length (was scratch)) ⌝ }
+    ensures list { λ _. ⌜ is list ≡ checking.listAfter (was w) first table (was list) (length (was scratch)) ⌝ }
+    ensures scratch { λ _. ⌜ is scratch ≡ checking.scratchAfter (length (was list)) (was scratch) ⌝ }
 {
     strict::check_table(w, first, table, list, scratch)
 }
@@ -112,8 +115,8 @@ pub fn check_table(
 
 // Writes a volume descriptor into the first 2,048 bytes of the output. 9 where it is shorter.
 pub fn write_descriptor(out: &mut [u8], d: Descriptor) -> DescriptorWritten
-    ensures { λ r. ⌜ volume.writeTold r ≡ volume.writeOf (now (out .entry)) ⌝ }
-    ensures { λ _. ⌜ now (out .exit) ≡ volume.bytesAfter (now (out .entry)) d ⌝ }
+    ensures { λ r. ⌜ volume.writeTold r ≡ volume.writeOf (was out) ⌝ }
+    ensures { λ _. ⌜ is out ≡ volume.bytesAfter (was out) d ⌝ }
 {
     layout_volume::write_descriptor(out, d)
 }
@@ -133,9 +136,11 @@ pub fn add(
     names: &[u8],
     entry: Entry,
 ) -> Added
-    ensures { λ r. ⌜ adding.told r ≡ adding.addOf (arena (tree .root) (tree .count) (columns (now (left .entry)) (now (right .entry)) (now (parent .entry)) (now (height .entry)) (now (start .entry)) (now (len .entry)) (now (size .entry)) (now (kind .entry))) (now (names .entry))) entry ⌝ }
-    ensures { λ _. ⌜ columns (now (left .exit)) (now (right .exit)) (now (parent .exit)) (now (height .exit)) (now (start .exit)) (now (len .exit)) (now (size .exit)) (now (kind .exit))
-        ≡ adding.columnsAfter (arena (tree .root) (tree .count) (columns (now (left .entry)) (now (right .entry)) (now (parent .entry)) (now (height .entry)) (now (start .entry)) (now (len .entry)) (now (size .entry)) (now (kind .entry))) (now (names .entry))) entry ⌝ }
+    ensures { λ r.
+        let A = arenaIn (tree .root) (tree .count) left right parent height start len size kind names in
+        let c = lentColumns left right parent height start len size kind in
+        ⌜ adding.told r ≡ adding.addOf A entry ⌝
+        ∗ ⌜ c .exit ≡ adding.columnsAfter A entry ⌝ }
 {
     dirtab_add::add(
         tree,
@@ -170,10 +175,11 @@ pub fn serialise(
     place: &mut [u16],
     out: &mut [u8],
 ) -> Serialised
-    ensures { λ r. ⌜ serialising.told r ≡ serialising.serialiseOf (arena (tree .root) (tree .count) (columns (now (left .entry)) (now (right .entry)) (now (parent .entry)) (now (height .entry)) (now (start .entry)) (now (len .entry)) (now (size .entry)) (now (kind .entry))) (now (names .entry))) (first .0) (length (now (order .entry))) (length (now (place .entry))) (length (now (out .entry))) ⌝ }
-    ensures { λ _. ⌜ now (out .exit) ≡ serialising.outAfter (arena (tree .root) (tree .count) (columns (now (left .entry)) (now (right .entry)) (now (parent .entry)) (now (height .entry)) (now (start .entry)) (now (len .entry)) (now (size .entry)) (now (kind .entry))) (now (names .entry))) (first .0) (length (now (order .entry))) (length (now (place .entry))) (now (out .entry)) ⌝ }
-    ensures { λ _. ⌜ now (order .exit) ≡ serialising.scratchAfter (arena (tree .root) (tree .count) (columns (now (left .entry)) (now (right .entry)) (now (parent .entry)) (now (height .entry)) (now (start .entry)) (now (len .entry)) (now (size .entry)) (now (kind .entry))) (now (names .entry))) (length (now (order .entry))) (length (now (place .entry))) (now (order .entry)) ⌝ }
-    ensures { λ _. ⌜ now (place .exit) ≡ serialising.scratchAfter (arena (tree .root) (tree .count) (columns (now (left .entry)) (now (right .entry)) (now (parent .entry)) (now (height .entry)) (now (start .entry)) (now (len .entry)) (now (size .entry)) (now (kind .entry))) (now (names .entry))) (length (now (order .entry))) (length (now (place .entry))) (now (place .entry)) ⌝ }
+    ensures { λ r.
+        let A = arenaIn (tree .root) (tree .count) left right parent height start len size kind names in
+        let m = serialising.memory order place out in
+        ⌜ serialising.told r ≡ serialising.answerIn A (first .0) (m .entry) ⌝
+        ∗ ⌜ m .exit ≡ serialising.lentAfter A (first .0) (m .entry) ⌝ }
 {
     dirtab::serialise(
         tree,
@@ -213,15 +219,11 @@ pub fn write_list(
     place: &mut [u16],
     out: &mut [u8],
 ) -> ListWritten
-    ensures { λ r. ⌜ whole.told r ≡ whole.wholeOf (whole.listing count (now (start .entry)) (now (len .entry)) (now (size .entry)) (now (kind .entry)) (now (names .entry))) (whole.shortest (now (left .entry)) (now (right .entry)) (now (parent .entry)) (now (height .entry)) (now (key .entry)) (now (order .entry)) (now (place .entry))) (first .0) (length (now (out .entry))) ⌝ }
-    ensures { λ _. ⌜ now (out .exit) ≡ whole.outAfter (whole.listing count (now (start .entry)) (now (len .entry)) (now (size .entry)) (now (kind .entry)) (now (names .entry))) (whole.shortest (now (left .entry)) (now (right .entry)) (now (parent .entry)) (now (height .entry)) (now (key .entry)) (now (order .entry)) (now (place .entry))) (first .0) (now (out .entry)) ⌝ }
-    ensures { λ _. ⌜ now (left .exit) ≡ whole.scratchAfter (whole.listing count (now (start .entry)) (now (len .entry)) (now (size .entry)) (now (kind .entry)) (now (names .entry))) (whole.shortest (now (left .entry)) (now (right .entry)) (now (parent .entry)) (now (height .entry)) (now (key .entry)) (now (order .entry)) (now (place .entry))) (now (left .entry)) ⌝ }
-    ensures { λ _. ⌜ now (right .exit) ≡ whole.scratchAfter (whole.listing count (now (start .entry)) (now (len .entry)) (now (size .entry)) (now (kind .entry)) (now (names .entry))) (whole.shortest (now (left .entry)) (now (right .entry)) (now (parent .entry)) (now (height .entry)) (now (key .entry)) (now (order .entry)) (now (place .entry))) (now (right .entry)) ⌝ }
-    ensures { λ _. ⌜ now (parent .exit) ≡ whole.scratchAfter (whole.listing count (now (start .entry)) (now (len .entry)) (now (size .entry)) (now (kind .entry)) (now (names .entry))) (whole.shortest (now (left .entry)) (now (right .entry)) (now (parent .entry)) (now (height .entry)) (now (key .entry)) (now (order .entry)) (now (place .entry))) (now (parent .entry)) ⌝ }
-    ensures { λ _. ⌜ now (height .exit) ≡ whole.scratchAfter (whole.listing count (now (start .entry)) (now (len .entry)) (now (size .entry)) (now (kind .entry)) (now (names .entry))) (whole.shortest (now (left .entry)) (now (right .entry)) (now (parent .entry)) (now (height .entry)) (now (key .entry)) (now (order .entry)) (now (place .entry))) (now (height .entry)) ⌝ }
-    ensures { λ _. ⌜ now (key .exit) ≡ whole.scratchAfter (whole.listing count (now (start .entry)) (now (len .entry)) (now (size .entry)) (now (kind .entry)) (now (names .entry))) (whole.shortest (now (left .entry)) (now (right .entry)) (now (parent .entry)) (now (height .entry)) (now (key .entry)) (now (order .entry)) (now (place .entry))) (now (key .entry)) ⌝ }
-    ensures { λ _. ⌜ now (order .exit) ≡ whole.scratchAfter (whole.listing count (now (start .entry)) (now (len .entry)) (now (size .entry)) (now (kind .entry)) (now (names .entry))) (whole.shortest (now (left .entry)) (now (right .entry)) (now (parent .entry)) (now (height .entry)) (now (key .entry)) (now (order .entry)) (now (place .entry))) (now (order .entry)) ⌝ }
-    ensures { λ _. ⌜ now (place .exit) ≡ whole.scratchAfter (whole.listing count (now (start .entry)) (now (len .entry)) (now (size .entry)) (now (kind .entry)) (now (names .entry))) (whole.shortest (now (left .entry)) (now (right .entry)) (now (parent .entry)) (now (height .entry)) (now (key .entry)) (now (order .entry)) (now (place .entry))) (now (place .entry)) ⌝ }
+    ensures { λ r.
+        let list = whole.listed count start len size kind names in
+        let m = whole.memory left right parent height key order place out in
+        ⌜ whole.told r ≡ whole.answerIn list (first .0) (m .entry) ⌝
+        ∗ ⌜ m .exit ≡ whole.lentAfter list (first .0) (m .entry) ⌝ }
 {
     dirtab_list::write_list(
         count,
@@ -269,8 +271,11 @@ pub fn plan(
     size: &mut [u32],
     order: &mut [u16],
 ) -> Planned
-    ensures { λ r. ⌜ planning.told r ≡ image.answerOf (image.imageOf (image.asked directories entries (now (first .entry)) (now (share .entry)) (now (start .entry)) (now (len .entry)) (now (kind .entry)) (now (value .entry)) (now (names .entry))) (image.lent (now (sizes .entry)) (now (tables .entry)) (now (sectors .entry)) (now (sized .entry)) (now (left .entry)) (now (right .entry)) (now (parent .entry)) (now (height .entry)) (now (key .entry)) (now (size .entry)) (now (order .entry)))) ⌝ }
-    ensures { λ _. ⌜ image.lent (now (sizes .exit)) (now (tables .exit)) (now (sectors .exit)) (now (sized .exit)) (now (left .exit)) (now (right .exit)) (now (parent .exit)) (now (height .exit)) (now (key .exit)) (now (size .exit)) (now (order .exit)) ≡ image.lentAfter (image.asked directories entries (now (first .entry)) (now (share .entry)) (now (start .entry)) (now (len .entry)) (now (kind .entry)) (now (value .entry)) (now (names .entry))) (image.lent (now (sizes .entry)) (now (tables .entry)) (now (sectors .entry)) (now (sized .entry)) (now (left .entry)) (now (right .entry)) (now (parent .entry)) (now (height .entry)) (now (key .entry)) (now (size .entry)) (now (order .entry))) ⌝ }
+    ensures { λ r.
+        let a = image.asking directories entries first share start len kind value names in
+        let m = image.memory sizes tables sectors sized left right parent height key size order in
+        ⌜ planning.told r ≡ image.answerIn a (m .entry) ⌝
+        ∗ ⌜ m .exit ≡ image.lentAfter a (m .entry) ⌝ }
 {
     img::plan(
         directories,

@@ -5,7 +5,6 @@ use Rattle.capi_cells.specs.Cells.{ofEntry}
 use Rattle.capi_cells.specs.Parts.{tableSize, nextFree}
 use Rattle.capi_cells.proofs.Cells.{given-by, number-by, refusal-by}
 use Prim.Native.Nat.{ℕ}
-use lib.ListN.{length}
 use Rattle.units.specs.declared.Sector.{Sector}
 use borrow.Author.Needs.{needs}
 use Rattle.capi.proofs.xdvdfs_write_list.Statement.{statement}
@@ -48,12 +47,12 @@ returns : tie.Need-returns
 returns c =
     let a = c .before .before .before .before .before .before .before .before .before .before .before .before .before .before .before .before .before .before .before .before .before .before .before .before .before .before .before .before .before .before .before .before .before .before .before .before .before .before .before .before .before .before .before .args in
     let L = whole.listing (a .count) (a .start .now) (a .len .now) (a .size .now) (a .kind .now) (a .names .now) in
-    let m = whole.shortest (a .left .now) (a .right .now) (a .parent .now) (a .height .now) (a .key .now) (a .order .now) (a .place .now) in
+    let m = whole.lent (a .left .now) (a .right .now) (a .parent .now) (a .height .now) (a .key .now) (a .order .now) (a .place .now) (a .out .now) in
     let k = c .before .before .before .before .before .before .before .before .before .before .before .before .before .before .before .before .before .before .before .before .write-list .ensures in
     let f = ap (λ (x : Sector). x .0) (c .before .before .before .before .before .before .before .before .before .before .before .before .before .before .before .before .before .before .before .before .before .before .before .before .before .before .before .before .before .sector-of .ensures) in
-    let e = k .0 ∙ ap (λ (n : ℕ). whole.wholeOf L m n (length (a .out .now))) f in
+    let e = k .0 ∙ ap (λ (n : ℕ). whole.answerIn L n m) f in
     let s = c .store-written .ensures in
-    (number-by e (s .0), (given-by tableSize _ e (s .1 .0), (given-by nextFree _ e (s .1 .1 .0), (refusal-by ofEntry _ e (s .1 .1 .1), (k .1 .0 ∙ ap (λ (n : ℕ). whole.outAfter L m n (a .out .now)) f, k .1 .1)))))
+    (number-by e (s .0), (given-by tableSize _ e (s .1 .0), (given-by nextFree _ e (s .1 .1 .0), (refusal-by ofEntry _ e (s .1 .1 .1), k .1 ∙ ap (λ (n : ℕ). whole.lentAfter L n m) f))))
 
 pub xdvdfs-write-list-spec : {M : Type 1} → statement M
 xdvdfs-write-list-spec =

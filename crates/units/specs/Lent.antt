@@ -1,0 +1,22 @@
+-- How a contract names what its function is lent: `was x` is the value of the parameter x at the call, `is x` its value at the return. Assumes nothing.
+use Prim.Native.Nat.{ℕ}
+use mathlib.Core.List.{List}
+use denote.Ref.{RefT, now}
+use denote.Triple.Both.{Both}
+
+-- a parameter that is a reference: `&` or `&mut`, to a value of A
+abbrev pub Lent : Type 0 → Type 0
+Lent A = Both (RefT A) (RefT A)
+
+-- to a slice (of any numbers), and to one number
+abbrev pub Slice : Type 0
+Slice = Lent (List ℕ)
+
+abbrev pub Cell : Type 0
+Cell = Lent ℕ
+
+abbrev pub was : {A : Type 0} → Lent A → A
+was x = now (x .entry)
+
+abbrev pub is : {A : Type 0} → Lent A → A
+is x = now (x .exit)
