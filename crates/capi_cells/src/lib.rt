@@ -111,8 +111,10 @@ pub fn store_looked(
     ensures { λ n. ⌜ n ≡ numberOf (lookup.told r) ⌝ }
     ensures { λ _. ⌜ is fields ≡ ofGiven foundFields (lookup.told r) (was fields) ⌝ }
     ensures { λ _. ⌜ is place ≡ ofGiven foundPlace (lookup.told r) (was place) ⌝ }
-    ensures { λ _. ⌜ is offset ≡ ofRefusal atOffset (lookup.told r) (ofGiven foundOffset (lookup.told r) (was offset)) ⌝ }
-    ensures { λ _. ⌜ is headers ≡ ofRefusal afterHeaders (lookup.told r) (ofGiven foundHeaders (lookup.told r) (was headers)) ⌝ }
+    ensures { λ _. ⌜ is offset ≡ ofRefusal atOffset (lookup.told r)
+        (ofGiven foundOffset (lookup.told r) (was offset)) ⌝ }
+    ensures { λ _. ⌜ is headers ≡ ofRefusal afterHeaders (lookup.told r)
+        (ofGiven foundHeaders (lookup.told r) (was headers)) ⌝ }
 {
     match r {
         Looked::Found(h, p, o, n) => {

@@ -11,11 +11,11 @@ ghost use Rattle.avl_model.specs.declared.Place.the-variants.{Root, Right};
 ghost use Rattle.avl_model.specs.declared.Spot.{Spot};
 ghost use Rattle.avl_model.specs.declared.Spot.the-variants.{Free};
 ghost use Rattle.avl_model.specs.Tree.{Tree, ins};
-ghost use Rattle.avl_model.specs.Lists.{lists};
+ghost use Rattle.avl_model.specs.Lists.{lists, lentLists};
 ghost use Rattle.avl_model.specs.Names.{names, byName, isLess, Inside};
 ghost use Rattle.avl_model.specs.Seek.{spotIn, treeAt};
 ghost use Rattle.avl_keyed.specs.Key.{KeySought};
-ghost use Rattle.dirtab_grow.specs.Listing.{listing, givenIn};
+ghost use Rattle.dirtab_grow.specs.Listing.{listing, listed, givenIn};
 ghost use Rattle.dirtab_grow.specs.Grow.{ifTaken, grow};
 ghost use Rattle.dirtab_grow.specs.Growing.{goOn, After, Growing, Hangable, Lent, Wide, Roomy, Seated, Stepped, Outcome};
 use avl_insert::name_of;
@@ -67,7 +67,8 @@ pub enum Built {
 // What adding asks of the entry i by itself.
 fn check_at(bytes: &[u8], start: &[u32], len: &[u32], size: &[u32], kind: &[u8], i: u16) -> Step
     requires { ⌜ Lent (listing 0 (now start) (now len) (now size) (now kind) (now bytes)) i ⌝ }
-    ensures { λ r. ⌜ ((x : Told Tree) → goOn r i x ≡ ifTaken i (checkOf (was bytes) (givenIn (listing 0 (was start) (was len) (was size) (was kind) (was bytes)) i)) x) ⌝ }
+    ensures { λ r. let list = listed 0 start len size kind bytes in
+        ⌜ ((x : Told Tree) → goOn r i x ≡ ifTaken i (checkOf (was bytes) (givenIn list i)) x) ⌝ }
 {
     let at = index(i);
     let entry = Entry {
@@ -98,8 +99,9 @@ fn find_seat(
 ) -> Seat
     requires { ⌜ KeySought (now left) (now right) (now key) root (names (now bytes) (now start) (now len)) ⌝ }
     requires { ⌜ Inside (names (now bytes) (now start) (now len)) new × (getD (now len) new 0 ≤ 255) ⌝ }
-    ensures { λ r. ⌜ ((w : KeySought (was left) (was right) (was key) root (names (was bytes) (was start) (was len))) →
-        Seated r (names (was bytes) (was start) (was len)) (spotIn (byName (names (was bytes) (was start) (was len)) new) (w .linked .t) Root) new) ⌝ }
+    ensures { λ r. let n = names (was bytes) (was start) (was len) in
+        ⌜ ((w : KeySought (was left) (was right) (was key) root n) →
+        Seated r n (spotIn (byName n new) (w .linked .t) Root) new) ⌝ }
 {
     let name = name_of(bytes, start, len, new);
     let copy = raise_name(name);
@@ -145,8 +147,9 @@ fn choose_seat(
     requires { ⌜ KeySought (now left) (now right) (now key) root (names (now bytes) (now start) (now len)) ⌝ }
     requires { ⌜ Inside (names (now bytes) (now start) (now len)) new × (getD (now len) new 0 ≤ 255) ⌝ }
     requires { ⌜ After after (names (now bytes) (now start) (now len)) (treeAt 100 (now left) (now right) root) new ⌝ }
-    ensures { λ r. ⌜ ((w : KeySought (was left) (was right) (was key) root (names (was bytes) (was start) (was len))) →
-        Seated r (names (was bytes) (was start) (was len)) (spotIn (byName (names (was bytes) (was start) (was len)) new) (w .linked .t) Root) new) ⌝ }
+    ensures { λ r. let n = names (was bytes) (was start) (was len) in
+        ⌜ ((w : KeySought (was left) (was right) (was key) root n) →
+        Seated r n (spotIn (byName n new) (w .linked .t) Root) new) ⌝ }
 {
     if after {
         return seat_after(bytes, start, len, new);
@@ -168,12 +171,15 @@ pub fn hang_entry(
     new: u16,
     after: bool,
 ) -> Step
-    requires { ⌜ Hangable (lists (now root) (now left) (now right) (now parent) (now height)) (now key) (names (now bytes) (now start) (now len)) new ⌝ }
+    requires { ⌜ Hangable (lists (now root) (now left) (now right) (now parent) (now height)) (now key)
+        (names (now bytes) (now start) (now len)) new ⌝ }
     requires { ⌜ After after (names (now bytes) (now start) (now len)) (treeAt 100 (now left) (now right) (now root)) new ⌝ }
-    ensures { λ r. ⌜ ((w : Growing (lists (was root) (was left) (was right) (was parent) (was height)) (was key) (names (was bytes) (was start) (was len)) new) →
-        Stepped r (gives tt) (spotIn (byName (names (was bytes) (was start) (was len)) new) (w .t) Root) new
-        (lists (is root) (is left) (is right) (is parent) (is height)) (is key) (names (was bytes) (was start) (was len))
-        (ins (λ i. isLess (byName (names (was bytes) (was start) (was len)) new i)) new (w .t))) ⌝ }
+    ensures { λ r.
+        let s = lentLists root left right parent height in
+        let n = names (was bytes) (was start) (was len) in
+        ⌜ ((w : Growing (s .entry) (was key) n new) →
+        Stepped r (gives tt) (spotIn (byName n new) (w .t) Root) new
+        (s .exit) (is key) n (ins (λ i. isLess (byName n new i)) new (w .t))) ⌝ }
 {
     match choose_seat(left, right, key, bytes, start, len, *root, new, after) {
         Seat::Refused(cause) => Step::Refused(cause),
@@ -204,12 +210,15 @@ fn add_entry(
 ) -> Step
     requires { ⌜ Lent (listing 0 (now start) (now len) (now size) (now kind) (now bytes)) i ⌝ }
     requires { ⌜ Wide (lists (now root) (now left) (now right) (now parent) (now height)) (now key) i ⌝ }
-    requires { ⌜ ((w : Growing (lists (now root) (now left) (now right) (now parent) (now height)) (now key) (names (now bytes) (now start) (now len)) i) × After after (names (now bytes) (now start) (now len)) (w .t) i) ⌝ }
-    ensures { λ r. ⌜ ((w : Growing (lists (was root) (was left) (was right) (was parent) (was height)) (was key) (names (was bytes) (was start) (was len)) i) →
-        Stepped r (checkOf (was bytes) (givenIn (listing 0 (was start) (was len) (was size) (was kind) (was bytes)) i))
-        (spotIn (byName (names (was bytes) (was start) (was len)) i) (w .t) Root) i
-        (lists (is root) (is left) (is right) (is parent) (is height)) (is key) (names (was bytes) (was start) (was len))
-        (ins (λ j. isLess (byName (names (was bytes) (was start) (was len)) i j)) i (w .t))) ⌝ }
+    requires { let s = lists (now root) (now left) (now right) (now parent) (now height) in
+        let n = names (now bytes) (now start) (now len) in
+        ⌜ ((w : Growing s (now key) n i) × After after n (w .t) i) ⌝ }
+    ensures { λ r.
+        let s = lentLists root left right parent height in
+        let n = names (was bytes) (was start) (was len) in
+        ⌜ ((w : Growing (s .entry) (was key) n i) →
+        Stepped r (checkOf (was bytes) (givenIn (listed 0 start len size kind bytes) i)) (spotIn (byName n i) (w .t) Root) i
+        (s .exit) (is key) n (ins (λ j. isLess (byName n i j)) i (w .t))) ⌝ }
 {
     match check_at(bytes, start, len, size, kind, i) {
         Step::Refused(cause) => Step::Refused(cause),
@@ -303,9 +312,12 @@ pub fn build(
     height: &mut [u8],
     key: &mut [u32],
 ) -> Built
-    requires { ⌜ Roomy (listing count (now start) (now len) (now size) (now kind) (now bytes)) (lists (now root) (now left) (now right) (now parent) (now height)) (now key) count ⌝ }
-    ensures { λ r. ⌜ Outcome r (grow (was bytes) (givenIn (listing count (was start) (was len) (was size) (was kind) (was bytes))) count)
-        (lists (is root) (is left) (is right) (is parent) (is height)) (names (was bytes) (was start) (was len)) count ⌝ }
+    requires { ⌜ Roomy (listing count (now start) (now len) (now size) (now kind) (now bytes))
+        (lists (now root) (now left) (now right) (now parent) (now height)) (now key) count ⌝ }
+    ensures { λ r.
+        let s = lentLists root left right parent height in
+        ⌜ Outcome r (grow (was bytes) (givenIn (listed count start len size kind bytes)) count)
+        (s .exit) (names (was bytes) (was start) (was len)) count ⌝ }
 {
     *root = 65535;
     let mut up = false;

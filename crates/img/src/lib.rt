@@ -100,9 +100,11 @@ fn hand_out(
         × (end ≡ total (now share)) ⌝ }
     requires { ⌜ (length (now sizes) ≡ length (now first))
         × ((length (now tables) ≡ length (now first)) × (length (now sectors) ≡ length (now kind))) ⌝ }
-    ensures { λ r. ⌜ ((w : Sized (was first) (was share) (was kind) (was value) (was sized) (was order) (length (was size))) →
+    ensures { λ r. ⌜ ((w : Sized (was first) (was share) (was kind) (was value) (was sized) (was order)
+        (length (was size))) →
         HandedOut r (was sized)
-        (takingUp (requestOf w) (was sized) (length (was first)) 0 (rooted (requestOf w) (was sized) (was tables) (was sectors)))
+        (takingUp (requestOf w) (was sized) (length (was first)) 0
+        (rooted (requestOf w) (was sized) (was tables) (was sectors)))
         (was sizes) (is sizes) (was tables) (is tables) (was sectors) (is sectors)) ⌝ }
 {
     match check_tables(first, share, kind, value, sized, order, size, end) {
@@ -148,12 +150,11 @@ fn plan_tree(
     tables: &mut [u32],
     sectors: &mut [u32],
 ) -> Planned
-    requires {
-        let R = columns (now first) (now share) (now start) (now len) (now kind) (now value) (now names) in
+    requires { let R = columns (now first) (now share) (now start) (now len) (now kind) (now value) (now names) in
         ⌜ isTree R ≡ true ⌝
         ∗ ⌜ Exact R (length (now sized)) (length (now sizes)) (length (now tables)) (length (now sectors)) ⌝
         ∗ ⌜ Wide R (length (now left)) (length (now right)) (length (now parent))
-            (length (now height)) (length (now key)) (length (now size)) ⌝ }
+        (length (now height)) (length (now key)) (length (now size)) ⌝ }
     ensures { λ r. let R = columnsIn first share start len kind value names in
         ⌜ PlannedBy r (planOf R (length (was order)) (was tables) (was sectors))
         (was sizes) (is sizes) (was tables) (is tables) (was sectors) (is sectors) ⌝ }
@@ -218,11 +219,10 @@ fn plan_counted(
     tables: &mut [u32],
     sectors: &mut [u32],
 ) -> Planned
-    requires {
-        let R = columns (now first) (now share) (now start) (now len) (now kind) (now value) (now names) in
+    requires { let R = columns (now first) (now share) (now start) (now len) (now kind) (now value) (now names) in
         ⌜ Exact R (length (now sized)) (length (now sizes)) (length (now tables)) (length (now sectors)) ⌝
         ∗ ⌜ Wide R (length (now left)) (length (now right)) (length (now parent))
-            (length (now height)) (length (now key)) (length (now size)) ⌝ }
+        (length (now height)) (length (now key)) (length (now size)) ⌝ }
     ensures { λ r. let R = columnsIn first share start len kind value names in
         ⌜ PlannedBy r (planOf R (length (was order)) (was tables) (was sectors))
         (was sizes) (is sizes) (was tables) (is tables) (was sectors) (is sectors) ⌝ }
@@ -275,10 +275,10 @@ fn plan_cut(
     size: &mut [u32],
     order: &mut [u16],
 ) -> Planned
-    requires {
-        let a = asked directories entries (now first) (now share) (now start) (now len) (now kind) (now value) (now names) in
+    requires { let a = asked directories entries (now first) (now share) (now start) (now len) (now kind) (now value)
+        (now names) in
         let m = lent (now sizes) (now tables) (now sectors) (now sized) (now left) (now right)
-            (now parent) (now height) (now key) (now size) (now order) in
+        (now parent) (now height) (now key) (now size) (now order) in
         ⌜ Cut a m ⌝ }
     ensures { λ r.
         let a = asking directories entries first share start len kind value names in

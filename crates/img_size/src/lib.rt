@@ -6,7 +6,7 @@ ghost use mathlib.Core.Path.{_≡_};
 ghost use Prim.Native.Nat.{_+_, _≤_, _<_};
 ghost use lib.ListN.{length, take};
 ghost use Rattle.units.specs.Lent.{was, is};
-ghost use Rattle.img_model.specs.Shares.{columns, directoriesOf, countOf, shareOf, part};
+ghost use Rattle.img_model.specs.Shares.{columns, columnsIn, directoriesOf, countOf, shareOf, part};
 ghost use Rattle.img_model.specs.Plan.{tableIn, sizesDown};
 ghost use Rattle.img_table.specs.declared.Arranged.the-variants.{Done};
 ghost use Rattle.img_table.specs.Arranging.{Sizing};
@@ -32,11 +32,14 @@ fn size_directory(
     size: &mut [u32],
     order: &mut [u16],
 ) -> TableSized
-    requires { ⌜ Sizeable (columns (now first) (now share) (now start) (now len) (now kind) (now value) (now names)) ⌝ }
-    requires { ⌜ Roomy (columns (now first) (now share) (now start) (now len) (now kind) (now value) (now names)) (length (now sized)) (length (now left)) (length (now right)) (length (now parent)) (length (now height)) (length (now key)) (length (now size)) (length (now order)) ⌝ }
-    requires { ⌜ d < directoriesOf (columns (now first) (now share) (now start) (now len) (now kind) (now value) (now names)) ⌝ }
-    requires { ⌜ at + countOf (columns (now first) (now share) (now start) (now len) (now kind) (now value) (now names)) d ≤ length (now order) ⌝ }
-    ensures table { λ r. ⌜ Sizing r (shareOf (columns (was first) (was share) (was start) (was len) (was kind) (was value) (was names)) d) (tableIn (was sized)) (part at (countOf (columns (was first) (was share) (was start) (was len) (was kind) (was value) (was names)) d) (is order)) ⌝ }
+    requires { let R = columns (now first) (now share) (now start) (now len) (now kind) (now value) (now names) in
+        ⌜ Sizeable R ⌝
+        ∗ ⌜ Roomy R (length (now sized)) (length (now left)) (length (now right)) (length (now parent))
+        (length (now height)) (length (now key)) (length (now size)) (length (now order)) ⌝
+        ∗ ⌜ d < directoriesOf R ⌝
+        ∗ ⌜ at + countOf R d ≤ length (now order) ⌝ }
+    ensures table { λ r. let R = columnsIn first share start len kind value names in
+        ⌜ Sizing r (shareOf R d) (tableIn (was sized)) (part at (countOf R d) (is order)) ⌝ }
     ensures earlier { λ r. ⌜ take at (is order) ≡ take at (was order) ⌝ }
 {
     let f = first[d] as usize;
@@ -86,10 +89,14 @@ pub fn size_tables(
     size: &mut [u32],
     order: &mut [u16],
 ) -> Arranged
-    requires { ⌜ Sizeable (columns (now first) (now share) (now start) (now len) (now kind) (now value) (now names)) ⌝ }
-    requires { ⌜ Roomy (columns (now first) (now share) (now start) (now len) (now kind) (now value) (now names)) (length (now sized)) (length (now left)) (length (now right)) (length (now parent)) (length (now height)) (length (now key)) (length (now size)) (length (now order)) ⌝ }
-    ensures answer { λ r. ⌜ toldSizes r (is sized) ≡ sizesDown (columns (was first) (was share) (was start) (was len) (was kind) (was value) (was names)) (length (was first)) (was sized) ⌝ }
-    ensures tables { λ r. ⌜ (r ≡ Done → TablesIn (columns (was first) (was share) (was start) (was len) (was kind) (was value) (was names)) (is sized) (is order)) ⌝ }
+    requires { let R = columns (now first) (now share) (now start) (now len) (now kind) (now value) (now names) in
+        ⌜ Sizeable R ⌝
+        ∗ ⌜ Roomy R (length (now sized)) (length (now left)) (length (now right)) (length (now parent))
+        (length (now height)) (length (now key)) (length (now size)) (length (now order)) ⌝ }
+    ensures { λ r.
+        let R = columnsIn first share start len kind value names in
+        ⌜ toldSizes r (is sized) ≡ sizesDown R (length (was first)) (was sized) ⌝
+        ∗ ⌜ (r ≡ Done → TablesIn R (is sized) (is order)) ⌝ }
 {
     let mut at: usize = 0;
     let mut d = first.len();

@@ -60,8 +60,10 @@ fn size_for(kind: u8, value: u64, sized: &[u32]) -> u64
 // The sizes of a directory's entries into the first places of a column, up to the first that four bytes do not hold: its number, or how many there are.
 pub fn fill_sizes(kind: &[u8], value: &[u64], sized: &[u32], size: &mut [u32]) -> u32
     requires { ⌜ Fillable (shareBy [] [] (now kind) (now value) []) (length (now sized)) (length (now size)) ⌝ }
-    ensures answer { λ r. ⌜ r ≡ fitting (sizeAt (shareBy [] [] (was kind) (was value) []) (tableIn (was sized))) (length (was kind)) 0 ⌝ }
-    ensures sizes { λ r. ⌜ ((i : ℕ) → i < r → getD (is size) i 0 ≡ sizeAt (shareBy [] [] (was kind) (was value) []) (tableIn (was sized)) i) ⌝ }
+    ensures answer { λ r. ⌜ r ≡ fitting (sizeAt (shareBy [] [] (was kind) (was value) []) (tableIn (was sized)))
+        (length (was kind)) 0 ⌝ }
+    ensures sizes { λ r. ⌜ ((i : ℕ) → i < r →
+        getD (is size) i 0 ≡ sizeAt (shareBy [] [] (was kind) (was value) []) (tableIn (was sized)) i) ⌝ }
 {
     let mut i = 0;
     while i < kind.len() {
@@ -91,8 +93,11 @@ fn arrange(
     size: &mut [u32],
     order: &mut [u16],
 ) -> Arranged
-    requires { ⌜ Arrangeable (shareBy (now start) (now len) (now kind) (now value) (now names)) (length (now sized)) (length (now left)) (length (now right)) (length (now parent)) (length (now height)) (length (now key)) (length (now size)) (length (now order)) ⌝ }
-    ensures { λ r. ⌜ Arrangement r (treeIn (shareBy (was start) (was len) (was kind) (was value) (was names)) (tableIn (was sized))) (is order) ⌝ }
+    requires { ⌜ Arrangeable (shareBy (now start) (now len) (now kind) (now value) (now names)) (length (now sized))
+        (length (now left)) (length (now right)) (length (now parent)) (length (now height)) (length (now key))
+        (length (now size)) (length (now order)) ⌝ }
+    ensures { λ r. ⌜ Arrangement r (treeIn (shareBy (was start) (was len) (was kind) (was value) (was names))
+        (tableIn (was sized))) (is order) ⌝ }
 {
     let count = fill_sizes(kind, value, sized, size);
     let mut root: u16 = 65535;
@@ -183,8 +188,11 @@ pub fn size_table(
     size: &mut [u32],
     order: &mut [u16],
 ) -> TableSized
-    requires { ⌜ Arrangeable (shareBy (now start) (now len) (now kind) (now value) (now names)) (length (now sized)) (length (now left)) (length (now right)) (length (now parent)) (length (now height)) (length (now key)) (length (now size)) (length (now order)) ⌝ }
-    ensures { λ r. ⌜ Sizing r (shareBy (was start) (was len) (was kind) (was value) (was names)) (tableIn (was sized)) (is order) ⌝ }
+    requires { ⌜ Arrangeable (shareBy (now start) (now len) (now kind) (now value) (now names)) (length (now sized))
+        (length (now left)) (length (now right)) (length (now parent)) (length (now height)) (length (now key))
+        (length (now size)) (length (now order)) ⌝ }
+    ensures { λ r. ⌜ Sizing r (shareBy (was start) (was len) (was kind) (was value) (was names)) (tableIn (was sized))
+        (is order) ⌝ }
 {
     match arrange(
         names,

@@ -87,7 +87,8 @@ fn count_table(
     free: Sector,
 ) -> Counted
     requires { ⌜ Treed (now order) (now kind) (now value) (now sized) (length (now size)) ⌝ }
-    ensures { λ r. ⌜ ((w : Treed (was order) (was kind) (was value) (was sized) (length (was size))) → toldFree r ≡ limited (freeOf (entriesOf w) 1 (free .0) (w .t))) ⌝ }
+    ensures { λ r. ⌜ ((w : Treed (was order) (was kind) (was value) (was sized) (length (was size))) →
+        toldFree r ≡ limited (freeOf (entriesOf w) 1 (free .0) (w .t))) ⌝ }
 {
     fill_sizes(kind, value, sized, size);
     count_sectors(order, size, kind, free)
@@ -107,8 +108,11 @@ fn check_table(
     size: &mut [u32],
     free: Sector,
 ) -> Fitting
-    requires { ⌜ Turn (now first) (now share) (now kind) (now value) (now sized) (now order) (length (now size)) d to ⌝ }
-    ensures { λ r. ⌜ ((w : Sized (was first) (was share) (was kind) (was value) (was sized) (was order) (length (was size))) → toldFitting r ≡ freeTold (takingUp (requestOf w) (was sized) 1 d (taking [] [] (free .0)))) ⌝ }
+    requires { ⌜ Turn (now first) (now share) (now kind) (now value) (now sized) (now order) (length (now size)) d
+        to ⌝ }
+    ensures { λ r. ⌜ ((w : Sized (was first) (was share) (was kind) (was value) (was sized) (was order)
+        (length (was size))) → toldFitting r
+        ≡ freeTold (takingUp (requestOf w) (was sized) 1 d (taking [] [] (free .0)))) ⌝ }
 {
     if 262144 < sized[d] {
         return Fitting::TooManyDirectoryEntries(d as u32);
@@ -139,9 +143,12 @@ pub fn check_tables(
     size: &mut [u32],
     end: usize,
 ) -> Fitting
-    requires { ⌜ Sized (now first) (now share) (now kind) (now value) (now sized) (now order) (length (now size)) × (end ≡ total (now share)) ⌝ }
-    ensures { λ r. ⌜ ((w : Sized (was first) (was share) (was kind) (was value) (was sized) (was order) (length (was size))) (tables sectors : List ℕ) →
-        toldFitting r ≡ freeTold (takingUp (requestOf w) (was sized) (length (was first)) 0 (rooted (requestOf w) (was sized) tables sectors))) ⌝ }
+    requires { ⌜ Sized (now first) (now share) (now kind) (now value) (now sized) (now order) (length (now size))
+        × (end ≡ total (now share)) ⌝ }
+    ensures { λ r. ⌜ ((w : Sized (was first) (was share) (was kind) (was value) (was sized) (was order)
+        (length (was size))) (tables sectors : List ℕ) →
+        toldFitting r ≡ freeTold (takingUp (requestOf w) (was sized) (length (was first)) 0
+        (rooted (requestOf w) (was sized) tables sectors))) ⌝ }
 {
     let mut free = free_after_root(sized[0]);
     let mut to = end;
@@ -182,8 +189,10 @@ fn take_entry(
     sectors: &mut [u32],
 ) -> u32
     requires { ⌜ Enters (now kind) (now value) (now size) f i (length (now tables)) (length (now sectors)) ⌝ }
-    requires { ⌜ takeOne (now kind) (now value) (now size) f (taking (now tables) (now sectors) free) i .free ≤ 4294967295 ⌝ }
-    ensures { λ r. ⌜ taking (is tables) (is sectors) r ≡ takeOne (was kind) (was value) (was size) f (taking (was tables) (was sectors) free) i ⌝ }
+    requires { ⌜ takeOne (now kind) (now value) (now size) f (taking (now tables) (now sectors) free) i .free ≤
+        4294967295 ⌝ }
+    ensures { λ r. ⌜ taking (is tables) (is sectors) r
+        ≡ takeOne (was kind) (was value) (was size) f (taking (was tables) (was sectors) free) i ⌝ }
 {
     sectors[f + i] = free;
     name_table(kind[i], value[i], free, tables);
@@ -201,9 +210,12 @@ fn take_entries(
     tables: &mut [u32],
     sectors: &mut [u32],
 ) -> u32
-    requires { ⌜ EntersAll (now order) (now kind) (now value) (now size) f (length (now tables)) (length (now sectors)) ⌝ }
-    requires { ⌜ takeAlong (now kind) (now value) (now size) f (taking (now tables) (now sectors) free) (now order) .free ≤ 4294967295 ⌝ }
-    ensures { λ r. ⌜ taking (is tables) (is sectors) r ≡ takeAlong (was kind) (was value) (was size) f (taking (was tables) (was sectors) free) (was order) ⌝ }
+    requires { ⌜ EntersAll (now order) (now kind) (now value) (now size) f (length (now tables))
+        (length (now sectors)) ⌝ }
+    requires { ⌜ takeAlong (now kind) (now value) (now size) f (taking (now tables) (now sectors) free) (now order)
+        .free ≤ 4294967295 ⌝ }
+    ensures { λ r. ⌜ taking (is tables) (is sectors) r
+        ≡ takeAlong (was kind) (was value) (was size) f (taking (was tables) (was sectors) free) (was order) ⌝ }
 {
     let mut next = free;
     let mut k: usize = 0;
@@ -238,10 +250,15 @@ fn take_table(
     tables: &mut [u32],
     sectors: &mut [u32],
 ) -> u32
-    requires { ⌜ Turn (now first) (now share) (now kind) (now value) (now sized) (now order) (length (now size)) d to × ((length (now tables) ≡ length (now first)) × (length (now sectors) ≡ length (now kind))) ⌝ }
-    requires { ⌜ ((w : Sized (now first) (now share) (now kind) (now value) (now sized) (now order) (length (now size))) × ((p : Taking) × (takingUp (requestOf w) (now sized) 1 d (taking (now tables) (now sectors) free) ≡ gives p))) ⌝ }
-    ensures { λ r. ⌜ ((w : Sized (was first) (was share) (was kind) (was value) (was sized) (was order) (length (was size))) (p : Taking) →
-        takingUp (requestOf w) (was sized) 1 d (taking (was tables) (was sectors) free) ≡ gives p → taking (is tables) (is sectors) r ≡ p) ⌝ }
+    requires { ⌜ Turn (now first) (now share) (now kind) (now value) (now sized) (now order) (length (now size)) d to
+        × ((length (now tables) ≡ length (now first)) × (length (now sectors) ≡ length (now kind))) ⌝ }
+    requires { ⌜ ((w : Sized (now first) (now share) (now kind) (now value) (now sized) (now order)
+        (length (now size))) × ((p : Taking)
+        × (takingUp (requestOf w) (now sized) 1 d (taking (now tables) (now sectors) free) ≡ gives p))) ⌝ }
+    ensures { λ r. ⌜ ((w : Sized (was first) (was share) (was kind) (was value) (was sized) (was order)
+        (length (was size))) (p : Taking) →
+        takingUp (requestOf w) (was sized) 1 d (taking (was tables) (was sectors) free) ≡ gives p →
+        taking (is tables) (is sectors) r ≡ p) ⌝ }
 {
     let f = widen(first[d]);
     let n = widen(share[d]);
@@ -271,10 +288,16 @@ pub fn take_tables(
     tables: &mut [u32],
     sectors: &mut [u32],
 )
-    requires { ⌜ ((w : Sized (now first) (now share) (now kind) (now value) (now sized) (now order) (length (now size))) × ((p : Taking) × (takingUp (requestOf w) (now sized) (length (now first)) 0 (rooted (requestOf w) (now sized) (now tables) (now sectors)) ≡ gives p))) ⌝ }
-    requires { ⌜ (end ≡ total (now share)) × ((length (now tables) ≡ length (now first)) × (length (now sectors) ≡ length (now kind))) ⌝ }
-    ensures { λ _. ⌜ ((w : Sized (was first) (was share) (was kind) (was value) (was sized) (was order) (length (was size))) (p : Taking) →
-        takingUp (requestOf w) (was sized) (length (was first)) 0 (rooted (requestOf w) (was sized) (was tables) (was sectors)) ≡ gives p →
+    requires { ⌜ ((w : Sized (now first) (now share) (now kind) (now value) (now sized) (now order)
+        (length (now size))) × ((p : Taking)
+        × (takingUp (requestOf w) (now sized) (length (now first)) 0
+        (rooted (requestOf w) (now sized) (now tables) (now sectors)) ≡ gives p))) ⌝ }
+    requires { ⌜ (end ≡ total (now share))
+        × ((length (now tables) ≡ length (now first)) × (length (now sectors) ≡ length (now kind))) ⌝ }
+    ensures { λ _. ⌜ ((w : Sized (was first) (was share) (was kind) (was value) (was sized) (was order)
+        (length (was size))) (p : Taking) →
+        takingUp (requestOf w) (was sized) (length (was first)) 0
+        (rooted (requestOf w) (was sized) (was tables) (was sectors)) ≡ gives p →
         (is tables ≡ p .tables) × (is sectors ≡ p .sectors)) ⌝ }
 {
     tables[0] = SectorCounter::FIRST;

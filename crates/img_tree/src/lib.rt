@@ -39,7 +39,8 @@ fn mark_entry(d: usize, kind: u8, value: u64, named: &mut [u32]) -> bool
 // Marks the directories that the entries of directory d name.
 fn mark_share(d: usize, kind: &[u8], value: &[u64], named: &mut [u32]) -> bool
     requires { ⌜ (length (now value) ≡ length (now kind)) × Marks (now named) ⌝ }
-    ensures { λ r. ⌜ (r ≡ isMarkable (was named) d (entries (length (was kind)) (was kind) (was value))) × (r ≡ true → Marked (was named) (entries (length (was kind)) (was kind) (was value)) (is named)) ⌝ }
+    ensures { λ r. ⌜ (r ≡ isMarkable (was named) d (entries (length (was kind)) (was kind) (was value)))
+        × (r ≡ true → Marked (was named) (entries (length (was kind)) (was kind) (was value)) (is named)) ⌝ }
 {
     let mut i = 0;
     while i < kind.len() {
@@ -54,7 +55,8 @@ fn mark_share(d: usize, kind: &[u8], value: &[u64], named: &mut [u32]) -> bool
 // The same for n entries from the place f on: false where they reach past the list.
 fn mark_directory(d: usize, f: u32, n: u32, kind: &[u8], value: &[u64], named: &mut [u32]) -> bool
     requires { ⌜ (length (now value) ≡ length (now kind)) × Marks (now named) ⌝ }
-    ensures { λ r. ⌜ (r ≡ isPartMarkable (was named) d f n (was kind) (was value)) × (r ≡ true → Marked (was named) (entries n (part f n (was kind)) (part f n (was value))) (is named)) ⌝ }
+    ensures { λ r. ⌜ (r ≡ isPartMarkable (was named) d f n (was kind) (was value))
+        × (r ≡ true → Marked (was named) (entries n (part f n (was kind)) (part f n (was value))) (is named)) ⌝ }
 {
     let from = f as usize;
     let to = from + (n as usize);

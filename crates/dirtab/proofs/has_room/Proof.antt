@@ -3,12 +3,6 @@ use Rattle.dirtab.proofs.Ways.{short-first, by-second}
 use borrow.Author.Needs.{needs}
 use Rattle.dirtab.proofs.has_room.Statement.{statement}
 use Rattle.dirtab.proofs.has_room.Tie as tie
-use Rattle.dirtab.proofs.has_room.Reads as reads
-use Rattle.dirtab.proofs.has_room.Lts as lts
-use Rattle.dirtab.proofs.widen.Reads as widen-reads
-
-widen-requires : tie.Need-widen-requires
-widen-requires c κs = search needs
 
 returns : tie.Need-returns
 returns c = search short-first
@@ -17,4 +11,4 @@ returns-2 : tie.Need-returns-2
 returns-2 c = search by-second
 
 pub has-room-spec : {M : Type 1} → statement M
-has-room-spec = tie.close (tie.spec widen-requires returns returns-2)
+has-room-spec = tie.close (tie.spec (λ c κs. search needs) returns returns-2)

@@ -9,19 +9,6 @@ use Rattle.dirtab.proofs.Ways.{join, short-answer, short-out, short-scr
 use borrow.Author.Needs.{needs}
 use Rattle.dirtab.proofs.serialise.Statement.{statement}
 use Rattle.dirtab.proofs.serialise.Tie as tie
-use Rattle.dirtab.proofs.serialise.Reads as reads
-use Rattle.dirtab.proofs.serialise.Lts as lts
-use Rattle.dirtab.proofs.clear_both.Reads as clear-both-reads
-use Rattle.dirtab.proofs.has_room.Reads as has-room-reads
-use Rattle.dirtab.proofs.refuse_short.Reads as refuse-short-reads
-use Rattle.dirtab.proofs.write_held.Reads as write-held-reads
-use Rattle.dirtab_arena.proofs.is_arena.Reads as is-arena-reads
-
-is-arena-requires : tie.Need-is-arena-requires
-is-arena-requires c κs = search needs
-
-has-room-requires : tie.Need-has-room-requires
-has-room-requires c κs = search needs
 
 write-held-requires : tie.Need-write-held-requires
 write-held-requires c κs =
@@ -36,18 +23,6 @@ write-held-requires c κs =
     let held = rooted A (sym (is .ensures) ∙ yes) small (λ j. omega (arith, c .before .before .before .before .before .before .before .before .before .before .before .before .shared-slice-known7 .given j)) in
     let b = both-fit (a .tree .count) (length (a .order .now)) (length (a .place .now)) (fit .result) (fit .ensures) (c .before .before .before .before .if1 .taken) in
     ((treeOf A, held), b .0, b .1)
-
-clear-both-requires : tie.Need-clear-both-requires
-clear-both-requires c κs = search needs
-
-same-length : tie.Need-same-length
-same-length c = search needs
-
-same-length-2 : tie.Need-same-length-2
-same-length-2 c = search needs
-
-same-length-3 : tie.Need-same-length-3
-same-length-3 c = search needs
 
 returns : tie.Need-returns
 returns c =
@@ -69,20 +44,13 @@ returns c =
     let small : a .tree .count ≤ 65535 = omega arith in
     let held = rooted A (sym (is .ensures) ∙ yes) small (λ j. omega (arith, c .before .before .before .before .before .before .before .before .before .before .before .before .before .before .before .before .before .before .before .before .before .before .before .before .before .before .shared-slice-known7 .given j)) in
     let w = c .before .before .before .before .before .before .before .before .before .before .before .before .before .write-held in
-    let k = c .before .before .before .before .clear-both in
-    (held-answer A s n m y f ye fe room yes (w .result) (length (a .out .now)) (w .ensures .0 (treeOf A) held), join
-    (cleared A s n m y f ye fe room (a .order .now) _ (length (w .last .1 .1 .1 .1 .1 .1 .1 .1 .1 .0)) (w .kept .1 .1 .1 .1 .1 .1 .1 .1 .1 .0) (k .ensures .0))
-    (cleared A s n m y f ye fe room (a .place .now) _ (length (w .last .1 .1 .1 .1 .1 .1 .1 .1 .1 .1 .0)) (w .kept .1 .1 .1 .1 .1 .1 .1 .1 .1 .1 .0) (k .ensures .1))
-    (held-out A s n m y f ye fe room yes (a .out .now) _ (w .ensures .1 (treeOf A) held)))
-
-clear-both-requires-2 : tie.Need-clear-both-requires-2
-clear-both-requires-2 c κs = search needs
-
-same-length-4 : tie.Need-same-length-4
-same-length-4 c = search needs
-
-same-length-5 : tie.Need-same-length-5
-same-length-5 c = search needs
+    let k = c .before .before .before .before .clear-both in (
+      held-answer A s n m y f ye fe room yes (w .result) (length (a .out .now)) (w .ensures .0 (treeOf A) held),
+      join
+          (cleared A s n m y f ye fe room (a .order .now) _ (length (w .last .1 .1 .1 .1 .1 .1 .1 .1 .1 .0)) (w .kept .1 .1 .1 .1 .1 .1 .1 .1 .1 .0) (k .ensures .0))
+          (cleared A s n m y f ye fe room (a .place .now) _ (length (w .last .1 .1 .1 .1 .1 .1 .1 .1 .1 .1 .0)) (w .kept .1 .1 .1 .1 .1 .1 .1 .1 .1 .1 .0) (k .ensures .1))
+          (held-out A s n m y f ye fe room yes (a .out .now) _ (w .ensures .1 (treeOf A) held)),
+    )
 
 returns-2 : tie.Need-returns-2
 returns-2 c =
@@ -100,14 +68,13 @@ returns-2 c =
     let fe = fit .ensures in
     let no = c .before .before .before .before .before .before .before .if2 .left in
     let room = c .before .before .before .before .before .before .before .before .if1 .taken in
-    let k = c .before .before .before .before .clear-both2 in
-    (bad-answer A s n m y f ye fe room no (length (a .out .now)), join
-    (cleared A s n m y f ye fe room (a .order .now) _ (length (a .order .now)) refl (k .ensures .0))
-    (cleared A s n m y f ye fe room (a .place .now) _ (length (a .place .now)) refl (k .ensures .1))
-    (bad-out A s n m y f ye fe room no (a .out .now)))
-
-refuse-short-requires : tie.Need-refuse-short-requires
-refuse-short-requires c κs = search needs
+    let k = c .before .before .before .before .clear-both2 in (
+      bad-answer A s n m y f ye fe room no (length (a .out .now)),
+      join
+          (cleared A s n m y f ye fe room (a .order .now) _ (length (a .order .now)) refl (k .ensures .0))
+          (cleared A s n m y f ye fe room (a .place .now) _ (length (a .place .now)) refl (k .ensures .1))
+          (bad-out A s n m y f ye fe room no (a .out .now)),
+    )
 
 returns-3 : tie.Need-returns-3
 returns-3 c =
@@ -123,27 +90,15 @@ returns-3 c =
     let f = fit .result in
     let ye = is .ensures in
     let fe = fit .ensures in
-    let short = c .before .if1 .left in
-    (short-answer A s n m y f ye fe short (c .refuse-short .result) (length (a .out .now)) (c .refuse-short .ensures), join
-    (short-scratch A s n m y f ye fe short (a .order .now))
-    (short-scratch A s n m y f ye fe short (a .place .now))
-    (short-out A s n m y f ye fe short (a .out .now)))
+    let short = c .before .if1 .left in (
+      short-answer A s n m y f ye fe short (c .refuse-short .result) (length (a .out .now)) (c .refuse-short .ensures),
+      join
+          (short-scratch A s n m y f ye fe short (a .order .now))
+          (short-scratch A s n m y f ye fe short (a .place .now))
+          (short-out A s n m y f ye fe short (a .out .now)),
+    )
 
 pub serialise-spec : {M : Type 1} → statement M
-serialise-spec =
-    tie.close
-    (tie.spec
-    is-arena-requires
-    has-room-requires
-    write-held-requires
-    clear-both-requires
-    same-length
-    same-length-2
-    same-length-3
-    returns
-    clear-both-requires-2
-    same-length-4
-    same-length-5
-    returns-2
-    refuse-short-requires
-    returns-3)
+serialise-spec = tie.close (tie.spec (λ c κs. search needs) (λ c κs. search needs) write-held-requires
+    (λ c κs. search needs) (λ c. search needs) (λ c. search needs) (λ c. search needs) returns (λ c κs. search needs)
+    (λ c. search needs) (λ c. search needs) returns-2 (λ c κs. search needs) returns-3)

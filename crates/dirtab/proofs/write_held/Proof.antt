@@ -6,14 +6,6 @@ use lib.ListN.{length}
 use borrow.Author.Needs.{needs}
 use Rattle.dirtab.proofs.write_held.Statement.{statement}
 use Rattle.dirtab.proofs.write_held.Tie as tie
-use Rattle.dirtab.proofs.write_held.Reads as reads
-use Rattle.dirtab.proofs.write_held.Lts as lts
-use Rattle.avl_order.proofs.preorder.Reads as preorder-reads
-use Rattle.dirtab.proofs.widen.Reads as widen-reads
-use Rattle.dirtab.proofs.write_listed.Reads as write-listed-reads
-
-widen-requires : tie.Need-widen-requires
-widen-requires c κs = search needs
 
 slice-aggregate-preorder : tie.Need-slice-aggregate-preorder
 slice-aggregate-preorder c = let z = c .before .before .before .before .before .before .before .before .before .before .before .before in let a = z .args in let w = c .before .widen in left-long (a .left .now) (a .right .now) (a .start .now) (a .len .now) (a .size .now) (a .kind .now) (a .names .now) (a .tree .root) (a .tree .count) (w .result) (w .ensures .0) (z .pre .0 .0) (z .pre .0 .1)
@@ -24,39 +16,16 @@ slice-aggregate-preorder-2 c = let z = c .before .before .before .before .before
 preorder-requires : tie.Need-preorder-requires
 preorder-requires c κs = let z = c .before .before .before .before .before .before .before .before .before .before .before .before .before .before in let a = z .args in let w = c .before .before .before .widen in listed-asks (a .left .now) (a .right .now) (a .start .now) (a .len .now) (a .size .now) (a .kind .now) (a .names .now) (a .tree .root) (a .tree .count) (w .result) (w .ensures .0) (z .pre .0 .0) (z .pre .0 .1) (length (a .order .now)) (z .pre .1)
 
-slice-reshare-prefix-write-listed : tie.Need-slice-reshare-prefix-write-listed
-slice-reshare-prefix-write-listed c = search needs
-
 slice-aggregate-write-listed : tie.Need-slice-aggregate-write-listed
 slice-aggregate-write-listed c = let z = c .before .before .before .before .before .before .before .before .before .before .before .before .before .before .before .before .before .before in let a = z .args in let w = c .before .before .before .before .before .before .before .widen in first-long (a .left .now) (a .right .now) (a .start .now) (a .len .now) (a .size .now) (a .kind .now) (a .names .now) (a .tree .root) (a .tree .count) (w .result) (w .ensures .0) (z .pre .0 .0) (z .pre .0 .1) (a .order .now) _ (z .pre .1) (c .before .before .before .preorder .ensures)
 
 write-listed-requires : tie.Need-write-listed-requires
 write-listed-requires c κs = let z = c .before .before .before .before .before .before .before .before .before .before .before .before .before .before .before .before .before .before .before .before in let a = z .args in let w = c .before .before .before .before .before .before .before .before .before .widen in (z .pre .0 .0, listing (a .left .now) (a .right .now) (a .start .now) (a .len .now) (a .size .now) (a .kind .now) (a .names .now) (a .tree .root) (a .tree .count) (w .result) (w .ensures .0) (z .pre .0 .0) (z .pre .0 .1) (a .order .now) _ (z .pre .1) (c .before .before .before .before .before .preorder .ensures) (length (a .place .now)) (z .pre .2))
 
-same-length : tie.Need-same-length
-same-length c = search needs
-
-same-length-2 : tie.Need-same-length-2
-same-length-2 c = search needs
-
-same-length-3 : tie.Need-same-length-3
-same-length-3 c = search needs
-
 returns : tie.Need-returns
 returns c = let z = c .before .before .before .before .before .before .before .before .before .before .before .before .before .before .before .before .before .before .before .before .before .before .before .before .before in let a = z .args in let w = c .before .before .before .before .before .before .before .before .before .before .before .before .before .before .widen in (λ t h. c .before .before .before .before .write-listed .ensures .0 t (listing (a .left .now) (a .right .now) (a .start .now) (a .len .now) (a .size .now) (a .kind .now) (a .names .now) (a .tree .root) (a .tree .count) (w .result) (w .ensures .0) t h (a .order .now) _ (z .pre .1) (c .before .before .before .before .before .before .before .before .before .before .preorder .ensures) (length (a .place .now)) (z .pre .2)), λ t h. c .before .before .before .before .write-listed .ensures .1 t (listing (a .left .now) (a .right .now) (a .start .now) (a .len .now) (a .size .now) (a .kind .now) (a .names .now) (a .tree .root) (a .tree .count) (w .result) (w .ensures .0) t h (a .order .now) _ (z .pre .1) (c .before .before .before .before .before .before .before .before .before .before .preorder .ensures) (length (a .place .now)) (z .pre .2)))
 
 pub write-held-spec : {M : Type 1} → statement M
-write-held-spec =
-    tie.close
-    (tie.spec
-    widen-requires
-    slice-aggregate-preorder
-    slice-aggregate-preorder-2
-    preorder-requires
-    slice-reshare-prefix-write-listed
-    slice-aggregate-write-listed
-    write-listed-requires
-    same-length
-    same-length-2
-    same-length-3
-    returns)
+write-held-spec = tie.close (tie.spec (λ c κs. search needs) slice-aggregate-preorder slice-aggregate-preorder-2
+    preorder-requires (λ c. search needs) slice-aggregate-write-listed write-listed-requires (λ c. search needs)
+    (λ c. search needs) (λ c. search needs) returns)

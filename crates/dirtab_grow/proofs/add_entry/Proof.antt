@@ -16,41 +16,14 @@ use borrow.Author.Needs.{needs}
 use Rattle.dirtab_grow.proofs.add_entry.Statement.{statement}
 use Rattle.dirtab_grow.proofs.add_entry.Tie as tie
 
-check-at-requires : tie.Need-check-at-requires
-check-at-requires c κs = search needs
-
-enum-known-cause : tie.Need-enum-known-cause
-enum-known-cause c = search needs
-
-enum-told : tie.Need-enum-told
-enum-told c = search needs
-
-index-requires : tie.Need-index-requires
-index-requires c κs = search needs
-
-add-end : tie.Need-add-end
-add-end c = search needs
-
-slice-relend-prefix-hang-entry : tie.Need-slice-relend-prefix-hang-entry
-slice-relend-prefix-hang-entry c = search needs
-
 slice-aggregate-hang-entry : tie.Need-slice-aggregate-hang-entry
 slice-aggregate-hang-entry c = let s = c .before .before .before .before .before .before .before .before .before .before .before .before .before .before .before .before in sym (length-take-le (c .before .before .index .result + 1) (s .args .left .now) (omega (arith, s .pre .1 .0 .l, c .before .before .index .ensures .0)))
-
-slice-relend-prefix-hang-entry-2 : tie.Need-slice-relend-prefix-hang-entry-2
-slice-relend-prefix-hang-entry-2 c = search needs
 
 slice-aggregate-hang-entry-2 : tie.Need-slice-aggregate-hang-entry-2
 slice-aggregate-hang-entry-2 c = let s = c .before .before .before .before .before .before .before .before .before .before .before .before .before .before .before .before .before in sym (length-take-le (c .before .before .before .index .result + 1) (s .args .right .now) (omega (arith, s .pre .1 .0 .r, c .before .before .before .index .ensures .0)))
 
-slice-relend-prefix-hang-entry-3 : tie.Need-slice-relend-prefix-hang-entry-3
-slice-relend-prefix-hang-entry-3 c = search needs
-
 slice-aggregate-hang-entry-3 : tie.Need-slice-aggregate-hang-entry-3
 slice-aggregate-hang-entry-3 c = let s = c .before .before .before .before .before .before .before .before .before .before .before .before .before .before .before .before .before .before in sym (length-take-le (c .before .before .before .before .index .result + 1) (s .args .parent .now) (omega (arith, s .pre .1 .0 .p, c .before .before .before .before .index .ensures .0)))
-
-slice-relend-prefix-hang-entry-4 : tie.Need-slice-relend-prefix-hang-entry-4
-slice-relend-prefix-hang-entry-4 c = search needs
 
 slice-aggregate-hang-entry-4 : tie.Need-slice-aggregate-hang-entry-4
 slice-aggregate-hang-entry-4 c = let s = c .before .before .before .before .before .before .before .before .before .before .before .before .before .before .before .before .before .before .before in sym (length-take-le (c .before .before .before .before .before .index .result + 1) (s .args .height .now) (omega (arith, s .pre .1 .0 .h, c .before .before .before .before .before .index .ensures .0)))
@@ -68,21 +41,6 @@ returns c = λ w. let a = c .before .before .before .before .before .before .bef
     let L = listing 0 (a .start .now) (a .len .now) (a .size .now) (a .kind .now) (a .bytes .now) in
     refused-step (refused-by (a .i) (checkOf (a .bytes .now) (givenIn L (a .i))) (spotIn (byName (names (a .bytes .now) (a .start .now) (a .len .now)) (a .i)) (w .t) Root) (c .before .before .before .check-at .ensures) (c .before .cause .given .1))
 
-same-length : tie.Need-same-length
-same-length c = search needs
-
-same-length-2 : tie.Need-same-length-2
-same-length-2 c = search needs
-
-same-length-3 : tie.Need-same-length-3
-same-length-3 c = search needs
-
-same-length-4 : tie.Need-same-length-4
-same-length-4 c = search needs
-
-same-length-5 : tie.Need-same-length-5
-same-length-5 c = search needs
-
 returns-2 : tie.Need-returns-2
 returns-2 c = let s = c .before .before .before .before .before .before .before .before .before .before .before .before .before .before .before .before .before .before .before .before .before .before .before .before .before .before .before .before .before .before .before in let a = s .args in
     let L = listing 0 (a .start .now) (a .len .now) (a .size .now) (a .kind .now) (a .bytes .now) in
@@ -92,27 +50,8 @@ returns-2 c = let s = c .before .before .before .before .before .before .before 
     (passes (a .i) (checkOf (a .bytes .now) (givenIn L (a .i))) (c .before .before .before .before .before .before .before .before .before .before .before .before .before .before .before .before .before .before .before .before .check-at .ensures) (c .before .before .before .before .before .before .before .before .before .before .before .before .before .before .before .before .before .before .enum-told .given .1)) (h .ensures)
 
 pub add-entry-spec : {M : Type 1} → statement M
-add-entry-spec =
-    tie.close
-    (tie.spec
-    check-at-requires
-    enum-known-cause
-    enum-told
-    index-requires
-    add-end
-    slice-relend-prefix-hang-entry
-    slice-aggregate-hang-entry
-    slice-relend-prefix-hang-entry-2
-    slice-aggregate-hang-entry-2
-    slice-relend-prefix-hang-entry-3
-    slice-aggregate-hang-entry-3
-    slice-relend-prefix-hang-entry-4
-    slice-aggregate-hang-entry-4
-    hang-entry-requires
-    returns
-    same-length
-    same-length-2
-    same-length-3
-    same-length-4
-    same-length-5
-    returns-2)
+add-entry-spec = tie.close (tie.spec (λ c κs. search needs) (λ c. search needs) (λ c. search needs)
+    (λ c κs. search needs) (λ c. search needs) (λ c. search needs) slice-aggregate-hang-entry (λ c. search needs)
+    slice-aggregate-hang-entry-2 (λ c. search needs) slice-aggregate-hang-entry-3 (λ c. search needs)
+    slice-aggregate-hang-entry-4 hang-entry-requires returns (λ c. search needs) (λ c. search needs) (λ c. search needs)
+    (λ c. search needs) (λ c. search needs) returns-2)

@@ -10,11 +10,5 @@ seat-after-requires c κs = let s = c .before .before .before .before .before .b
 returns : tie.Need-returns
 returns c = λ w. c .seat-after .ensures _ (spot-there (c .before .before .before .before .before .before .before .before .pre .1 .1) (c .before .if1 .taken) w)
 
-find-seat-requires : tie.Need-find-seat-requires
-find-seat-requires c κs = search needs
-
-returns-2 : tie.Need-returns-2
-returns-2 c = search needs
-
 pub choose-seat-spec : {M : Type 1} → statement M
-choose-seat-spec = tie.close (tie.spec seat-after-requires returns find-seat-requires returns-2)
+choose-seat-spec = tie.close (tie.spec seat-after-requires returns (λ c κs. search needs) (λ c. search needs))

@@ -5,24 +5,12 @@ use borrow.Author.Needs.{needs}
 use Rattle.dirtab_grow.proofs.find_seat.Statement.{statement}
 use Rattle.dirtab_grow.proofs.find_seat.Tie as tie
 
-name-of-requires : tie.Need-name-of-requires
-name-of-requires c κs = search needs
-
 raise-name-requires : tie.Need-raise-name-requires
 raise-name-requires c κs = let s = c .before .before .before .before .before .before .before in short-name (names (s .args .bytes .now) (s .args .start .now) (s .args .len .now)) (s .args .new) (c .name-of .ensures) (s .pre .1 .1)
-
-key-of-requires : tie.Need-key-of-requires
-key-of-requires c κs = search needs
 
 seek-requires : tie.Need-seek-requires
 seek-requires c κs = let s = c .before .before .before .before .before .before .before .before .before .before .before in let N = names (s .args .bytes .now) (s .args .start .now) (s .args .len .now) in
     (s .pre .0, ((short-name N (s .args .new) (c .before .before .before .before .name-of .ensures) (s .pre .1 .1), c .before .before .before .raise-name .ensures), key-of-name N (s .args .new) (c .before .before .before .before .name-of .ensures) (c .before .before .before .raise-name .ensures) (c .before .key-of .ensures) .0))
-
-enum-told : tie.Need-enum-told
-enum-told c = search needs
-
-enum-known-place : tie.Need-enum-known-place
-enum-known-place c = search needs
 
 returns : tie.Need-returns
 returns c = λ w. let s = c .before .before .before .before .before .before .before .before .before .before .before .before .before .before .before .before .args in seat-full (s .new) (found (names (s .bytes .now) (s .start .now) (s .len .now)) (s .new) (w .linked .t) (c .before .before .before .before .before .before .before .before .before .name-of .ensures) (c .before .before .before .before .seek .ensures w) (c .before .before .place .given .1)) (c .if1 .taken)
@@ -35,15 +23,5 @@ returns-3 c = λ w. let s = c .before .before .before .before .before .before .b
     (found N (s .new) (w .linked .t) (c .before .before .before .before .before .before .before .before .before .name-of .ensures) (c .before .before .before .before .seek .ensures w) (c .before .before .place .given .1), (c .if1 .left, key-of-name N (s .new) (c .before .before .before .before .before .before .before .before .before .name-of .ensures) (c .before .before .before .before .before .before .before .before .raise-name .ensures) (c .before .before .before .before .before .before .key-of .ensures) .1))
 
 pub find-seat-spec : {M : Type 1} → statement M
-find-seat-spec =
-    tie.close
-    (tie.spec
-    name-of-requires
-    raise-name-requires
-    key-of-requires
-    seek-requires
-    enum-told
-    enum-known-place
-    returns
-    returns-2
-    returns-3)
+find-seat-spec = tie.close (tie.spec (λ c κs. search needs) raise-name-requires (λ c κs. search needs) seek-requires
+    (λ c. search needs) (λ c. search needs) returns returns-2 returns-3)

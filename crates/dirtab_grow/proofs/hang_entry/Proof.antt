@@ -11,75 +11,20 @@ choose-seat-requires : tie.Need-choose-seat-requires
 choose-seat-requires c κs = let s = c .before .before .before .before .before .before .before .before .before .before .before .before in let a = s .args in
     (sought-in (lists (a .root .now) (a .left .now) (a .right .now) (a .parent .now) (a .height .now)) (a .key .now) (names (a .bytes .now) (a .start .now) (a .len .now)) (a .new) (s .pre .0 .long) (s .pre .0 .growing), ((s .pre .0 .inside, s .pre .0 .short), s .pre .1))
 
-enum-known-cause : tie.Need-enum-known-cause
-enum-known-cause c = search needs
-
-enum-known-place : tie.Need-enum-known-place
-enum-known-place c = search needs
-
-index-requires : tie.Need-index-requires
-index-requires c κs = search needs
-
-mul-key : tie.Need-mul-key
-mul-key c = search needs
-
-slice-write-key : tie.Need-slice-write-key
-slice-write-key c = search needs
-
 put-in-requires : tie.Need-put-in-requires
 put-in-requires c κs = let s = c .before .before .before .before .before .before .before .before .before .before .before .before .before .before .before .before .before .before .before .before .before .before in let a = s .args in
     placed (lists (a .root .now) (a .left .now) (a .right .now) (a .parent .now) (a .height .now)) (a .key .now) (names (a .bytes .now) (a .start .now) (a .len .now)) (a .new) (s .pre .0 .long) (c .before .before .before .before .before .before .before .before .before .choose-seat .result) (c .before .before .before .before .before .before .before .before .before .choose-seat .ensures) (c .before .before .before .before .before .before .before .place .given .1) (s .pre .0 .growing)
 
-same-length : tie.Need-same-length
-same-length c = search needs
-
-same-length-2 : tie.Need-same-length-2
-same-length-2 c = search needs
-
-same-length-3 : tie.Need-same-length-3
-same-length-3 c = search needs
-
 returns : tie.Need-returns
 returns c = λ w. let s = c .before .before .before .before .before .before .before .before .before .before .before .before .before .before .before .before in let a = s .args in
     out-refused (lists (a .root .now) (a .left .now) (a .right .now) (a .parent .now) (a .height .now)) (a .key .now) (names (a .bytes .now) (a .start .now) (a .len .now)) (a .new) (s .pre .0 .long) (c .before .before .before .choose-seat .result) (c .before .before .before .choose-seat .ensures) (c .before .cause .given .1) w
-
-same-length-4 : tie.Need-same-length-4
-same-length-4 c = search needs
-
-same-length-5 : tie.Need-same-length-5
-same-length-5 c = search needs
-
-same-length-6 : tie.Need-same-length-6
-same-length-6 c = search needs
-
-same-length-7 : tie.Need-same-length-7
-same-length-7 c = search needs
-
-same-length-8 : tie.Need-same-length-8
-same-length-8 c = search needs
 
 returns-2 : tie.Need-returns-2
 returns-2 c = λ w. let s = c .before .before .before .before .before .before .before .before .before .before .before .before .before .before .before .before .before .before .before .before .before .before .before .before .before .before .before .before .before .before .before in let a = s .args in
     out-taken (lists (a .root .now) (a .left .now) (a .right .now) (a .parent .now) (a .height .now)) (a .key .now) (names (a .bytes .now) (a .start .now) (a .len .now)) (a .new) (s .pre .0 .long) (c .before .before .before .before .before .before .before .before .before .before .before .before .before .before .before .before .before .before .choose-seat .result) (c .before .before .before .before .before .before .before .before .before .before .before .before .before .before .before .before .before .before .choose-seat .ensures) (c .before .before .before .before .before .before .before .before .before .before .before .before .before .before .before .before .place .given .1) w (c .before .before .before .before .before .before .before .before .before .before .before .before .before .before .index .ensures .0) (s .pre .0 .inside) (s .pre .0 .has) (c .before .before .before .before .before .before .before .before .put-in .ensures)
 
 pub hang-entry-spec : {M : Type 1} → statement M
-hang-entry-spec =
-    tie.close
-    (tie.spec
-    choose-seat-requires
-    enum-known-cause
-    enum-known-place
-    index-requires
-    mul-key
-    slice-write-key
-    put-in-requires
-    same-length
-    same-length-2
-    same-length-3
-    returns
-    same-length-4
-    same-length-5
-    same-length-6
-    same-length-7
-    same-length-8
-    returns-2)
+hang-entry-spec = tie.close (tie.spec choose-seat-requires (λ c. search needs) (λ c. search needs)
+    (λ c κs. search needs) (λ c. search needs) (λ c. search needs) put-in-requires (λ c. search needs)
+    (λ c. search needs) (λ c. search needs) returns (λ c. search needs) (λ c. search needs) (λ c. search needs)
+    (λ c. search needs) (λ c. search needs) returns-2)

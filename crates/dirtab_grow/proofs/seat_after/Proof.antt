@@ -5,23 +5,15 @@ use Rattle.dirtab_grow.proofs.Checked.{short-name, key-of-name, seat-fu
 use Rattle.dirtab_grow.proofs.seat_after.Statement.{statement}
 use Rattle.dirtab_grow.proofs.seat_after.Tie as tie
 
-name-of-requires : tie.Need-name-of-requires
-name-of-requires c κs = search needs
-
 raise-name-requires : tie.Need-raise-name-requires
 raise-name-requires c κs = let s = c .before .before .before .before in short-name (names (s .args .bytes .now) (s .args .start .now) (s .args .len .now)) (s .args .new) (c .name-of .ensures) (s .pre .0 .1)
 
-key-of-requires : tie.Need-key-of-requires
-key-of-requires c κs = search needs
-
 returns : tie.Need-returns
 returns c = λ p e. seat-full (c .before .before .before .before .before .before .before .before .args .new) e (c .if1 .taken)
-
-sub-t12 : tie.Need-sub-t12
-sub-t12 c = search needs
 
 returns-2 : tie.Need-returns-2
 returns-2 c = λ p e. let s = c .before .before .before .before .before .before .before .before in (e, (c .if1 .left, key-of-name (names (s .args .bytes .now) (s .args .start .now) (s .args .len .now)) (s .args .new) (c .before .before .before .before .name-of .ensures) (c .before .before .before .raise-name .ensures) (c .before .key-of .ensures) .1))
 
 pub seat-after-spec : {M : Type 1} → statement M
-seat-after-spec = tie.close (tie.spec name-of-requires raise-name-requires key-of-requires returns sub-t12 returns-2)
+seat-after-spec = tie.close (tie.spec (λ c κs. search needs) raise-name-requires (λ c κs. search needs) returns
+    (λ c. search needs) returns-2)

@@ -6,35 +6,8 @@ use Rattle.img_take.proofs.Turns.{turn-treed, table-far, table-over, ta
 use Rattle.img_take.proofs.check_table.Statement.{statement}
 use Rattle.img_take.proofs.check_table.Tie as tie
 
-mul-if1 : tie.Need-mul-if1
-mul-if1 c = search needs
-
-shared-slice-read-if1 : tie.Need-shared-slice-read-if1
-shared-slice-read-if1 c = search needs
-
-cast-t18 : tie.Need-cast-t18
-cast-t18 c = search needs
-
 returns : tie.Need-returns
 returns c = let z = c .before .before .before .before .before .before .before .before .before in λ w. table-far w (z .pre .is-one) (omega (arith, c .if1 .taken)) (z .args .free .0)
-
-mul-widen : tie.Need-mul-widen
-mul-widen c = search needs
-
-shared-slice-read-widen : tie.Need-shared-slice-read-widen
-shared-slice-read-widen c = search needs
-
-widen-requires : tie.Need-widen-requires
-widen-requires c κs = search needs
-
-mul-widen-2 : tie.Need-mul-widen-2
-mul-widen-2 c = search needs
-
-shared-slice-read-widen-2 : tie.Need-shared-slice-read-widen-2
-shared-slice-read-widen-2 c = search needs
-
-widen-requires-2 : tie.Need-widen-requires-2
-widen-requires-2 c κs = search needs
 
 sub-count-table : tie.Need-sub-count-table
 sub-count-table c = omega (arith, cut-order (c .before .before .before .before .before .before .before .before .before .before .before .before .before .pre) (c .before .before .widen .ensures) (c .widen2 .ensures))
@@ -42,23 +15,11 @@ sub-count-table c = omega (arith, cut-order (c .before .before .before .before .
 mul-count-table : tie.Need-mul-count-table
 mul-count-table c = omega (arith, cut-orders (c .before .before .before .before .before .before .before .before .before .before .before .before .before .pre) (c .before .before .widen .ensures) (c .widen2 .ensures))
 
-sub-count-table-2 : tie.Need-sub-count-table-2
-sub-count-table-2 c = search needs
-
-part-count-table-start : tie.Need-part-count-table-start
-part-count-table-start c = search needs
-
 part-count-table-end : tie.Need-part-count-table-end
 part-count-table-end c = omega (arith, cut-orders (c .before .before .before .before .before .before .before .before .before .before .before .before .before .pre) (c .before .before .widen .ensures) (c .widen2 .ensures))
 
 add-count-table : tie.Need-add-count-table
 add-count-table c = omega (arith, cut-kind (c .before .before .before .before .before .before .before .before .before .before .before .before .before .before .pre) (c .before .before .before .widen .ensures) (c .before .widen2 .ensures))
-
-sub-count-table-3 : tie.Need-sub-count-table-3
-sub-count-table-3 c = search needs
-
-part-count-table-start-2 : tie.Need-part-count-table-start-2
-part-count-table-start-2 c = search needs
 
 part-count-table-end-2 : tie.Need-part-count-table-end-2
 part-count-table-end-2 c = omega (arith, cut-kind (c .before .before .before .before .before .before .before .before .before .before .before .before .before .before .pre) (c .before .before .before .widen .ensures) (c .before .widen2 .ensures))
@@ -69,72 +30,22 @@ add-count-table-2 c = omega (arith, cut-kind (c .before .before .before .before 
 mul-count-table-2 : tie.Need-mul-count-table-2
 mul-count-table-2 c = omega (arith, cut-kind (c .before .before .before .before .before .before .before .before .before .before .before .before .before .before .before .pre) (c .before .before .before .before .widen .ensures) (c .before .before .widen2 .ensures))
 
-sub-count-table-4 : tie.Need-sub-count-table-4
-sub-count-table-4 c = search needs
-
-part-count-table-start-3 : tie.Need-part-count-table-start-3
-part-count-table-start-3 c = search needs
-
 part-count-table-end-3 : tie.Need-part-count-table-end-3
 part-count-table-end-3 c = omega (arith, cut-value (c .before .before .before .before .before .before .before .before .before .before .before .before .before .before .before .pre) (c .before .before .before .before .widen .ensures) (c .before .before .widen2 .ensures))
 
 count-table-requires : tie.Need-count-table-requires
 count-table-requires c κs = turn-treed (c .before .before .before .before .before .before .before .before .before .before .before .before .before .before .before .before .before .pre) (c .before .before .before .before .before .before .widen .ensures) (c .before .before .before .before .widen2 .ensures)
 
-enum-told : tie.Need-enum-told
-enum-told c = search needs
-
-cast-t41 : tie.Need-cast-t41
-cast-t41 c = search needs
-
-enum-known-next : tie.Need-enum-known-next
-enum-known-next c = search needs
-
-same-length : tie.Need-same-length
-same-length c = search needs
-
 returns-2 : tie.Need-returns-2
 returns-2 c = let z = c .before .before .before .before .before .before .before .before .before .before .before .before .before .before .before .before .before .before .before .before .before .before in let k = c .before .before .before .before .count-table in λ w. table-over (z .pre) (c .before .before .before .before .before .before .before .before .before .before .before .widen .ensures) (c .before .before .before .before .before .before .before .before .before .widen2 .ensures) (k .result) (z .args .free .0) (k .ensures) (omega (arith, c .before .before .before .before .before .before .before .before .before .before .before .before .before .if1 .left)) w (c .enum-told .given .1)
-
-same-length-2 : tie.Need-same-length-2
-same-length-2 c = search needs
 
 returns-3 : tie.Need-returns-3
 returns-3 c = let z = c .before .before .before .before .before .before .before .before .before .before .before .before .before .before .before .before .before .before .before .before .before .before .before in let k = c .before .before .before .before .before .count-table in λ w. table-free (z .pre) (c .before .before .before .before .before .before .before .before .before .before .before .before .widen .ensures) (c .before .before .before .before .before .before .before .before .before .before .widen2 .ensures) (k .result) (z .args .free .0) (k .ensures) (omega (arith, c .before .before .before .before .before .before .before .before .before .before .before .before .before .before .if1 .left)) w (c .before .next .given .1)
 
 pub check-table-spec : {M : Type 1} → statement M
-check-table-spec =
-    tie.close
-    (tie.spec
-    mul-if1
-    shared-slice-read-if1
-    cast-t18
-    returns
-    mul-widen
-    shared-slice-read-widen
-    widen-requires
-    mul-widen-2
-    shared-slice-read-widen-2
-    widen-requires-2
-    sub-count-table
-    mul-count-table
-    sub-count-table-2
-    part-count-table-start
-    part-count-table-end
-    add-count-table
-    sub-count-table-3
-    part-count-table-start-2
-    part-count-table-end-2
-    add-count-table-2
-    mul-count-table-2
-    sub-count-table-4
-    part-count-table-start-3
-    part-count-table-end-3
-    count-table-requires
-    enum-told
-    cast-t41
-    enum-known-next
-    same-length
-    returns-2
-    same-length-2
-    returns-3)
+check-table-spec = tie.close (tie.spec (λ c. search needs) (λ c. search needs) (λ c. search needs) returns
+    (λ c. search needs) (λ c. search needs) (λ c κs. search needs) (λ c. search needs) (λ c. search needs)
+    (λ c κs. search needs) sub-count-table mul-count-table (λ c. search needs) (λ c. search needs) part-count-table-end
+    add-count-table (λ c. search needs) (λ c. search needs) part-count-table-end-2 add-count-table-2 mul-count-table-2
+    (λ c. search needs) (λ c. search needs) part-count-table-end-3 count-table-requires (λ c. search needs)
+    (λ c. search needs) (λ c. search needs) (λ c. search needs) returns-2 (λ c. search needs) returns-3)

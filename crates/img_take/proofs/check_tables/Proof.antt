@@ -15,89 +15,29 @@ Inv-loop first share kind value sized order size₀ end free₀ to₀ d₀ size 
 abbrev μ-loop : tie.MeasureT-loop
 μ-loop first share kind value sized order size₀ end free₀ to₀ d₀ size free to d = length first - d
 
-shared-slice-read-free-after-root : tie.Need-shared-slice-read-free-after-root Inv-loop μ-loop
-shared-slice-read-free-after-root c = search needs
-
-free-after-root-requires : tie.Need-free-after-root-requires Inv-loop μ-loop
-free-after-root-requires c κs = search needs
-
 loop-holds : tie.Need-loop-holds Inv-loop μ-loop
 loop-holds c = (search needs, (refl, checked-start (search needs)))
 
 check-table-requires : tie.Need-check-table-requires Inv-loop μ-loop
 check-table-requires c κs = search turn-at
 
-enum-known-x : tie.Need-enum-known-x Inv-loop μ-loop
-enum-known-x c = search needs
-
-same-length : tie.Need-same-length Inv-loop μ-loop
-same-length c = search needs
-
 returns : tie.Need-returns Inv-loop μ-loop
 returns c = λ w tables sectors. search checked-far
-
-enum-known-x-2 : tie.Need-enum-known-x-2 Inv-loop μ-loop
-enum-known-x-2 c = search needs
-
-same-length-2 : tie.Need-same-length-2 Inv-loop μ-loop
-same-length-2 c = search needs
 
 returns-2 : tie.Need-returns-2 Inv-loop μ-loop
 returns-2 c = λ w tables sectors. search checked-over
 
-enum-known-next : tie.Need-enum-known-next Inv-loop μ-loop
-enum-known-next c = search needs
-
-mul-widen : tie.Need-mul-widen Inv-loop μ-loop
-mul-widen c = search needs
-
-shared-slice-read-widen : tie.Need-shared-slice-read-widen Inv-loop μ-loop
-shared-slice-read-widen c = search needs
-
-widen-requires : tie.Need-widen-requires Inv-loop μ-loop
-widen-requires c κs = search needs
-
 sub-to : tie.Need-sub-to Inv-loop μ-loop
 sub-to c = search to-room
 
-add-d : tie.Need-add-d Inv-loop μ-loop
-add-d c = search needs
-
-loop-less : tie.Need-loop-less Inv-loop μ-loop
-loop-less c = search needs
-
 loop-again : tie.Need-loop-again Inv-loop μ-loop
 loop-again c = (search to-next, (search needs, checked-next (c .before .before .before .before .before .before .before .before .before .before .loop .inv .1 .1) (c .before .before .before .before .before .before .before .check-table .result) (c .before .before .before .before .before .before .before .check-table .ensures) (c .before .before .before .before .before .before .before .before .before .before .loop .inv .1 .0) (c .before .before .before .before .before .before .before .before .before .loop-test .taken) (c .before .before .before .next .given .1) refl))
-
-same-length-3 : tie.Need-same-length-3 Inv-loop μ-loop
-same-length-3 c = search needs
 
 returns-3 : tie.Need-returns-3 Inv-loop μ-loop
 returns-3 c = λ w tables sectors. search checked-end
 
 pub check-tables-spec : {M : Type 1} → statement M
-check-tables-spec =
-    tie.close
-    (tie.spec
-    Inv-loop
-    μ-loop
-    shared-slice-read-free-after-root
-    free-after-root-requires
-    loop-holds
-    check-table-requires
-    enum-known-x
-    same-length
-    returns
-    enum-known-x-2
-    same-length-2
-    returns-2
-    enum-known-next
-    mul-widen
-    shared-slice-read-widen
-    widen-requires
-    sub-to
-    add-d
-    loop-less
-    loop-again
-    same-length-3
-    returns-3)
+check-tables-spec = tie.close (tie.spec Inv-loop μ-loop (λ c. search needs) (λ c κs. search needs) loop-holds
+    check-table-requires (λ c. search needs) (λ c. search needs) returns (λ c. search needs) (λ c. search needs)
+    returns-2 (λ c. search needs) (λ c. search needs) (λ c. search needs) (λ c κs. search needs) sub-to
+    (λ c. search needs) (λ c. search needs) loop-again (λ c. search needs) returns-3)

@@ -5,17 +5,11 @@ use Rattle.img_take.proofs.Along.{named-at, named-is, named-none}
 use Rattle.img_take.proofs.name_table.Statement.{statement}
 use Rattle.img_take.proofs.name_table.Tie as tie
 
-place-in-requires : tie.Need-place-in-requires
-place-in-requires c κs = search needs
-
 mul-tables : tie.Need-mul-tables
 mul-tables c = omega (arith, named-at _ _ _ _ (c .before .before .before .pre) (c .before .if1 .taken) (c .place-in .ensures))
 
 slice-write-tables : tie.Need-slice-write-tables
 slice-write-tables c = omega (arith, named-at _ _ _ _ (c .before .before .before .pre) (c .before .if1 .taken) (c .place-in .ensures))
-
-same-length : tie.Need-same-length
-same-length c = search needs
 
 returns : tie.Need-returns
 returns c = search named-is
@@ -24,6 +18,5 @@ returns-2 : tie.Need-returns-2
 returns-2 c = search named-none
 
 pub name-table-spec : {M : Type 1} → statement M
-name-table-spec =
-    tie.close
-    (tie.spec place-in-requires mul-tables slice-write-tables same-length returns returns-2)
+name-table-spec = tie.close (tie.spec (λ c κs. search needs) mul-tables slice-write-tables (λ c. search needs) returns
+    returns-2)

@@ -7,12 +7,6 @@ use Rattle.img_take.proofs.Along.{few-sectors}
 use Rattle.img_take.proofs.sectors_for.Statement.{statement}
 use Rattle.img_take.proofs.sectors_for.Tie as tie
 
-widen-size-requires : tie.Need-widen-size-requires
-widen-size-requires c κs = search needs
-
-required-sectors-requires : tie.Need-required-sectors-requires
-required-sectors-requires c κs = search needs
-
 cast-result : tie.Need-cast-result
 cast-result c = omega (arith, few-sectors (c .before .widen-size .result) (omega arith))
 
@@ -20,5 +14,4 @@ returns : tie.Need-returns
 returns c = (c .required-sectors .ensures ∙ ap sectorsFor (c .before .widen-size .ensures), omega (arith, few-sectors (c .before .widen-size .result) (omega arith)))
 
 pub sectors-for-spec : {M : Type 1} → statement M
-sectors-for-spec =
-    tie.close (tie.spec widen-size-requires required-sectors-requires cast-result returns)
+sectors-for-spec = tie.close (tie.spec (λ c κs. search needs) (λ c κs. search needs) cast-result returns)

@@ -6,32 +6,8 @@ use Rattle.img_take.proofs.Turns.{turn-fillable, turn-asks, turn-low, t
 use Rattle.img_take.proofs.take_table.Statement.{statement}
 use Rattle.img_take.proofs.take_table.Tie as tie
 
-mul-widen : tie.Need-mul-widen
-mul-widen c = search needs
-
-shared-slice-read-widen : tie.Need-shared-slice-read-widen
-shared-slice-read-widen c = search needs
-
-widen-requires : tie.Need-widen-requires
-widen-requires c κs = search needs
-
-mul-widen-2 : tie.Need-mul-widen-2
-mul-widen-2 c = search needs
-
-shared-slice-read-widen-2 : tie.Need-shared-slice-read-widen-2
-shared-slice-read-widen-2 c = search needs
-
-widen-requires-2 : tie.Need-widen-requires-2
-widen-requires-2 c κs = search needs
-
 add-fill-sizes : tie.Need-add-fill-sizes
 add-fill-sizes c = omega (arith, cut-kind (c .before .before .before .before .before .before .before .before .before .before .before .before .before .pre .0 .0) (c .before .before .widen .ensures) (c .widen2 .ensures))
-
-sub-fill-sizes : tie.Need-sub-fill-sizes
-sub-fill-sizes c = search needs
-
-part-fill-sizes-start : tie.Need-part-fill-sizes-start
-part-fill-sizes-start c = search needs
 
 part-fill-sizes-end : tie.Need-part-fill-sizes-end
 part-fill-sizes-end c = omega (arith, cut-kind (c .before .before .before .before .before .before .before .before .before .before .before .before .before .pre .0 .0) (c .before .before .widen .ensures) (c .widen2 .ensures))
@@ -41,12 +17,6 @@ add-fill-sizes-2 c = omega (arith, cut-kind (c .before .before .before .before .
 
 mul-fill-sizes : tie.Need-mul-fill-sizes
 mul-fill-sizes c = omega (arith, cut-value (c .before .before .before .before .before .before .before .before .before .before .before .before .before .before .pre .0 .0) (c .before .before .before .widen .ensures) (c .before .widen2 .ensures))
-
-sub-fill-sizes-2 : tie.Need-sub-fill-sizes-2
-sub-fill-sizes-2 c = search needs
-
-part-fill-sizes-start-2 : tie.Need-part-fill-sizes-start-2
-part-fill-sizes-start-2 c = search needs
 
 part-fill-sizes-end-2 : tie.Need-part-fill-sizes-end-2
 part-fill-sizes-end-2 c = omega (arith, cut-value (c .before .before .before .before .before .before .before .before .before .before .before .before .before .before .pre .0 .0) (c .before .before .before .widen .ensures) (c .before .widen2 .ensures))
@@ -60,23 +30,11 @@ sub-take-entries c = omega (arith, cut-order (c .before .before .before .before 
 mul-take-entries : tie.Need-mul-take-entries
 mul-take-entries c = omega (arith, cut-orders (c .before .before .before .before .before .before .before .before .before .before .before .before .before .before .before .before .before .before .before .pre .0 .0) (c .before .before .before .before .before .before .before .before .widen .ensures) (c .before .before .before .before .before .before .widen2 .ensures))
 
-sub-take-entries-2 : tie.Need-sub-take-entries-2
-sub-take-entries-2 c = search needs
-
-part-take-entries-start : tie.Need-part-take-entries-start
-part-take-entries-start c = search needs
-
 part-take-entries-end : tie.Need-part-take-entries-end
 part-take-entries-end c = omega (arith, cut-orders (c .before .before .before .before .before .before .before .before .before .before .before .before .before .before .before .before .before .before .before .pre .0 .0) (c .before .before .before .before .before .before .before .before .widen .ensures) (c .before .before .before .before .before .before .widen2 .ensures))
 
 add-take-entries : tie.Need-add-take-entries
 add-take-entries c = omega (arith, cut-kind (c .before .before .before .before .before .before .before .before .before .before .before .before .before .before .before .before .before .before .before .before .pre .0 .0) (c .before .before .before .before .before .before .before .before .before .widen .ensures) (c .before .before .before .before .before .before .before .widen2 .ensures))
-
-sub-take-entries-3 : tie.Need-sub-take-entries-3
-sub-take-entries-3 c = search needs
-
-part-take-entries-start-2 : tie.Need-part-take-entries-start-2
-part-take-entries-start-2 c = search needs
 
 part-take-entries-end-2 : tie.Need-part-take-entries-end-2
 part-take-entries-end-2 c = omega (arith, cut-kind (c .before .before .before .before .before .before .before .before .before .before .before .before .before .before .before .before .before .before .before .before .pre .0 .0) (c .before .before .before .before .before .before .before .before .before .widen .ensures) (c .before .before .before .before .before .before .before .widen2 .ensures))
@@ -87,66 +45,20 @@ add-take-entries-2 c = omega (arith, cut-kind (c .before .before .before .before
 mul-take-entries-2 : tie.Need-mul-take-entries-2
 mul-take-entries-2 c = omega (arith, cut-value (c .before .before .before .before .before .before .before .before .before .before .before .before .before .before .before .before .before .before .before .before .before .pre .0 .0) (c .before .before .before .before .before .before .before .before .before .before .widen .ensures) (c .before .before .before .before .before .before .before .before .widen2 .ensures))
 
-sub-take-entries-4 : tie.Need-sub-take-entries-4
-sub-take-entries-4 c = search needs
-
-part-take-entries-start-3 : tie.Need-part-take-entries-start-3
-part-take-entries-start-3 c = search needs
-
 part-take-entries-end-3 : tie.Need-part-take-entries-end-3
 part-take-entries-end-3 c = omega (arith, cut-value (c .before .before .before .before .before .before .before .before .before .before .before .before .before .before .before .before .before .before .before .before .before .pre .0 .0) (c .before .before .before .before .before .before .before .before .before .before .widen .ensures) (c .before .before .before .before .before .before .before .before .widen2 .ensures))
 
 take-entries-requires : tie.Need-take-entries-requires
 take-entries-requires c κs = let z = c .before .before .before .before .before .before .before .before .before .before .before .before .before .before .before .before .before .before .before .before .before .before .before .before .before in let f = c .before .before .before .before .before .before .before .before .fill-sizes in (turn-asks (z .pre .0 .0) (c .before .before .before .before .before .before .before .before .before .before .before .before .before .before .widen .ensures) (c .before .before .before .before .before .before .before .before .before .before .before .before .widen2 .ensures) _ (f .result) (f .ensures .0) (f .ensures .1) _ _ (search needs) (z .pre .0 .1 .0) (z .pre .0 .1 .1), turn-low (z .pre .0 .0) (c .before .before .before .before .before .before .before .before .before .before .before .before .before .before .widen .ensures) (c .before .before .before .before .before .before .before .before .before .before .before .before .widen2 .ensures) _ (f .result) (f .ensures .0) (f .ensures .1) _ _ (z .pre .1 .0) (z .pre .1 .1 .1))
 
-same-length : tie.Need-same-length
-same-length c = search needs
-
-same-length-2 : tie.Need-same-length-2
-same-length-2 c = search needs
-
-same-length-3 : tie.Need-same-length-3
-same-length-3 c = search needs
-
 returns : tie.Need-returns
 returns c = let z = c .before .before .before .before .before .before .before .before .before .before .before .before .before .before .before .before .before .before .before .before .before .before .before .before .before .before .before .before .before .before in let f = c .before .before .before .before .before .before .before .before .before .before .before .before .before .fill-sizes in λ w p e. turn-takes (z .pre .0 .0) (c .before .before .before .before .before .before .before .before .before .before .before .before .before .before .before .before .before .before .before .widen .ensures) (c .before .before .before .before .before .before .before .before .before .before .before .before .before .before .before .before .before .widen2 .ensures) _ (f .result) (f .ensures .0) (f .ensures .1) _ p _ w (c .before .before .before .before .take-entries .ensures) e
 
 pub take-table-spec : {M : Type 1} → statement M
-take-table-spec =
-    tie.close
-    (tie.spec
-    mul-widen
-    shared-slice-read-widen
-    widen-requires
-    mul-widen-2
-    shared-slice-read-widen-2
-    widen-requires-2
-    add-fill-sizes
-    sub-fill-sizes
-    part-fill-sizes-start
-    part-fill-sizes-end
-    add-fill-sizes-2
-    mul-fill-sizes
-    sub-fill-sizes-2
-    part-fill-sizes-start-2
-    part-fill-sizes-end-2
-    fill-sizes-requires
-    sub-take-entries
-    mul-take-entries
-    sub-take-entries-2
-    part-take-entries-start
-    part-take-entries-end
-    add-take-entries
-    sub-take-entries-3
-    part-take-entries-start-2
-    part-take-entries-end-2
-    add-take-entries-2
-    mul-take-entries-2
-    sub-take-entries-4
-    part-take-entries-start-3
-    part-take-entries-end-3
-    take-entries-requires
-    same-length
-    same-length-2
-    same-length-3
-    returns)
+take-table-spec = tie.close (tie.spec (λ c. search needs) (λ c. search needs) (λ c κs. search needs) (λ c. search needs)
+    (λ c. search needs) (λ c κs. search needs) add-fill-sizes (λ c. search needs) (λ c. search needs)
+    part-fill-sizes-end add-fill-sizes-2 mul-fill-sizes (λ c. search needs) (λ c. search needs) part-fill-sizes-end-2
+    fill-sizes-requires sub-take-entries mul-take-entries (λ c. search needs) (λ c. search needs) part-take-entries-end
+    add-take-entries (λ c. search needs) (λ c. search needs) part-take-entries-end-2 add-take-entries-2
+    mul-take-entries-2 (λ c. search needs) (λ c. search needs) part-take-entries-end-3 take-entries-requires
+    (λ c. search needs) (λ c. search needs) (λ c. search needs) returns)

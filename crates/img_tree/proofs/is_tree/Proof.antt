@@ -18,70 +18,22 @@ abbrev μ-loop : tie.MeasureT-loop
 returns : tie.Need-returns Inv-loop μ-loop
 returns c = search no-directory
 
-clear-words-requires : tie.Need-clear-words-requires Inv-loop μ-loop
-clear-words-requires c κs = search needs
-
 loop-holds : tie.Need-loop-holds Inv-loop μ-loop
 loop-holds c = (search needs, omega arith, search needs, search needs, search unmarked)
-
-mul-mark-directory : tie.Need-mul-mark-directory Inv-loop μ-loop
-mul-mark-directory c = search needs
-
-shared-slice-read-mark-directory : tie.Need-shared-slice-read-mark-directory Inv-loop μ-loop
-shared-slice-read-mark-directory c = search needs
-
-mul-mark-directory-2 : tie.Need-mul-mark-directory-2 Inv-loop μ-loop
-mul-mark-directory-2 c = search needs
-
-shared-slice-read-mark-directory-2 : tie.Need-shared-slice-read-mark-directory-2 Inv-loop μ-loop
-shared-slice-read-mark-directory-2 c = search needs
 
 mark-directory-requires : tie.Need-mark-directory-requires Inv-loop μ-loop
 mark-directory-requires c κs = (search needs, search clean)
 
-same-length : tie.Need-same-length Inv-loop μ-loop
-same-length c = search needs
-
 returns-2 : tie.Need-returns-2 Inv-loop μ-loop
 returns-2 c = search refused
 
-add-d : tie.Need-add-d Inv-loop μ-loop
-add-d c = search needs
-
-loop-less : tie.Need-loop-less Inv-loop μ-loop
-loop-less c = search needs
-
 loop-again : tie.Need-loop-again Inv-loop μ-loop
 loop-again c = (search needs, omega arith, search needs, search needs, search onwards)
-
-all-marked-requires : tie.Need-all-marked-requires Inv-loop μ-loop
-all-marked-requires c κs = search needs
-
-same-length-2 : tie.Need-same-length-2 Inv-loop μ-loop
-same-length-2 c = search needs
 
 returns-3 : tie.Need-returns-3 Inv-loop μ-loop
 returns-3 c = search all-done
 
 pub is-tree-spec : {M : Type 1} → statement M
-is-tree-spec =
-    tie.close
-    (tie.spec
-    Inv-loop
-    μ-loop
-    returns
-    clear-words-requires
-    loop-holds
-    mul-mark-directory
-    shared-slice-read-mark-directory
-    mul-mark-directory-2
-    shared-slice-read-mark-directory-2
-    mark-directory-requires
-    same-length
-    returns-2
-    add-d
-    loop-less
-    loop-again
-    all-marked-requires
-    same-length-2
-    returns-3)
+is-tree-spec = tie.close (tie.spec Inv-loop μ-loop returns (λ c κs. search needs) loop-holds (λ c. search needs)
+    (λ c. search needs) (λ c. search needs) (λ c. search needs) mark-directory-requires (λ c. search needs) returns-2
+    (λ c. search needs) (λ c. search needs) loop-again (λ c κs. search needs) (λ c. search needs) returns-3)

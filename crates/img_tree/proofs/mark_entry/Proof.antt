@@ -4,12 +4,6 @@ use borrow.Author.Needs.{needs}
 use Rattle.img_tree.proofs.mark_entry.Statement.{statement}
 use Rattle.img_tree.proofs.mark_entry.Tie as tie
 
-mark-requires : tie.Need-mark-requires
-mark-requires c κs = search needs
-
-same-length : tie.Need-same-length
-same-length c = search needs
-
 returns : tie.Need-returns
 returns c = of-directory _ _ _ _ _ _ (search needs) (search needs) (search needs)
 
@@ -17,4 +11,4 @@ returns-2 : tie.Need-returns-2
 returns-2 c = of-file _ _ _ _ (search needs)
 
 pub mark-entry-spec : {M : Type 1} → statement M
-mark-entry-spec = tie.close (tie.spec mark-requires same-length returns returns-2)
+mark-entry-spec = tie.close (tie.spec (λ c κs. search needs) (λ c. search needs) returns returns-2)

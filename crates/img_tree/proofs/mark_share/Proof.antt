@@ -18,54 +18,16 @@ abbrev μ-loop : tie.MeasureT-loop
 loop-holds : tie.Need-loop-holds Inv-loop μ-loop
 loop-holds c = (omega arith, search needs, search begun)
 
-shared-slice-read-mark-entry : tie.Need-shared-slice-read-mark-entry Inv-loop μ-loop
-shared-slice-read-mark-entry c = search needs
-
-mul-mark-entry : tie.Need-mul-mark-entry Inv-loop μ-loop
-mul-mark-entry c = search needs
-
-shared-slice-read-mark-entry-2 : tie.Need-shared-slice-read-mark-entry-2 Inv-loop μ-loop
-shared-slice-read-mark-entry-2 c = search needs
-
-mark-entry-requires : tie.Need-mark-entry-requires Inv-loop μ-loop
-mark-entry-requires c κs = search needs
-
-same-length : tie.Need-same-length Inv-loop μ-loop
-same-length c = search needs
-
 returns : tie.Need-returns Inv-loop μ-loop
 returns c = (search stop, never)
 
-add-i : tie.Need-add-i Inv-loop μ-loop
-add-i c = search needs
-
-loop-less : tie.Need-loop-less Inv-loop μ-loop
-loop-less c = search needs
-
 loop-again : tie.Need-loop-again Inv-loop μ-loop
 loop-again c = (omega arith, search needs, search past)
-
-same-length-2 : tie.Need-same-length-2 Inv-loop μ-loop
-same-length-2 c = search needs
 
 returns-2 : tie.Need-returns-2 Inv-loop μ-loop
 returns-2 c = (search done, λ t. search all-marked)
 
 pub mark-share-spec : {M : Type 1} → statement M
-mark-share-spec =
-    tie.close
-    (tie.spec
-    Inv-loop
-    μ-loop
-    loop-holds
-    shared-slice-read-mark-entry
-    mul-mark-entry
-    shared-slice-read-mark-entry-2
-    mark-entry-requires
-    same-length
-    returns
-    add-i
-    loop-less
-    loop-again
-    same-length-2
-    returns-2)
+mark-share-spec = tie.close (tie.spec Inv-loop μ-loop loop-holds (λ c. search needs) (λ c. search needs)
+    (λ c. search needs) (λ c κs. search needs) (λ c. search needs) returns (λ c. search needs) (λ c. search needs)
+    loop-again (λ c. search needs) returns-2)
