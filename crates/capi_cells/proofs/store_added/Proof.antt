@@ -7,30 +7,6 @@ use borrow.Author.Needs.{needs}
 use Rattle.capi_cells.proofs.store_added.Statement.{statement}
 use Rattle.capi_cells.proofs.store_added.Tie as tie
 
-enum-known-r : tie.Need-enum-known-r
-enum-known-r c = search needs
-
-enum-told : tie.Need-enum-told
-enum-told c = search needs
-
-enum-told-2 : tie.Need-enum-told-2
-enum-told-2 c = search needs
-
-enum-told-3 : tie.Need-enum-told-3
-enum-told-3 c = search needs
-
-enum-told-4 : tie.Need-enum-told-4
-enum-told-4 c = search needs
-
-enum-told-5 : tie.Need-enum-told-5
-enum-told-5 c = search needs
-
-enum-told-6 : tie.Need-enum-told-6
-enum-told-6 c = search needs
-
-enum-told-7 : tie.Need-enum-told-7
-enum-told-7 c = search needs
-
 returns : tie.Need-returns
 returns c = let e = ap adding.told (c .before .r .given .1) in (given-number e, (given-cell grownRoot _ e refl, given-cell grownCount _ e refl))
 
@@ -56,22 +32,6 @@ returns-8 : tie.Need-returns-8
 returns-8 c = let e = ap adding.told (c .enum-told7 .given .1) in (refused-number e, (refused-cell grownRoot _ e, refused-cell grownCount _ e))
 
 pub store-added-spec : {M : Type 1} → statement M
-store-added-spec =
-    tie.close
-    (tie.spec
-    enum-known-r
-    enum-told
-    enum-told-2
-    enum-told-3
-    enum-told-4
-    enum-told-5
-    enum-told-6
-    enum-told-7
-    returns
-    returns-2
-    returns-3
-    returns-4
-    returns-5
-    returns-6
-    returns-7
-    returns-8)
+store-added-spec = tie.close (tie.spec (λ c. search needs) (λ c. search needs) (λ c. search needs) (λ c. search needs)
+    (λ c. search needs) (λ c. search needs) (λ c. search needs) (λ c. search needs) returns returns-2 returns-3
+    returns-4 returns-5 returns-6 returns-7 returns-8)

@@ -9,45 +9,6 @@ use borrow.Author.Needs.{needs}
 use Rattle.capi_cells.proofs.store_checked.Statement.{statement}
 use Rattle.capi_cells.proofs.store_checked.Tie as tie
 
-enum-known-r : tie.Need-enum-known-r
-enum-known-r c = search needs
-
-enum-told : tie.Need-enum-told
-enum-told c = search needs
-
-enum-known-r-2 : tie.Need-enum-known-r-2
-enum-known-r-2 c = search needs
-
-number-requires : tie.Need-number-requires
-number-requires c κs = search needs
-
-enum-known-r-3 : tie.Need-enum-known-r-3
-enum-known-r-3 c = search needs
-
-number-requires-2 : tie.Need-number-requires-2
-number-requires-2 c κs = search needs
-
-enum-told-2 : tie.Need-enum-told-2
-enum-told-2 c = search needs
-
-enum-known-r-4 : tie.Need-enum-known-r-4
-enum-known-r-4 c = search needs
-
-number-requires-3 : tie.Need-number-requires-3
-number-requires-3 c κs = search needs
-
-enum-known-r-5 : tie.Need-enum-known-r-5
-enum-known-r-5 c = search needs
-
-number-requires-4 : tie.Need-number-requires-4
-number-requires-4 c κs = search needs
-
-enum-known-r-6 : tie.Need-enum-known-r-6
-enum-known-r-6 c = search needs
-
-number-requires-5 : tie.Need-number-requires-5
-number-requires-5 c κs = search needs
-
 returns : tie.Need-returns
 returns c = let e = ap checking.told (c .before .r .given .1) in (given-number e, (given-cell itself _ e refl, given-kept atFault _ e))
 
@@ -78,27 +39,7 @@ unfolding isIn
 returns-8 c = let e = ap checking.told (c .before .before .r6 .given .1) in (refused-number e, (refused-cell itself _ e, refused-value atFault _ e refl (c .number5 .ensures)))
 
 pub store-checked-spec : {M : Type 1} → statement M
-store-checked-spec =
-    tie.close
-    (tie.spec
-    enum-known-r
-    enum-told
-    enum-known-r-2
-    number-requires
-    enum-known-r-3
-    number-requires-2
-    enum-told-2
-    enum-known-r-4
-    number-requires-3
-    enum-known-r-5
-    number-requires-4
-    enum-known-r-6
-    number-requires-5
-    returns
-    returns-2
-    returns-3
-    returns-4
-    returns-5
-    returns-6
-    returns-7
-    returns-8)
+store-checked-spec = tie.close (tie.spec (λ c. search needs) (λ c. search needs) (λ c. search needs)
+    (λ c κs. search needs) (λ c. search needs) (λ c κs. search needs) (λ c. search needs) (λ c. search needs)
+    (λ c κs. search needs) (λ c. search needs) (λ c κs. search needs) (λ c. search needs) (λ c κs. search needs) returns
+    returns-2 returns-3 returns-4 returns-5 returns-6 returns-7 returns-8)

@@ -7,15 +7,6 @@ use borrow.Author.Needs.{needs}
 use Rattle.capi_cells.proofs.store_descriptor.Statement.{statement}
 use Rattle.capi_cells.proofs.store_descriptor.Tie as tie
 
-enum-known-r : tie.Need-enum-known-r
-enum-known-r c = search needs
-
-number-requires : tie.Need-number-requires
-number-requires c κs = search needs
-
-enum-told : tie.Need-enum-told
-enum-told c = search needs
-
 returns : tie.Need-returns
 returns c = let e = ap volume.readTold (c .before .before .before .before .r .given .1) in (given-number e, (given-cell rootSector _ e (c .number .ensures), given-cell rootSize _ e refl))
 
@@ -23,5 +14,5 @@ returns-2 : tie.Need-returns-2
 returns-2 c = let e = ap volume.readTold (c .enum-told .given .1) in (refused-number e, (refused-cell rootSector _ e, refused-cell rootSize _ e))
 
 pub store-descriptor-spec : {M : Type 1} → statement M
-store-descriptor-spec =
-    tie.close (tie.spec enum-known-r number-requires enum-told returns returns-2)
+store-descriptor-spec = tie.close (tie.spec (λ c. search needs) (λ c κs. search needs) (λ c. search needs) returns
+    returns-2)

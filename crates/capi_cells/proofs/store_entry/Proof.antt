@@ -8,21 +8,6 @@ use borrow.Author.Needs.{needs}
 use Rattle.capi_cells.proofs.store_entry.Statement.{statement}
 use Rattle.capi_cells.proofs.store_entry.Tie as tie
 
-enum-known-r : tie.Need-enum-known-r
-enum-known-r c = search needs
-
-store-fields-requires : tie.Need-store-fields-requires
-store-fields-requires c κs = search needs
-
-enum-told : tie.Need-enum-told
-enum-told c = search needs
-
-enum-told-2 : tie.Need-enum-told-2
-enum-told-2 c = search needs
-
-enum-told-3 : tie.Need-enum-told-3
-enum-told-3 c = search needs
-
 returns : tie.Need-returns
 returns c = let e = ap entry.told (c .before .before .before .r .given .1) in (given-number e, (given-cell isSome _ e refl, (given-some placedFields _ e (c .store-fields .ensures), given-some placedAt _ e refl)))
 
@@ -36,15 +21,5 @@ returns-4 : tie.Need-returns-4
 returns-4 c = let e = ap entry.told (c .enum-told3 .given .1) in (refused-number e, (refused-cell isSome _ e, (refused-some placedFields _ e, refused-some placedAt _ e)))
 
 pub store-entry-spec : {M : Type 1} → statement M
-store-entry-spec =
-    tie.close
-    (tie.spec
-    enum-known-r
-    store-fields-requires
-    enum-told
-    enum-told-2
-    enum-told-3
-    returns
-    returns-2
-    returns-3
-    returns-4)
+store-entry-spec = tie.close (tie.spec (λ c. search needs) (λ c κs. search needs) (λ c. search needs)
+    (λ c. search needs) (λ c. search needs) returns returns-2 returns-3 returns-4)

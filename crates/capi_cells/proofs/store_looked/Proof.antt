@@ -9,39 +9,6 @@ use borrow.Author.Needs.{needs}
 use Rattle.capi_cells.proofs.store_looked.Statement.{statement}
 use Rattle.capi_cells.proofs.store_looked.Tie as tie
 
-enum-known-r : tie.Need-enum-known-r
-enum-known-r c = search needs
-
-store-fields-requires : tie.Need-store-fields-requires
-store-fields-requires c κs = search needs
-
-number-requires : tie.Need-number-requires
-number-requires c κs = search needs
-
-enum-told : tie.Need-enum-told
-enum-told c = search needs
-
-enum-told-2 : tie.Need-enum-told-2
-enum-told-2 c = search needs
-
-enum-known-r-2 : tie.Need-enum-known-r-2
-enum-known-r-2 c = search needs
-
-enum-known-r-3 : tie.Need-enum-known-r-3
-enum-known-r-3 c = search needs
-
-number-requires-2 : tie.Need-number-requires-2
-number-requires-2 c κs = search needs
-
-enum-known-r-4 : tie.Need-enum-known-r-4
-enum-known-r-4 c = search needs
-
-number-requires-3 : tie.Need-number-requires-3
-number-requires-3 c κs = search needs
-
-enum-told-3 : tie.Need-enum-told-3
-enum-told-3 c = search needs
-
 returns : tie.Need-returns
 returns c = let e = ap lookup.told (c .before .before .before .before .r .given .1) in (given-number e, (given-cell foundFields _ e (c .before .store-fields .ensures), (given-cell foundPlace _ e refl, (given-both foundOffset atOffset _ e (c .number .ensures), given-both foundHeaders afterHeaders _ e refl))))
 
@@ -70,24 +37,7 @@ unfolding isIn
 returns-7 c = let e = ap lookup.told (c .enum-told3 .given .1) in (refused-number e, (refused-cell foundFields _ e, (refused-cell foundPlace _ e, (refused-cell foundOffset _ e ∙ refused-other atOffset _ e refl, refused-cell foundHeaders _ e ∙ refused-other afterHeaders _ e refl))))
 
 pub store-looked-spec : {M : Type 1} → statement M
-store-looked-spec =
-    tie.close
-    (tie.spec
-    enum-known-r
-    store-fields-requires
-    number-requires
-    enum-told
-    enum-told-2
-    enum-known-r-2
-    enum-known-r-3
-    number-requires-2
-    enum-known-r-4
-    number-requires-3
-    enum-told-3
-    returns
-    returns-2
-    returns-3
-    returns-4
-    returns-5
-    returns-6
-    returns-7)
+store-looked-spec = tie.close (tie.spec (λ c. search needs) (λ c κs. search needs) (λ c κs. search needs)
+    (λ c. search needs) (λ c. search needs) (λ c. search needs) (λ c. search needs) (λ c κs. search needs)
+    (λ c. search needs) (λ c κs. search needs) (λ c. search needs) returns returns-2 returns-3 returns-4 returns-5
+    returns-6 returns-7)

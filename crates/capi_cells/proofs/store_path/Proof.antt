@@ -9,42 +9,6 @@ use borrow.Author.Needs.{needs}
 use Rattle.capi_cells.proofs.store_path.Statement.{statement}
 use Rattle.capi_cells.proofs.store_path.Tie as tie
 
-enum-known-r : tie.Need-enum-known-r
-enum-known-r c = search needs
-
-store-fields-requires : tie.Need-store-fields-requires
-store-fields-requires c κs = search needs
-
-enum-told : tie.Need-enum-told
-enum-told c = search needs
-
-enum-told-2 : tie.Need-enum-told-2
-enum-told-2 c = search needs
-
-enum-told-3 : tie.Need-enum-told-3
-enum-told-3 c = search needs
-
-enum-known-r-2 : tie.Need-enum-known-r-2
-enum-known-r-2 c = search needs
-
-number-requires : tie.Need-number-requires
-number-requires c κs = search needs
-
-enum-known-r-3 : tie.Need-enum-known-r-3
-enum-known-r-3 c = search needs
-
-number-requires-2 : tie.Need-number-requires-2
-number-requires-2 c κs = search needs
-
-enum-told-4 : tie.Need-enum-told-4
-enum-told-4 c = search needs
-
-enum-told-5 : tie.Need-enum-told-5
-enum-told-5 c = search needs
-
-enum-told-6 : tie.Need-enum-told-6
-enum-told-6 c = search needs
-
 returns : tie.Need-returns
 returns c = let e = ap following.told (c .before .before .before .r .given .1) in (given-number e, (given-cell placedFields _ e (c .store-fields .ensures), (given-cell placedAt _ e refl, given-kept atOffset _ e)))
 
@@ -75,27 +39,7 @@ returns-9 : tie.Need-returns-9
 returns-9 c = let e = ap following.told (c .enum-told6 .given .1) in (refused-number e, (refused-cell placedFields _ e, (refused-cell placedAt _ e, refused-bare atOffset _ e)))
 
 pub store-path-spec : {M : Type 1} → statement M
-store-path-spec =
-    tie.close
-    (tie.spec
-    enum-known-r
-    store-fields-requires
-    enum-told
-    enum-told-2
-    enum-told-3
-    enum-known-r-2
-    number-requires
-    enum-known-r-3
-    number-requires-2
-    enum-told-4
-    enum-told-5
-    enum-told-6
-    returns
-    returns-2
-    returns-3
-    returns-4
-    returns-5
-    returns-6
-    returns-7
-    returns-8
-    returns-9)
+store-path-spec = tie.close (tie.spec (λ c. search needs) (λ c κs. search needs) (λ c. search needs) (λ c. search needs)
+    (λ c. search needs) (λ c. search needs) (λ c κs. search needs) (λ c. search needs) (λ c κs. search needs)
+    (λ c. search needs) (λ c. search needs) (λ c. search needs) returns returns-2 returns-3 returns-4 returns-5
+    returns-6 returns-7 returns-8 returns-9)

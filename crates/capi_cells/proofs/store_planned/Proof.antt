@@ -9,45 +9,6 @@ use borrow.Author.Needs.{needs}
 use Rattle.capi_cells.proofs.store_planned.Statement.{statement}
 use Rattle.capi_cells.proofs.store_planned.Tie as tie
 
-enum-known-r : tie.Need-enum-known-r
-enum-known-r c = search needs
-
-number-requires : tie.Need-number-requires
-number-requires c κs = search needs
-
-enum-told : tie.Need-enum-told
-enum-told c = search needs
-
-enum-told-2 : tie.Need-enum-told-2
-enum-told-2 c = search needs
-
-enum-known-r-2 : tie.Need-enum-known-r-2
-enum-known-r-2 c = search needs
-
-enum-known-r-3 : tie.Need-enum-known-r-3
-enum-known-r-3 c = search needs
-
-enum-known-r-4 : tie.Need-enum-known-r-4
-enum-known-r-4 c = search needs
-
-enum-known-r-5 : tie.Need-enum-known-r-5
-enum-known-r-5 c = search needs
-
-enum-known-r-6 : tie.Need-enum-known-r-6
-enum-known-r-6 c = search needs
-
-enum-known-r-7 : tie.Need-enum-known-r-7
-enum-known-r-7 c = search needs
-
-enum-known-r-8 : tie.Need-enum-known-r-8
-enum-known-r-8 c = search needs
-
-enum-known-r-9 : tie.Need-enum-known-r-9
-enum-known-r-9 c = search needs
-
-enum-known-r-10 : tie.Need-enum-known-r-10
-enum-known-r-10 c = search needs
-
 returns : tie.Need-returns
 returns c = let e = ap planning.told (c .before .before .r .given .1) in (given-number e, (given-cell itself _ e (c .number .ensures), (given-kept ofPlanned _ e, given-kept ofDirectory _ e)))
 
@@ -94,31 +55,7 @@ unfolding isIn
 returns-12 c = let e = ap planning.told (c .before .r10 .given .1) in (refused-number e, (refused-cell itself _ e, (refused-value ofPlanned _ e refl refl, refused-other ofDirectory _ e refl)))
 
 pub store-planned-spec : {M : Type 1} → statement M
-store-planned-spec =
-    tie.close
-    (tie.spec
-    enum-known-r
-    number-requires
-    enum-told
-    enum-told-2
-    enum-known-r-2
-    enum-known-r-3
-    enum-known-r-4
-    enum-known-r-5
-    enum-known-r-6
-    enum-known-r-7
-    enum-known-r-8
-    enum-known-r-9
-    enum-known-r-10
-    returns
-    returns-2
-    returns-3
-    returns-4
-    returns-5
-    returns-6
-    returns-7
-    returns-8
-    returns-9
-    returns-10
-    returns-11
-    returns-12)
+store-planned-spec = tie.close (tie.spec (λ c. search needs) (λ c κs. search needs) (λ c. search needs)
+    (λ c. search needs) (λ c. search needs) (λ c. search needs) (λ c. search needs) (λ c. search needs)
+    (λ c. search needs) (λ c. search needs) (λ c. search needs) (λ c. search needs) (λ c. search needs) returns
+    returns-2 returns-3 returns-4 returns-5 returns-6 returns-7 returns-8 returns-9 returns-10 returns-11 returns-12)

@@ -7,27 +7,6 @@ use borrow.Author.Needs.{needs}
 use Rattle.capi_cells.proofs.store_serialised.Statement.{statement}
 use Rattle.capi_cells.proofs.store_serialised.Tie as tie
 
-enum-known-r : tie.Need-enum-known-r
-enum-known-r c = search needs
-
-number-requires : tie.Need-number-requires
-number-requires c κs = search needs
-
-enum-told : tie.Need-enum-told
-enum-told c = search needs
-
-enum-told-2 : tie.Need-enum-told-2
-enum-told-2 c = search needs
-
-enum-told-3 : tie.Need-enum-told-3
-enum-told-3 c = search needs
-
-enum-told-4 : tie.Need-enum-told-4
-enum-told-4 c = search needs
-
-enum-told-5 : tie.Need-enum-told-5
-enum-told-5 c = search needs
-
 returns : tie.Need-returns
 returns c = let e = ap serialising.told (c .before .before .r .given .1) in (given-number e, (given-cell tableSize _ e refl, given-cell nextFree _ e (c .number .ensures)))
 
@@ -47,19 +26,6 @@ returns-6 : tie.Need-returns-6
 returns-6 c = let e = ap serialising.told (c .enum-told5 .given .1) in (refused-number e, (refused-cell tableSize _ e, refused-cell nextFree _ e))
 
 pub store-serialised-spec : {M : Type 1} → statement M
-store-serialised-spec =
-    tie.close
-    (tie.spec
-    enum-known-r
-    number-requires
-    enum-told
-    enum-told-2
-    enum-told-3
-    enum-told-4
-    enum-told-5
-    returns
-    returns-2
-    returns-3
-    returns-4
-    returns-5
-    returns-6)
+store-serialised-spec = tie.close (tie.spec (λ c. search needs) (λ c κs. search needs) (λ c. search needs)
+    (λ c. search needs) (λ c. search needs) (λ c. search needs) (λ c. search needs) returns returns-2 returns-3
+    returns-4 returns-5 returns-6)

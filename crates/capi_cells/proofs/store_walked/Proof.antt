@@ -9,27 +9,6 @@ use borrow.Author.Needs.{needs}
 use Rattle.capi_cells.proofs.store_walked.Statement.{statement}
 use Rattle.capi_cells.proofs.store_walked.Tie as tie
 
-enum-known-r : tie.Need-enum-known-r
-enum-known-r c = search needs
-
-enum-told : tie.Need-enum-told
-enum-told c = search needs
-
-enum-known-r-2 : tie.Need-enum-known-r-2
-enum-known-r-2 c = search needs
-
-number-requires : tie.Need-number-requires
-number-requires c κs = search needs
-
-enum-known-r-3 : tie.Need-enum-known-r-3
-enum-known-r-3 c = search needs
-
-number-requires-2 : tie.Need-number-requires-2
-number-requires-2 c κs = search needs
-
-enum-told-2 : tie.Need-enum-told-2
-enum-told-2 c = search needs
-
 returns : tie.Need-returns
 returns c = let e = ap walking.told (c .before .r .given .1) in (given-number e, (given-cell itself _ e refl, given-kept atOffset _ e))
 
@@ -48,18 +27,6 @@ returns-5 : tie.Need-returns-5
 returns-5 c = let e = ap walking.told (c .enum-told2 .given .1) in (refused-number e, (refused-cell itself _ e, refused-bare atOffset _ e))
 
 pub store-walked-spec : {M : Type 1} → statement M
-store-walked-spec =
-    tie.close
-    (tie.spec
-    enum-known-r
-    enum-told
-    enum-known-r-2
-    number-requires
-    enum-known-r-3
-    number-requires-2
-    enum-told-2
-    returns
-    returns-2
-    returns-3
-    returns-4
-    returns-5)
+store-walked-spec = tie.close (tie.spec (λ c. search needs) (λ c. search needs) (λ c. search needs)
+    (λ c κs. search needs) (λ c. search needs) (λ c κs. search needs) (λ c. search needs) returns returns-2 returns-3
+    returns-4 returns-5)

@@ -9,42 +9,6 @@ use borrow.Author.Needs.{needs}
 use Rattle.capi_cells.proofs.store_written.Statement.{statement}
 use Rattle.capi_cells.proofs.store_written.Tie as tie
 
-enum-known-r : tie.Need-enum-known-r
-enum-known-r c = search needs
-
-number-requires : tie.Need-number-requires
-number-requires c κs = search needs
-
-enum-told : tie.Need-enum-told
-enum-told c = search needs
-
-enum-known-r-2 : tie.Need-enum-known-r-2
-enum-known-r-2 c = search needs
-
-enum-known-r-3 : tie.Need-enum-known-r-3
-enum-known-r-3 c = search needs
-
-enum-known-r-4 : tie.Need-enum-known-r-4
-enum-known-r-4 c = search needs
-
-enum-known-r-5 : tie.Need-enum-known-r-5
-enum-known-r-5 c = search needs
-
-enum-known-r-6 : tie.Need-enum-known-r-6
-enum-known-r-6 c = search needs
-
-enum-known-r-7 : tie.Need-enum-known-r-7
-enum-known-r-7 c = search needs
-
-enum-told-2 : tie.Need-enum-told-2
-enum-told-2 c = search needs
-
-enum-told-3 : tie.Need-enum-told-3
-enum-told-3 c = search needs
-
-enum-told-4 : tie.Need-enum-told-4
-enum-told-4 c = search needs
-
 returns : tie.Need-returns
 returns c = let e = ap whole.told (c .before .before .r .given .1) in (given-number e, (given-cell tableSize _ e refl, (given-cell nextFree _ e (c .number .ensures), given-kept ofEntry _ e)))
 
@@ -85,29 +49,7 @@ returns-11 : tie.Need-returns-11
 returns-11 c = let e = ap whole.told (c .enum-told4 .given .1) in (refused-number e, (refused-cell tableSize _ e, (refused-cell nextFree _ e, refused-bare ofEntry _ e)))
 
 pub store-written-spec : {M : Type 1} → statement M
-store-written-spec =
-    tie.close
-    (tie.spec
-    enum-known-r
-    number-requires
-    enum-told
-    enum-known-r-2
-    enum-known-r-3
-    enum-known-r-4
-    enum-known-r-5
-    enum-known-r-6
-    enum-known-r-7
-    enum-told-2
-    enum-told-3
-    enum-told-4
-    returns
-    returns-2
-    returns-3
-    returns-4
-    returns-5
-    returns-6
-    returns-7
-    returns-8
-    returns-9
-    returns-10
-    returns-11)
+store-written-spec = tie.close (tie.spec (λ c. search needs) (λ c κs. search needs) (λ c. search needs)
+    (λ c. search needs) (λ c. search needs) (λ c. search needs) (λ c. search needs) (λ c. search needs)
+    (λ c. search needs) (λ c. search needs) (λ c. search needs) (λ c. search needs) returns returns-2 returns-3
+    returns-4 returns-5 returns-6 returns-7 returns-8 returns-9 returns-10 returns-11)

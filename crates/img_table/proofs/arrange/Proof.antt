@@ -13,40 +13,10 @@ use borrow.Author.Needs.{needs}
 use Rattle.img_table.proofs.arrange.Statement.{statement}
 use Rattle.img_table.proofs.arrange.Tie as tie
 
-fill-sizes-requires : tie.Need-fill-sizes-requires
-fill-sizes-requires c κs = search needs
-
 build-requires : tie.Need-build-requires
 build-requires c κs = let s = c .before .before .before .before .before .before .before .before .before .before .before .before .before .before .before .before .before .before .before .before .before .before .before .before in let a = s .args in let f = c .before .before .before .before .before .before .before .before .before .fill-sizes in
     let S = shareBy (a .start .now) (a .len .now) (a .kind .now) (a .value .now) (a .names .now) in let tab = tableIn (a .sized .now) in let z = f .last .1 .1 .1 .0 in
     roomy S tab z (f .result) (f .ensures .0) (f .ensures .1) (s .pre) refl (lists 65535 (a .left .now) (a .right .now) (a .parent .now) (a .height .now)) (a .key .now) refl refl refl refl refl (f .kept .1 .1 .1 .0)
-
-enum-known-cause : tie.Need-enum-known-cause
-enum-known-cause c = search needs
-
-enum-told : tie.Need-enum-told
-enum-told c = search needs
-
-cast-n : tie.Need-cast-n
-cast-n c = search needs
-
-same-length : tie.Need-same-length
-same-length c = search needs
-
-same-length-2 : tie.Need-same-length-2
-same-length-2 c = search needs
-
-same-length-3 : tie.Need-same-length-3
-same-length-3 c = search needs
-
-same-length-4 : tie.Need-same-length-4
-same-length-4 c = search needs
-
-same-length-5 : tie.Need-same-length-5
-same-length-5 c = search needs
-
-same-length-6 : tie.Need-same-length-6
-same-length-6 c = search needs
 
 returns : tie.Need-returns
 returns c = let s = c .before .before .before .before .before .before .before .before .before .before .before .before .before .before .before .before .before .before .before .before .before .before .before .before .before .before .before .before .before .before .before .before .before .before .before .before .before .before in let a = s .args in let f = c .before .before .before .before .before .before .before .before .before .before .before .before .before .before .before .before .before .before .before .before .before .before .before .fill-sizes in
@@ -94,50 +64,11 @@ preorder-requires c κs = let s = c .before .before .before .before .before .bef
     let hl : f .result ≤ length (T .L) = omega (arith, n, s .pre .l, b .kept .1 .1 .1 .1 .1 .1 .1 .0) in let hr : f .result ≤ length (T .R) = omega (arith, n, s .pre .r, b .kept .1 .1 .1 .1 .1 .1 .1 .1 .0) in
     out-asks S tab z (f .result) (f .ensures .0) (f .ensures .1) T (b .ensures) (c .before .before .before .before .enum-told .given .1) hl hr (length (a .order .now)) (omega (arith, n, s .pre .o))
 
-same-length-7 : tie.Need-same-length-7
-same-length-7 c = search needs
-
-same-length-8 : tie.Need-same-length-8
-same-length-8 c = search needs
-
-same-length-9 : tie.Need-same-length-9
-same-length-9 c = search needs
-
-same-length-10 : tie.Need-same-length-10
-same-length-10 c = search needs
-
-same-length-11 : tie.Need-same-length-11
-same-length-11 c = search needs
-
-same-length-12 : tie.Need-same-length-12
-same-length-12 c = search needs
-
 returns-2 : tie.Need-returns-2
 returns-2 c = let s = c .before .before .before .before .before .before .before .before .before .before .before .before .before .before .before .before .before .before .before .before .before .before .before .before .before .before .before .before .before .before .before .before .before .before .before .before .before .before in let a = s .args in let f = c .before .before .before .before .before .before .before .before .before .before .before .before .before .before .before .before .before .before .before .before .before .before .before .fill-sizes in
     let S = shareBy (a .start .now) (a .len .now) (a .kind .now) (a .value .now) (a .names .now) in let tab = tableIn (a .sized .now) in let z = f .last .1 .1 .1 .0 in
     let b = c .before .before .before .before .before .before .before .before .before .before .before .before .before .build in let T = lists (b .last .1 .1 .1 .1 .1 .1 .0) (b .last .1 .1 .1 .1 .1 .1 .1 .0) (b .last .1 .1 .1 .1 .1 .1 .1 .1 .0) (b .last .1 .1 .1 .1 .1 .1 .1 .1 .1 .0) (b .last .1 .1 .1 .1 .1 .1 .1 .1 .1 .1 .0) in
     out-refused S tab z (f .result) (f .ensures .0) (f .ensures .1) T (b .ensures) (c .before .cause .given .1)
-
-same-length-13 : tie.Need-same-length-13
-same-length-13 c = search needs
-
-same-length-14 : tie.Need-same-length-14
-same-length-14 c = search needs
-
-same-length-15 : tie.Need-same-length-15
-same-length-15 c = search needs
-
-same-length-16 : tie.Need-same-length-16
-same-length-16 c = search needs
-
-same-length-17 : tie.Need-same-length-17
-same-length-17 c = search needs
-
-same-length-18 : tie.Need-same-length-18
-same-length-18 c = search needs
-
-same-length-19 : tie.Need-same-length-19
-same-length-19 c = search needs
 
 returns-3 : tie.Need-returns-3
 returns-3 c = let s = c .before .before .before .before .before .before .before .before .before .before .before .before .before .before .before .before .before .before .before .before .before .before .before .before .before .before .before .before .before .before .before .before .before .before .before .before .before .before .before .before .before .before .before .before in let a = s .args in let f = c .before .before .before .before .before .before .before .before .before .before .before .before .before .before .before .before .before .before .before .before .before .before .before .before .before .before .before .before .before .fill-sizes in
@@ -148,38 +79,10 @@ returns-3 c = let s = c .before .before .before .before .before .before .before 
     out-whole S tab z (f .result) (f .ensures .0) (f .ensures .1) T (b .ensures) (c .before .before .before .before .before .before .before .enum-told .given .1) hl hr (a .order .now) _ (s .pre .o) (c .before .before .before .before .before .before .if1 .left) (c .before .before .preorder .ensures)
 
 pub arrange-spec : {M : Type 1} → statement M
-arrange-spec =
-    tie.close
-    (tie.spec
-    fill-sizes-requires
-    build-requires
-    enum-known-cause
-    enum-told
-    cast-n
-    same-length
-    same-length-2
-    same-length-3
-    same-length-4
-    same-length-5
-    same-length-6
-    returns
-    slice-reshare-prefix-preorder
-    slice-aggregate-preorder
-    slice-reshare-prefix-preorder-2
-    slice-aggregate-preorder-2
-    preorder-requires
-    same-length-7
-    same-length-8
-    same-length-9
-    same-length-10
-    same-length-11
-    same-length-12
-    returns-2
-    same-length-13
-    same-length-14
-    same-length-15
-    same-length-16
-    same-length-17
-    same-length-18
-    same-length-19
-    returns-3)
+arrange-spec = tie.close (tie.spec (λ c κs. search needs) build-requires (λ c. search needs) (λ c. search needs)
+    (λ c. search needs) (λ c. search needs) (λ c. search needs) (λ c. search needs) (λ c. search needs)
+    (λ c. search needs) (λ c. search needs) returns slice-reshare-prefix-preorder slice-aggregate-preorder
+    slice-reshare-prefix-preorder-2 slice-aggregate-preorder-2 preorder-requires (λ c. search needs) (λ c. search needs)
+    (λ c. search needs) (λ c. search needs) (λ c. search needs) (λ c. search needs) returns-2 (λ c. search needs)
+    (λ c. search needs) (λ c. search needs) (λ c. search needs) (λ c. search needs) (λ c. search needs)
+    (λ c. search needs) returns-3)

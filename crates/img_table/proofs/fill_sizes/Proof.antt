@@ -21,74 +21,20 @@ abbrev μ-loop : tie.MeasureT-loop
 loop-holds : tie.Need-loop-holds Inv-loop μ-loop
 loop-holds c = (omega arith, (refl, (let a = c .before .before .before .before .args in ap (λ (k : ℕ). fitting (sizeAt (shareBy [] [] (a .kind .now) (a .value .now) []) (tableIn (a .sized .now))) k 0) {x = length (a .kind .now)} {y = length (a .kind .now) - 0} (omega arith), λ j h. absurd (omega arith))))
 
-shared-slice-read-size-for : tie.Need-shared-slice-read-size-for Inv-loop μ-loop
-shared-slice-read-size-for c = search needs
-
-mul-size-for : tie.Need-mul-size-for Inv-loop μ-loop
-mul-size-for c = search needs
-
-shared-slice-read-size-for-2 : tie.Need-shared-slice-read-size-for-2 Inv-loop μ-loop
-shared-slice-read-size-for-2 c = search needs
-
 size-for-requires : tie.Need-size-for-requires Inv-loop μ-loop
 size-for-requires c κs = c .before .before .before .before .before .before .before .before .pre .known (c .before .before .before .loop .i) (c .before .before .loop-test .taken)
-
-cast-result : tie.Need-cast-result Inv-loop μ-loop
-cast-result c = search needs
-
-same-length : tie.Need-same-length Inv-loop μ-loop
-same-length c = search needs
 
 returns : tie.Need-returns Inv-loop μ-loop
 returns c = (search fit-stop, search needs)
 
-cast-size : tie.Need-cast-size Inv-loop μ-loop
-cast-size c = search needs
-
-mul-size : tie.Need-mul-size Inv-loop μ-loop
-mul-size c = search needs
-
-slice-write-size : tie.Need-slice-write-size Inv-loop μ-loop
-slice-write-size c = search needs
-
-add-i : tie.Need-add-i Inv-loop μ-loop
-add-i c = search needs
-
-loop-less : tie.Need-loop-less Inv-loop μ-loop
-loop-less c = search needs
-
 loop-again : tie.Need-loop-again Inv-loop μ-loop
 loop-again c = (search needs, (simp length-set (search needs), (search fit-next, let a = c .before .before .before .before .before .before .before .before .before .before .args in let l = c .before .before .before .before .before .loop in stored (sizeAt (shareBy [] [] (a .kind .now) (a .value .now) []) (tableIn (a .sized .now))) (l .size) (l .i) _ (c .before .size-for .result) _ (l .inv .1 .1 .1) refl (search needs) (c .before .size-for .ensures) refl)))
-
-cast-result-2 : tie.Need-cast-result-2 Inv-loop μ-loop
-cast-result-2 c = search needs
-
-same-length-2 : tie.Need-same-length-2 Inv-loop μ-loop
-same-length-2 c = search needs
 
 returns-2 : tie.Need-returns-2 Inv-loop μ-loop
 returns-2 c = (search fit-last, search needs)
 
 pub fill-sizes-spec : {M : Type 1} → statement M
-fill-sizes-spec =
-    tie.close
-    (tie.spec
-    Inv-loop
-    μ-loop
-    loop-holds
-    shared-slice-read-size-for
-    mul-size-for
-    shared-slice-read-size-for-2
-    size-for-requires
-    cast-result
-    same-length
-    returns
-    cast-size
-    mul-size
-    slice-write-size
-    add-i
-    loop-less
-    loop-again
-    cast-result-2
-    same-length-2
-    returns-2)
+fill-sizes-spec = tie.close (tie.spec Inv-loop μ-loop loop-holds (λ c. search needs) (λ c. search needs)
+    (λ c. search needs) size-for-requires (λ c. search needs) (λ c. search needs) returns (λ c. search needs)
+    (λ c. search needs) (λ c. search needs) (λ c. search needs) (λ c. search needs) loop-again (λ c. search needs)
+    (λ c. search needs) returns-2)

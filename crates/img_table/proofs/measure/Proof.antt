@@ -23,32 +23,11 @@ returns c = search no-size
 loop-holds : tie.Need-loop-holds Inv-loop μ-loop
 loop-holds c = (omega arith, (omega arith, refl))
 
-mul-index-in : tie.Need-mul-index-in Inv-loop μ-loop
-mul-index-in c = search needs
-
-shared-slice-read-index-in : tie.Need-shared-slice-read-index-in Inv-loop μ-loop
-shared-slice-read-index-in c = search needs
-
-index-in-requires : tie.Need-index-in-requires Inv-loop μ-loop
-index-in-requires c κs = search needs
-
-mul-length-for : tie.Need-mul-length-for Inv-loop μ-loop
-mul-length-for c = search needs
-
 shared-slice-read-length-for : tie.Need-shared-slice-read-length-for Inv-loop μ-loop
 shared-slice-read-length-for c = search in-at
 
 length-for-requires : tie.Need-length-for-requires Inv-loop μ-loop
 length-for-requires c κs = search short-at
-
-stop-after-requires : tie.Need-stop-after-requires Inv-loop μ-loop
-stop-after-requires c κs = search needs
-
-add-k : tie.Need-add-k Inv-loop μ-loop
-add-k c = search needs
-
-loop-less : tie.Need-loop-less Inv-loop μ-loop
-loop-less c = search needs
 
 loop-again : tie.Need-loop-again Inv-loop μ-loop
 loop-again c = (search needs, (search end-most, search end-next))
@@ -57,21 +36,6 @@ returns-2 : tie.Need-returns-2 Inv-loop μ-loop
 returns-2 c = search end-last
 
 pub measure-spec : {M : Type 1} → statement M
-measure-spec =
-    tie.close
-    (tie.spec
-    Inv-loop
-    μ-loop
-    returns
-    loop-holds
-    mul-index-in
-    shared-slice-read-index-in
-    index-in-requires
-    mul-length-for
-    shared-slice-read-length-for
-    length-for-requires
-    stop-after-requires
-    add-k
-    loop-less
-    loop-again
-    returns-2)
+measure-spec = tie.close (tie.spec Inv-loop μ-loop returns loop-holds (λ c. search needs) (λ c. search needs)
+    (λ c κs. search needs) (λ c. search needs) shared-slice-read-length-for length-for-requires (λ c κs. search needs)
+    (λ c. search needs) (λ c. search needs) loop-again returns-2)
