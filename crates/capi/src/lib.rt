@@ -4,6 +4,8 @@
 // unchanged (capi_cells/specs/Cells.antt). Each contract says so by the definition that the like-named operation of `xdvdfs` has: the number, each cell and each lent slice is an equation.
 // No function asks anything of its caller beyond what every call from C does: pointers to as many elements as the length says, and no two that overlap.
 //
+// `was x`, `is x`, `m .entry` and `m .exit` are as in `xdvdfs`: at the call, and at the return.
+//
 // Each function makes the call, and a `store_` function of `capi_cells` puts the answer where it belongs.
 use capi_cells::number_of_written;
 use capi_cells::store_added;

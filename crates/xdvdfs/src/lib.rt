@@ -3,6 +3,9 @@
 //
 // A contract `told r ≡ D` says that the answer r stands for what the definition D gives: `gives X`, or `refuses NUMBER VALUES`. The definitions are in the
 // specs/ of the crate that is named in each `ghost use`.
+//
+// `was x` is what the parameter x holds at the call, `is x` what it holds at the return. Where many columns are lent, a
+// contract names them as one value: `let m = memory ..`, of which `m .entry` is all of it at the call, `m .exit` at the return.
 pub use dirtab::Serialised;
 pub use dirtab_add::Added;
 pub use dirtab_arena::Held;
