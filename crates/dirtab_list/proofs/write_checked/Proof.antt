@@ -11,18 +11,6 @@ use borrow.Author.Needs.{needs}
 use Rattle.dirtab_list.proofs.write_checked.Statement.{statement}
 use Rattle.dirtab_list.proofs.write_checked.Tie as tie
 
-build-requires : tie.Need-build-requires
-build-requires c κs = search needs
-
-enum-known-cause : tie.Need-enum-known-cause
-enum-known-cause c = search needs
-
-refuse-requires : tie.Need-refuse-requires
-refuse-requires c κs = search needs
-
-enum-told : tie.Need-enum-told
-enum-told c = search needs
-
 write-built-requires : tie.Need-write-built-requires
 write-built-requires c κs = let s = c .before .before .before .before .before .before .before .before .before .before .before .before .before .before .before .before .before .before .before .before .before .before .before .before .before .before .before .before .before .before .before .before .before .before .before .before .before in let a = s .args in let k = c .before .before .before .before .before .before .before .before .before .before .before .before .before .before .before .before .before .build in let L = listing (a .count) (a .start .now) (a .len .now) (a .size .now) (a .kind .now) (a .names .now) in
     let g = grow (a .names .now) (givenIn L) (a .count) in let N = names (a .names .now) (a .start .now) (a .len .now) in
@@ -30,51 +18,12 @@ write-built-requires c κs = let s = c .before .before .before .before .before .
     let w = was-done g S N (a .count) (c .before .before .before .before .before .enum-told .given .1) (k .ensures) in
     (w .grown .low, ((w .t, rooted-of L S w (λ j. omega (arith, c .before .before .before .before .before .before .before .before .before .before .before .before .before .before .before .before .before .before .before .before .before .before .before .before .before .before .before .before .before .before .before .before .before .before .shared-slice-known3 .given j)) (s .pre .0 .size) (s .pre .0 .kind) (omega (arith, s .pre .0 .l, k .kept .1 .1 .1 .1 .1 .1 .1 .0)) (omega (arith, s .pre .0 .r, k .kept .1 .1 .1 .1 .1 .1 .1 .1 .0))), s .pre .1))
 
-same-length : tie.Need-same-length
-same-length c = search needs
-
-same-length-2 : tie.Need-same-length-2
-same-length-2 c = search needs
-
-same-length-3 : tie.Need-same-length-3
-same-length-3 c = search needs
-
-same-length-4 : tie.Need-same-length-4
-same-length-4 c = search needs
-
-same-length-5 : tie.Need-same-length-5
-same-length-5 c = search needs
-
 returns : tie.Need-returns
 returns c = let s = c .before .before .before .before .before .before .before .before .before .before .before .before .before .before .before .before .before .before .before .before .before .before .before .before .before .before .before .before .before .before .before .before .before .before in let a = s .args in let k = c .before .before .before .before .before .before .before .before .before .before .before .before .before .before .build in let L = listing (a .count) (a .start .now) (a .len .now) (a .size .now) (a .kind .now) (a .names .now) in
     let g = grow (a .names .now) (givenIn L) (a .count) in let N = names (a .names .now) (a .start .now) (a .len .now) in
     let S = (lists (k .last .1 .1 .1 .1 .1 .1 .0) (k .last .1 .1 .1 .1 .1 .1 .1 .0) (k .last .1 .1 .1 .1 .1 .1 .1 .1 .0) (k .last .1 .1 .1 .1 .1 .1 .1 .1 .1 .0) (k .last .1 .1 .1 .1 .1 .1 .1 .1 .1 .1 .0)) in
     let e = was-refused g S N (a .count) (c .before .before .cause .given .1) (k .ensures) in
     (c .refuse .ensures ∙ refused-answer L (a .first .0) (a .out .now) e, refused-out L (a .first .0) (a .out .now) e)
-
-same-length-6 : tie.Need-same-length-6
-same-length-6 c = search needs
-
-same-length-7 : tie.Need-same-length-7
-same-length-7 c = search needs
-
-same-length-8 : tie.Need-same-length-8
-same-length-8 c = search needs
-
-same-length-9 : tie.Need-same-length-9
-same-length-9 c = search needs
-
-same-length-10 : tie.Need-same-length-10
-same-length-10 c = search needs
-
-same-length-11 : tie.Need-same-length-11
-same-length-11 c = search needs
-
-same-length-12 : tie.Need-same-length-12
-same-length-12 c = search needs
-
-same-length-13 : tie.Need-same-length-13
-same-length-13 c = search needs
 
 returns-2 : tie.Need-returns-2
 returns-2 c = let s = c .before .before .before .before .before .before .before .before .before .before .before .before .before .before .before .before .before .before .before .before .before .before .before .before .before .before .before .before .before .before .before .before .before .before .before .before .before .before .before .before .before .before .before .before in let a = s .args in let k = c .before .before .before .before .before .before .before .before .before .before .before .before .before .before .before .before .before .before .before .before .before .before .before .before .build in let L = listing (a .count) (a .start .now) (a .len .now) (a .size .now) (a .kind .now) (a .names .now) in
@@ -86,26 +35,7 @@ returns-2 c = let s = c .before .before .before .before .before .before .before 
     (b .ensures .0 (w .t) h ∙ written-answer L (a .first .0) (a .out .now) (w .told), b .ensures .1 (w .t) h ∙ written-out L (a .first .0) (a .out .now) (w .told))
 
 pub write-checked-spec : {M : Type 1} → statement M
-write-checked-spec =
-    tie.close
-    (tie.spec
-    build-requires
-    enum-known-cause
-    refuse-requires
-    enum-told
-    write-built-requires
-    same-length
-    same-length-2
-    same-length-3
-    same-length-4
-    same-length-5
-    returns
-    same-length-6
-    same-length-7
-    same-length-8
-    same-length-9
-    same-length-10
-    same-length-11
-    same-length-12
-    same-length-13
-    returns-2)
+write-checked-spec = tie.close (tie.spec (λ c κs. search needs) (λ c. search needs) (λ c κs. search needs)
+    (λ c. search needs) write-built-requires (λ c. search needs) (λ c. search needs) (λ c. search needs)
+    (λ c. search needs) (λ c. search needs) returns (λ c. search needs) (λ c. search needs) (λ c. search needs)
+    (λ c. search needs) (λ c. search needs) (λ c. search needs) (λ c. search needs) (λ c. search needs) returns-2)

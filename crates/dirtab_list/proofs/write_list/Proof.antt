@@ -7,15 +7,6 @@ use borrow.Author.Needs.{needs}
 use Rattle.dirtab_list.proofs.write_list.Statement.{statement}
 use Rattle.dirtab_list.proofs.write_list.Tie as tie
 
-measure-requires : tie.Need-measure-requires
-measure-requires c κs = search needs
-
-widen-requires : tie.Need-widen-requires
-widen-requires c κs = search needs
-
-have-places-requires : tie.Need-have-places-requires
-have-places-requires c κs = search needs
-
 write-checked-requires : tie.Need-write-checked-requires
 write-checked-requires c κs =
     let s = c .before .before .before .before .before .before .before .before .before .before .before .before .before .before .before .before .before .before .before .before .before .before .before .before .before .before .before .before .before .before .before .before in
@@ -24,36 +15,6 @@ write-checked-requires c κs =
     let n = shortest (a .left .now) (a .right .now) (a .parent .now) (a .height .now) (a .key .now) (a .order .now) (a .place .now) in
     let e = places-are L n (c .before .before .before .before .before .before .before .before .before .before .widen .ensures) (c .before .before .before .before .before .before .before .before .before .before .before .measure .ensures) (c .before .before .before .before .before .before .before .before .before .have-places .ensures) (c .before .before .before .before .before .before .before .before .if1 .taken) in
     roomy-of L (a .left .now) (a .right .now) (a .parent .now) (a .height .now) (a .key .now) (a .order .now) (a .place .now) e
-
-clear-three-requires : tie.Need-clear-three-requires
-clear-three-requires c κs = search needs
-
-clear-four-requires : tie.Need-clear-four-requires
-clear-four-requires c κs = search needs
-
-same-length : tie.Need-same-length
-same-length c = search needs
-
-same-length-2 : tie.Need-same-length-2
-same-length-2 c = search needs
-
-same-length-3 : tie.Need-same-length-3
-same-length-3 c = search needs
-
-same-length-4 : tie.Need-same-length-4
-same-length-4 c = search needs
-
-same-length-5 : tie.Need-same-length-5
-same-length-5 c = search needs
-
-same-length-6 : tie.Need-same-length-6
-same-length-6 c = search needs
-
-same-length-7 : tie.Need-same-length-7
-same-length-7 c = search needs
-
-same-length-8 : tie.Need-same-length-8
-same-length-8 c = search needs
 
 returns : tie.Need-returns
 returns c =
@@ -75,27 +36,6 @@ returns c =
           (k .ensures .1 ∙ whole-out L n (a .first .0) (a .out .now) e),
     )
 
-same-length-9 : tie.Need-same-length-9
-same-length-9 c = search needs
-
-same-length-10 : tie.Need-same-length-10
-same-length-10 c = search needs
-
-same-length-11 : tie.Need-same-length-11
-same-length-11 c = search needs
-
-same-length-12 : tie.Need-same-length-12
-same-length-12 c = search needs
-
-same-length-13 : tie.Need-same-length-13
-same-length-13 c = search needs
-
-same-length-14 : tie.Need-same-length-14
-same-length-14 c = search needs
-
-same-length-15 : tie.Need-same-length-15
-same-length-15 c = search needs
-
 returns-2 : tie.Need-returns-2
 returns-2 c =
     let s = c .before .before .before .before .before .before .before .before .before .before .before .before .before .before .before .before .before .before .before .before .before .before .before .before in
@@ -106,29 +46,8 @@ returns-2 c =
     (short-answer L n (a .first .0) _ e, short-lent L (a .first .0) (lent (a .left .now) (a .right .now) (a .parent .now) (a .height .now) (a .key .now) (a .order .now) (a .place .now) (a .out .now)) e)
 
 pub write-list-spec : {M : Type 1} → statement M
-write-list-spec =
-    tie.close
-    (tie.spec
-    measure-requires
-    widen-requires
-    have-places-requires
-    write-checked-requires
-    clear-three-requires
-    clear-four-requires
-    same-length
-    same-length-2
-    same-length-3
-    same-length-4
-    same-length-5
-    same-length-6
-    same-length-7
-    same-length-8
-    returns
-    same-length-9
-    same-length-10
-    same-length-11
-    same-length-12
-    same-length-13
-    same-length-14
-    same-length-15
-    returns-2)
+write-list-spec = tie.close (tie.spec (λ c κs. search needs) (λ c κs. search needs) (λ c κs. search needs)
+    write-checked-requires (λ c κs. search needs) (λ c κs. search needs) (λ c. search needs) (λ c. search needs)
+    (λ c. search needs) (λ c. search needs) (λ c. search needs) (λ c. search needs) (λ c. search needs)
+    (λ c. search needs) returns (λ c. search needs) (λ c. search needs) (λ c. search needs) (λ c. search needs)
+    (λ c. search needs) (λ c. search needs) (λ c. search needs) returns-2)
