@@ -6,11 +6,8 @@ use borrow.Author.Needs.{needs}
 use Rattle.capi.proofs.region_of.Statement.{statement}
 use Rattle.capi.proofs.region_of.Tie as tie
 
-new-requires : tie.Need-new-requires
-new-requires c κs = search needs
-
 returns : tie.Need-returns
 returns c = ap (λ (n : ℕ). regionOf n (c .before .args .size)) (c .new .ensures)
 
 pub region-of-spec : {M : Type 1} → statement M
-region-of-spec = tie.close (tie.spec new-requires returns)
+region-of-spec = tie.close (tie.spec (λ c κs. search needs) returns)

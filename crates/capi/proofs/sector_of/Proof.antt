@@ -5,11 +5,8 @@ use borrow.Author.Needs.{needs}
 use Rattle.capi.proofs.sector_of.Statement.{statement}
 use Rattle.capi.proofs.sector_of.Tie as tie
 
-new-requires : tie.Need-new-requires
-new-requires c κs = search needs
-
 returns : tie.Need-returns
 returns c = ap sectorOf (c .new .ensures)
 
 pub sector-of-spec : {M : Type 1} → statement M
-sector-of-spec = tie.close (tie.spec new-requires returns)
+sector-of-spec = tie.close (tie.spec (λ c κs. search needs) returns)

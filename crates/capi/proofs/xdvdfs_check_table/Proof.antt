@@ -11,24 +11,6 @@ use borrow.Author.Needs.{needs}
 use Rattle.capi.proofs.xdvdfs_check_table.Statement.{statement}
 use Rattle.capi.proofs.xdvdfs_check_table.Tie as tie
 
-sector-of-requires : tie.Need-sector-of-requires
-sector-of-requires c κs = search needs
-
-region-of-requires : tie.Need-region-of-requires
-region-of-requires c κs = search needs
-
-check-table-requires : tie.Need-check-table-requires
-check-table-requires c κs = search needs
-
-store-checked-requires : tie.Need-store-checked-requires
-store-checked-requires c κs = search needs
-
-same-length : tie.Need-same-length
-same-length c = search needs
-
-same-length-2 : tie.Need-same-length-2
-same-length-2 c = search needs
-
 returns : tie.Need-returns
 returns c =
     let a = c .before .before .before .before .before .before .before .before .before .before .before .before .before .before .before .args in
@@ -38,13 +20,5 @@ returns c =
     (number-by e (s .0), (given-by itself _ e (s .1 .0), (refusal-by atFault _ e (s .1 .1), (k .1 .0 ∙ at-table (λ (s : Sector) (t : Region). checking.listAfter (a .w .now) s t (a .list .now) (length (a .scratch .now))) (c .before .before .before .before .before .before .before .before .before .before .before .sector-of .ensures) (c .before .before .before .before .before .before .before .before .before .before .region-of .ensures), k .1 .1))))
 
 pub xdvdfs-check-table-spec : {M : Type 1} → statement M
-xdvdfs-check-table-spec =
-    tie.close
-    (tie.spec
-    sector-of-requires
-    region-of-requires
-    check-table-requires
-    store-checked-requires
-    same-length
-    same-length-2
-    returns)
+xdvdfs-check-table-spec = tie.close (tie.spec (λ c κs. search needs) (λ c κs. search needs) (λ c κs. search needs)
+    (λ c κs. search needs) (λ c. search needs) (λ c. search needs) returns)

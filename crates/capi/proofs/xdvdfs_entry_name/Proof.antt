@@ -8,16 +8,10 @@ use borrow.Author.Needs.{needs}
 use Rattle.capi.proofs.xdvdfs_entry_name.Statement.{statement}
 use Rattle.capi.proofs.xdvdfs_entry_name.Tie as tie
 
-name-start-requires : tie.Need-name-start-requires
-name-start-requires c κs = search needs
-
-entry-name-requires : tie.Need-entry-name-requires
-entry-name-requires c κs = search needs
-
 returns : tie.Need-returns
 returns c =
     let a = c .before .before .before .args in
     (c .before .name-start .ensures, (ap (λ (r : List ℕ). length r) (c .entry-name .ensures), name-is (a .w .now) (a .place) (a .n) _ _ (c .entry-name .ensures) (c .before .name-start .ensures)))
 
 pub xdvdfs-entry-name-spec : {M : Type 1} → statement M
-xdvdfs-entry-name-spec = tie.close (tie.spec name-start-requires entry-name-requires returns)
+xdvdfs-entry-name-spec = tie.close (tie.spec (λ c κs. search needs) (λ c κs. search needs) returns)

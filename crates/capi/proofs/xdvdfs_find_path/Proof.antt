@@ -10,18 +10,6 @@ use borrow.Author.Needs.{needs}
 use Rattle.capi.proofs.xdvdfs_find_path.Statement.{statement}
 use Rattle.capi.proofs.xdvdfs_find_path.Tie as tie
 
-sector-of-requires : tie.Need-sector-of-requires
-sector-of-requires c κs = search needs
-
-region-of-requires : tie.Need-region-of-requires
-region-of-requires c κs = search needs
-
-find-path-requires : tie.Need-find-path-requires
-find-path-requires c κs = search needs
-
-store-path-requires : tie.Need-store-path-requires
-store-path-requires c κs = search needs
-
 returns : tie.Need-returns
 returns c =
     let a = c .before .before .before .before .before .before .before .before .before .args in
@@ -30,6 +18,5 @@ returns c =
     (number-by e (s .0), (given-by placedFields _ e (s .1 .0), (given-by placedAt _ e (s .1 .1 .0), refusal-by atOffset _ e (s .1 .1 .1))))
 
 pub xdvdfs-find-path-spec : {M : Type 1} → statement M
-xdvdfs-find-path-spec =
-    tie.close
-    (tie.spec sector-of-requires region-of-requires find-path-requires store-path-requires returns)
+xdvdfs-find-path-spec = tie.close (tie.spec (λ c κs. search needs) (λ c κs. search needs) (λ c κs. search needs)
+    (λ c κs. search needs) returns)

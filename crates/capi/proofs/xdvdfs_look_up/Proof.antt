@@ -10,18 +10,6 @@ use borrow.Author.Needs.{needs}
 use Rattle.capi.proofs.xdvdfs_look_up.Statement.{statement}
 use Rattle.capi.proofs.xdvdfs_look_up.Tie as tie
 
-sector-of-requires : tie.Need-sector-of-requires
-sector-of-requires c κs = search needs
-
-region-of-requires : tie.Need-region-of-requires
-region-of-requires c κs = search needs
-
-look-up-requires : tie.Need-look-up-requires
-look-up-requires c κs = search needs
-
-store-looked-requires : tie.Need-store-looked-requires
-store-looked-requires c κs = search needs
-
 returns : tie.Need-returns
 returns c =
     let a = c .before .before .before .before .before .before .before .before .before .before .args in
@@ -30,6 +18,5 @@ returns c =
     (number-by e (s .0), (given-by foundFields _ e (s .1 .0), (given-by foundPlace _ e (s .1 .1 .0), (both-by foundOffset atOffset _ e (s .1 .1 .1 .0), both-by foundHeaders afterHeaders _ e (s .1 .1 .1 .1)))))
 
 pub xdvdfs-look-up-spec : {M : Type 1} → statement M
-xdvdfs-look-up-spec =
-    tie.close
-    (tie.spec sector-of-requires region-of-requires look-up-requires store-looked-requires returns)
+xdvdfs-look-up-spec = tie.close (tie.spec (λ c κs. search needs) (λ c κs. search needs) (λ c κs. search needs)
+    (λ c κs. search needs) returns)

@@ -5,12 +5,6 @@ use borrow.Author.Needs.{needs}
 use Rattle.capi.proofs.xdvdfs_read_descriptor.Statement.{statement}
 use Rattle.capi.proofs.xdvdfs_read_descriptor.Tie as tie
 
-read-descriptor-requires : tie.Need-read-descriptor-requires
-read-descriptor-requires c κs = search needs
-
-store-descriptor-requires : tie.Need-store-descriptor-requires
-store-descriptor-requires c κs = search needs
-
 returns : tie.Need-returns
 returns c =
     let e = c .before .before .before .read-descriptor .ensures in
@@ -18,5 +12,4 @@ returns c =
     (number-by e (s .0), (given-by rootSector _ e (s .1 .0), given-by rootSize _ e (s .1 .1)))
 
 pub xdvdfs-read-descriptor-spec : {M : Type 1} → statement M
-xdvdfs-read-descriptor-spec =
-    tie.close (tie.spec read-descriptor-requires store-descriptor-requires returns)
+xdvdfs-read-descriptor-spec = tie.close (tie.spec (λ c κs. search needs) (λ c κs. search needs) returns)

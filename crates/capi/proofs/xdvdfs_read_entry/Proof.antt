@@ -12,21 +12,6 @@ use borrow.Author.Needs.{needs}
 use Rattle.capi.proofs.xdvdfs_read_entry.Statement.{statement}
 use Rattle.capi.proofs.xdvdfs_read_entry.Tie as tie
 
-sector-of-requires : tie.Need-sector-of-requires
-sector-of-requires c κs = search needs
-
-region-of-requires : tie.Need-region-of-requires
-region-of-requires c κs = search needs
-
-new-requires : tie.Need-new-requires
-new-requires c κs = search needs
-
-read-entry-requires : tie.Need-read-entry-requires
-read-entry-requires c κs = search needs
-
-store-entry-requires : tie.Need-store-entry-requires
-store-entry-requires c κs = search needs
-
 returns : tie.Need-returns
 returns c =
     let a = c .before .before .before .before .before .before .before .before .before .args in
@@ -35,12 +20,5 @@ returns c =
     (number-by e (s .0), (given-by isSome _ e (s .1 .0), (some-by placedFields _ e (s .1 .1 .0), some-by placedAt _ e (s .1 .1 .1))))
 
 pub xdvdfs-read-entry-spec : {M : Type 1} → statement M
-xdvdfs-read-entry-spec =
-    tie.close
-    (tie.spec
-    sector-of-requires
-    region-of-requires
-    new-requires
-    read-entry-requires
-    store-entry-requires
-    returns)
+xdvdfs-read-entry-spec = tie.close (tie.spec (λ c κs. search needs) (λ c κs. search needs) (λ c κs. search needs)
+    (λ c κs. search needs) (λ c κs. search needs) returns)

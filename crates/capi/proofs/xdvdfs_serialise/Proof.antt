@@ -10,24 +10,6 @@ use borrow.Author.Needs.{needs}
 use Rattle.capi.proofs.xdvdfs_serialise.Statement.{statement}
 use Rattle.capi.proofs.xdvdfs_serialise.Tie as tie
 
-sector-of-requires : tie.Need-sector-of-requires
-sector-of-requires c κs = search needs
-
-serialise-requires : tie.Need-serialise-requires
-serialise-requires c κs = search needs
-
-store-serialised-requires : tie.Need-store-serialised-requires
-store-serialised-requires c κs = search needs
-
-same-length : tie.Need-same-length
-same-length c = search needs
-
-same-length-2 : tie.Need-same-length-2
-same-length-2 c = search needs
-
-same-length-3 : tie.Need-same-length-3
-same-length-3 c = search needs
-
 returns : tie.Need-returns
 returns c =
     let a = c .before .before .before .before .before .before .before .before .before .before .before .before .before .before .before .before .before .before .before .before .before .before .before .before .before .before .args in
@@ -40,13 +22,5 @@ returns c =
     (number-by e (s .0), (given-by tableSize _ e (s .1 .0), (given-by nextFree _ e (s .1 .1), k .1 ∙ ap (λ (n : ℕ). serialising.lentAfter A n m) f)))
 
 pub xdvdfs-serialise-spec : {M : Type 1} → statement M
-xdvdfs-serialise-spec =
-    tie.close
-    (tie.spec
-    sector-of-requires
-    serialise-requires
-    store-serialised-requires
-    same-length
-    same-length-2
-    same-length-3
-    returns)
+xdvdfs-serialise-spec = tie.close (tie.spec (λ c κs. search needs) (λ c κs. search needs) (λ c κs. search needs)
+    (λ c. search needs) (λ c. search needs) (λ c. search needs) returns)

@@ -9,18 +9,6 @@ use borrow.Author.Needs.{needs}
 use Rattle.capi.proofs.xdvdfs_take_sectors.Statement.{statement}
 use Rattle.capi.proofs.xdvdfs_take_sectors.Tie as tie
 
-sector-of-requires : tie.Need-sector-of-requires
-sector-of-requires c κs = search needs
-
-starting-at-requires : tie.Need-starting-at-requires
-starting-at-requires c κs = search needs
-
-take-requires : tie.Need-take-requires
-take-requires c κs = search needs
-
-store-taken-requires : tie.Need-store-taken-requires
-store-taken-requires c κs = search needs
-
 returns : tie.Need-returns
 returns c =
     let a = c .before .before .before .before .before .before .before .args in
@@ -29,6 +17,5 @@ returns c =
     (number-by e (s .0), (given-by runFree _ e (s .1 .0), given-by runStart _ e (s .1 .1)))
 
 pub xdvdfs-take-sectors-spec : {M : Type 1} → statement M
-xdvdfs-take-sectors-spec =
-    tie.close
-    (tie.spec sector-of-requires starting-at-requires take-requires store-taken-requires returns)
+xdvdfs-take-sectors-spec = tie.close (tie.spec (λ c κs. search needs) (λ c κs. search needs) (λ c κs. search needs)
+    (λ c κs. search needs) returns)

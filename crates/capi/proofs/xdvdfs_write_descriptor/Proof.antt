@@ -7,18 +7,6 @@ use borrow.Author.Needs.{needs}
 use Rattle.capi.proofs.xdvdfs_write_descriptor.Statement.{statement}
 use Rattle.capi.proofs.xdvdfs_write_descriptor.Tie as tie
 
-region-of-requires : tie.Need-region-of-requires
-region-of-requires c κs = search needs
-
-write-descriptor-requires : tie.Need-write-descriptor-requires
-write-descriptor-requires c κs = search needs
-
-number-of-written-requires : tie.Need-number-of-written-requires
-number-of-written-requires c κs = search needs
-
-same-length : tie.Need-same-length
-same-length c = search needs
-
 returns : tie.Need-returns
 returns c =
     let a = c .before .before .before .before .before .before .before .args in
@@ -26,11 +14,5 @@ returns c =
     (number-by (k .0) (c .number-of-written .ensures), k .1 ∙ ap (λ (r : Region). volume.bytesAfter (a .out .now) (record { root = r })) (c .before .before .before .before .before .region-of .ensures))
 
 pub xdvdfs-write-descriptor-spec : {M : Type 1} → statement M
-xdvdfs-write-descriptor-spec =
-    tie.close
-    (tie.spec
-    region-of-requires
-    write-descriptor-requires
-    number-of-written-requires
-    same-length
-    returns)
+xdvdfs-write-descriptor-spec = tie.close (tie.spec (λ c κs. search needs) (λ c κs. search needs) (λ c κs. search needs)
+    (λ c. search needs) returns)

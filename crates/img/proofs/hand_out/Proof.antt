@@ -5,29 +5,11 @@ use Rattle.img.proofs.Handing.{widened, too-many-out, too-far-out, take
 use Rattle.img.proofs.hand_out.Statement.{statement}
 use Rattle.img.proofs.hand_out.Tie as tie
 
-check-tables-requires : tie.Need-check-tables-requires
-check-tables-requires c κs = search needs
-
-enum-known-d : tie.Need-enum-known-d
-enum-known-d c = search needs
-
-enum-known-d-2 : tie.Need-enum-known-d-2
-enum-known-d-2 c = search needs
-
-enum-known-free : tie.Need-enum-known-free
-enum-known-free c = search needs
-
-copy-words-requires : tie.Need-copy-words-requires
-copy-words-requires c κs = search needs
-
 take-tables-requires : tie.Need-take-tables-requires
 take-tables-requires c κs =
     let k = c .before .before .before .before .before .before .before .before .before .before .before .before in
     let s = k .before .before .before .before .before .before .before .before .before .before .before .before in
     ((widened (s .pre .0 .0) (search needs), taken _ _ (k .check-tables .ensures (s .pre .0 .0) (s .args .tables .now) (s .args .sectors .now)) [] _ (c .before .before .before .before .before .before .before .before .free .given .1)), search needs)
-
-same-length : tie.Need-same-length
-same-length c = search needs
 
 returns : tie.Need-returns
 returns c = λ w.
@@ -35,26 +17,11 @@ returns c = λ w.
     let s = k .before .before .before .before .before .before .before .before .before .before .before .before in
     too-many-out _ _ (k .check-tables .ensures w (s .args .tables .now) (s .args .sectors .now)) _ _ _ _ _ (c .before .d .given .1)
 
-same-length-2 : tie.Need-same-length-2
-same-length-2 c = search needs
-
 returns-2 : tie.Need-returns-2
 returns-2 c = λ w.
     let k = c .before .before .before .before .before in
     let s = k .before .before .before .before .before .before .before .before .before .before .before .before in
     too-far-out _ _ (k .check-tables .ensures w (s .args .tables .now) (s .args .sectors .now)) _ _ _ _ _ (c .before .d2 .given .1)
-
-same-length-3 : tie.Need-same-length-3
-same-length-3 c = search needs
-
-same-length-4 : tie.Need-same-length-4
-same-length-4 c = search needs
-
-same-length-5 : tie.Need-same-length-5
-same-length-5 c = search needs
-
-same-length-6 : tie.Need-same-length-6
-same-length-6 c = search needs
 
 returns-3 : tie.Need-returns-3
 returns-3 c = λ w.
@@ -64,21 +31,6 @@ returns-3 c = λ w.
     (c .before .before .before .before .before .before .take-tables .ensures (widened w (search needs)))
 
 pub hand-out-spec : {M : Type 1} → statement M
-hand-out-spec =
-    tie.close
-    (tie.spec
-    check-tables-requires
-    enum-known-d
-    enum-known-d-2
-    enum-known-free
-    copy-words-requires
-    take-tables-requires
-    same-length
-    returns
-    same-length-2
-    returns-2
-    same-length-3
-    same-length-4
-    same-length-5
-    same-length-6
-    returns-3)
+hand-out-spec = tie.close (tie.spec (λ c κs. search needs) (λ c. search needs) (λ c. search needs) (λ c. search needs)
+    (λ c κs. search needs) take-tables-requires (λ c. search needs) returns (λ c. search needs) returns-2
+    (λ c. search needs) (λ c. search needs) (λ c. search needs) (λ c. search needs) returns-3)

@@ -18,12 +18,8 @@ slice-aggregate-fit-shares c =
     let s = c .before .before .before .before in
     sym (length-take-le (s .args .directories) (s .args .share .now) (omega (arith, s .pre)))
 
-fit-shares-requires : tie.Need-fit-shares-requires
-fit-shares-requires c κs = search needs
-
 returns-3 : tie.Need-returns-3
 returns-3 c = search enough-of-both
 
 pub have-room-spec : {M : Type 1} → statement M
-have-room-spec =
-    tie.close (tie.spec returns returns-2 slice-aggregate-fit-shares fit-shares-requires returns-3)
+have-room-spec = tie.close (tie.spec returns returns-2 slice-aggregate-fit-shares (λ c κs. search needs) returns-3)

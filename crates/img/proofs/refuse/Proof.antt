@@ -4,24 +4,6 @@ use Rattle.img.proofs.Causes.{as-caused}
 use Rattle.img.proofs.refuse.Statement.{statement}
 use Rattle.img.proofs.refuse.Tie as tie
 
-enum-told : tie.Need-enum-told
-enum-told c = search needs
-
-enum-told-2 : tie.Need-enum-told-2
-enum-told-2 c = search needs
-
-enum-told-3 : tie.Need-enum-told-3
-enum-told-3 c = search needs
-
-enum-told-4 : tie.Need-enum-told-4
-enum-told-4 c = search needs
-
-enum-told-5 : tie.Need-enum-told-5
-enum-told-5 c = search needs
-
-enum-told-6 : tie.Need-enum-told-6
-enum-told-6 c = search needs
-
 returns : tie.Need-returns
 returns c = as-caused _ _ _ (c .enum-told .given .1)
 
@@ -41,18 +23,5 @@ returns-6 : tie.Need-returns-6
 returns-6 c = as-caused _ _ _ (c .enum-told6 .given .1)
 
 pub refuse-spec : {M : Type 1} → statement M
-refuse-spec =
-    tie.close
-    (tie.spec
-    enum-told
-    enum-told-2
-    enum-told-3
-    enum-told-4
-    enum-told-5
-    enum-told-6
-    returns
-    returns-2
-    returns-3
-    returns-4
-    returns-5
-    returns-6)
+refuse-spec = tie.close (tie.spec (λ c. search needs) (λ c. search needs) (λ c. search needs) (λ c. search needs)
+    (λ c. search needs) (λ c. search needs) returns returns-2 returns-3 returns-4 returns-5 returns-6)

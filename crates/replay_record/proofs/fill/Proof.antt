@@ -6,9 +6,6 @@ use lib.ListN.{length}
 use borrow.Author.Needs.{needs}
 use Rattle.replay_record.proofs.fill.Statement.{statement}
 use Rattle.replay_record.proofs.fill.Tie as tie
-use Rattle.replay_record.proofs.fill.Reads as reads
-use Rattle.replay_record.proofs.fill.Lts as lts
-use Rattle.replay_record.proofs.number_at.Reads as number-at-reads
 
 abbrev Inv-loop : tie.InvT-loop
 Inv-loop s at to₀ i₀ to i = length to ≡ length to₀
@@ -16,53 +13,7 @@ Inv-loop s at to₀ i₀ to i = length to ≡ length to₀
 abbrev μ-loop : tie.MeasureT-loop
 μ-loop s at to₀ i₀ to i = length to₀ - i
 
-loop-holds : tie.Need-loop-holds Inv-loop μ-loop
-loop-holds c = search needs
-
-mul-number-at : tie.Need-mul-number-at Inv-loop μ-loop
-mul-number-at c = search needs
-
-add-number-at : tie.Need-add-number-at Inv-loop μ-loop
-add-number-at c = search needs
-
-number-at-requires : tie.Need-number-at-requires Inv-loop μ-loop
-number-at-requires c κs = search needs
-
-mul-to : tie.Need-mul-to Inv-loop μ-loop
-mul-to c = search needs
-
-slice-write-to : tie.Need-slice-write-to Inv-loop μ-loop
-slice-write-to c = search needs
-
-add-i : tie.Need-add-i Inv-loop μ-loop
-add-i c = search needs
-
-loop-less : tie.Need-loop-less Inv-loop μ-loop
-loop-less c = omega arith
-
-loop-again : tie.Need-loop-again Inv-loop μ-loop
-loop-again c = search needs
-
-same-length : tie.Need-same-length Inv-loop μ-loop
-same-length c = search needs
-
-returns : tie.Need-returns Inv-loop μ-loop
-returns c = search needs
-
 pub fill-spec : {M : Type 1} → statement M
-fill-spec =
-    tie.close
-    (tie.spec
-    Inv-loop
-    μ-loop
-    loop-holds
-    mul-number-at
-    add-number-at
-    number-at-requires
-    mul-to
-    slice-write-to
-    add-i
-    loop-less
-    loop-again
-    same-length
-    returns)
+fill-spec = tie.close (tie.spec Inv-loop μ-loop (λ c. search needs) (λ c. search needs) (λ c. search needs)
+    (λ c κs. search needs) (λ c. search needs) (λ c. search needs) (λ c. search needs) (λ c. omega arith)
+    (λ c. search needs) (λ c. search needs) (λ c. search needs))

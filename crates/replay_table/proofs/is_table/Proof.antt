@@ -6,9 +6,6 @@ use lib.ListN.{length, length-set}
 use borrow.Author.Needs.{needs}
 use Rattle.replay_table.proofs.is_table.Statement.{statement}
 use Rattle.replay_table.proofs.is_table.Tie as tie
-use Rattle.replay_table.proofs.is_table.Reads as reads
-use Rattle.replay_table.proofs.is_table.Lts as lts
-use Rattle.replay_table.proofs.filling.Reads as filling-reads
 
 abbrev Inv-loop : tie.InvT-loop
 Inv-loop out table i₀ i = Unit {0}
@@ -16,53 +13,7 @@ Inv-loop out table i₀ i = Unit {0}
 abbrev μ-loop : tie.MeasureT-loop
 μ-loop out table i₀ i = length out - i
 
-loop-holds : tie.Need-loop-holds Inv-loop μ-loop
-loop-holds c = search needs
-
-shared-slice-read-if2 : tie.Need-shared-slice-read-if2 Inv-loop μ-loop
-shared-slice-read-if2 c = search needs
-
-shared-slice-read-if2-2 : tie.Need-shared-slice-read-if2-2 Inv-loop μ-loop
-shared-slice-read-if2-2 c = search needs
-
-returns : tie.Need-returns Inv-loop μ-loop
-returns c = search needs
-
-shared-slice-read-if3 : tie.Need-shared-slice-read-if3 Inv-loop μ-loop
-shared-slice-read-if3 c = search needs
-
-filling-requires : tie.Need-filling-requires Inv-loop μ-loop
-filling-requires c κs = search needs
-
-returns-2 : tie.Need-returns-2 Inv-loop μ-loop
-returns-2 c = search needs
-
-add-i : tie.Need-add-i Inv-loop μ-loop
-add-i c = search needs
-
-loop-less : tie.Need-loop-less Inv-loop μ-loop
-loop-less c = search needs
-
-loop-again : tie.Need-loop-again Inv-loop μ-loop
-loop-again c = search needs
-
-returns-3 : tie.Need-returns-3 Inv-loop μ-loop
-returns-3 c = search needs
-
 pub is-table-spec : {M : Type 1} → statement M
-is-table-spec =
-    tie.close
-    (tie.spec
-    Inv-loop
-    μ-loop
-    loop-holds
-    shared-slice-read-if2
-    shared-slice-read-if2-2
-    returns
-    shared-slice-read-if3
-    filling-requires
-    returns-2
-    add-i
-    loop-less
-    loop-again
-    returns-3)
+is-table-spec = tie.close (tie.spec Inv-loop μ-loop (λ c. search needs) (λ c. search needs) (λ c. search needs)
+    (λ c. search needs) (λ c. search needs) (λ c κs. search needs) (λ c. search needs) (λ c. search needs)
+    (λ c. search needs) (λ c. search needs) (λ c. search needs))
