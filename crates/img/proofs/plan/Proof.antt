@@ -8,6 +8,24 @@ use Rattle.img.proofs.Left.{answer-none, left-none, answer-some, left-s
 use Rattle.img.proofs.plan.Statement.{statement}
 use Rattle.img.proofs.plan.Tie as tie
 
+measure-directories-requires : tie.Need-measure-directories-requires
+measure-directories-requires c κs = search needs
+
+measure-entries-requires : tie.Need-measure-entries-requires
+measure-entries-requires c κs = search needs
+
+measure-nodes-requires : tie.Need-measure-nodes-requires
+measure-nodes-requires c κs = search needs
+
+widen-requires : tie.Need-widen-requires
+widen-requires c κs = search needs
+
+widen-requires-2 : tie.Need-widen-requires-2
+widen-requires-2 c κs = search needs
+
+have-room-requires : tie.Need-have-room-requires
+have-room-requires c κs = search needs
+
 plan-cut-requires : tie.Need-plan-cut-requires
 plan-cut-requires c κs =
     let a = c .before .before .before .before .before .before .before .before .before .before .before .before .before .before .before .before .before .before .before .before .before .before .before .before .before .before .before .before .before .before .before .before .before .before .before .before .before .before .before .before .before .before .before .before .before .before .before .args in
@@ -15,6 +33,12 @@ plan-cut-requires c κs =
     cut-of (asked (c .before .before .before .before .before .before .before .before .before .before .before .before .before .before .widen .result) (c .before .before .before .before .before .before .before .before .before .before .before .before .before .widen2 .result) (a .first .now) (a .share .now) (a .start .now) (a .len .now) (a .kind .now) (a .value .now) (a .names .now)) l _ (c .before .before .before .before .before .before .before .before .before .before .before .before .before .before .before .before .before .before .before .before .before .before .before .before .before .measure-directories .ensures) (c .before .before .before .before .before .before .before .before .before .before .before .before .before .before .before .before .before .before .before .before .before .before .measure-entries .ensures)
     (c .before .before .before .before .before .before .before .before .before .before .before .before .before .before .before .measure-nodes .ensures) (c .before .before .before .before .before .before .before .before .before .before .before .before .have-room .ensures) (c .before .before .before .before .before .before .before .before .before .before .before .if1 .taken) (c .before .before .before .before .before .before .before .before .before .before .before .before .before .before .widen .ensures .1)
     (c .before .before .before .before .before .before .before .before .before .before .before .before .before .widen2 .ensures .1)
+
+clear-links-requires : tie.Need-clear-links-requires
+clear-links-requires c κs = search needs
+
+clear-rest-requires : tie.Need-clear-rest-requires
+clear-rest-requires c κs = search needs
 
 same-length : tie.Need-same-length
 same-length c = c .before .before .before .before .before .before .before .before .before .before .before .before .before .before .before .before .before .before .before .before .before .before .before .before .before .before .before .before .before .before .before .before .before .before .before .before .before .before .before .before .before .before .before .before .before .before .before .before .plan-cut .kept .1 .1 .1 .1 .1 .1 .1 .1 .1 .0
@@ -71,6 +95,39 @@ returns c =
           (cleared (p .last .1 .1 .1 .1 .1 .1 .1 .1 .1 .1 .1 .1 .1 .1 .1 .1 .1 .1 .1 .0) (a .order .now) (z .ensures .1 .1) (p .kept .1 .1 .1 .1 .1 .1 .1 .1 .1 .1 .1 .1 .1 .1 .1 .1 .1 .1 .1 .0)),
     )
 
+same-length-12 : tie.Need-same-length-12
+same-length-12 c = search needs
+
+same-length-13 : tie.Need-same-length-13
+same-length-13 c = search needs
+
+same-length-14 : tie.Need-same-length-14
+same-length-14 c = search needs
+
+same-length-15 : tie.Need-same-length-15
+same-length-15 c = search needs
+
+same-length-16 : tie.Need-same-length-16
+same-length-16 c = search needs
+
+same-length-17 : tie.Need-same-length-17
+same-length-17 c = search needs
+
+same-length-18 : tie.Need-same-length-18
+same-length-18 c = search needs
+
+same-length-19 : tie.Need-same-length-19
+same-length-19 c = search needs
+
+same-length-20 : tie.Need-same-length-20
+same-length-20 c = search needs
+
+same-length-21 : tie.Need-same-length-21
+same-length-21 c = search needs
+
+same-length-22 : tie.Need-same-length-22
+same-length-22 c = search needs
+
 returns-2 : tie.Need-returns-2
 returns-2 c =
     let a = c .before .before .before .before .before .before .before .before .before .before .before .before .before .before .before .before .before .before .before .before .before .before .before .before .before .before .before .before .before .before .before .before .before .before .before .before .args in
@@ -81,9 +138,39 @@ returns-2 c =
     (answer-none _ _ _ is (c .if1 .left), left-none _ _ _ is (c .if1 .left))
 
 pub plan-spec : {M : Type 1} → statement M
-plan-spec = tie.close (tie.spec (λ c κs. search needs) (λ c κs. search needs) (λ c κs. search needs)
-    (λ c κs. search needs) (λ c κs. search needs) (λ c κs. search needs) plan-cut-requires (λ c κs. search needs)
-    (λ c κs. search needs) same-length same-length-2 same-length-3 same-length-4 same-length-5 same-length-6
-    same-length-7 same-length-8 same-length-9 same-length-10 same-length-11 returns (λ c. search needs)
-    (λ c. search needs) (λ c. search needs) (λ c. search needs) (λ c. search needs) (λ c. search needs)
-    (λ c. search needs) (λ c. search needs) (λ c. search needs) (λ c. search needs) (λ c. search needs) returns-2)
+plan-spec =
+    tie.close
+    (tie.spec
+    measure-directories-requires
+    measure-entries-requires
+    measure-nodes-requires
+    widen-requires
+    widen-requires-2
+    have-room-requires
+    plan-cut-requires
+    clear-links-requires
+    clear-rest-requires
+    same-length
+    same-length-2
+    same-length-3
+    same-length-4
+    same-length-5
+    same-length-6
+    same-length-7
+    same-length-8
+    same-length-9
+    same-length-10
+    same-length-11
+    returns
+    same-length-12
+    same-length-13
+    same-length-14
+    same-length-15
+    same-length-16
+    same-length-17
+    same-length-18
+    same-length-19
+    same-length-20
+    same-length-21
+    same-length-22
+    returns-2)

@@ -73,15 +73,70 @@ plan-counted-requires c κs =
     let s = c .before .before .before .before .before .before .before .before .before .before .before .before .before .before .before .before .before .before .before .before .before .before .before .before .before .before .before .before .before .before .before .before .before .before .before in
     (exact-cut _ _ (s .pre), wide-cut _ _ (s .pre))
 
+same-length : tie.Need-same-length
+same-length c = search needs
+
+same-length-2 : tie.Need-same-length-2
+same-length-2 c = search needs
+
+same-length-3 : tie.Need-same-length-3
+same-length-3 c = search needs
+
+same-length-4 : tie.Need-same-length-4
+same-length-4 c = search needs
+
+same-length-5 : tie.Need-same-length-5
+same-length-5 c = search needs
+
+same-length-6 : tie.Need-same-length-6
+same-length-6 c = search needs
+
+same-length-7 : tie.Need-same-length-7
+same-length-7 c = search needs
+
+same-length-8 : tie.Need-same-length-8
+same-length-8 c = search needs
+
+same-length-9 : tie.Need-same-length-9
+same-length-9 c = search needs
+
+same-length-10 : tie.Need-same-length-10
+same-length-10 c = search needs
+
+same-length-11 : tie.Need-same-length-11
+same-length-11 c = search needs
+
 returns : tie.Need-returns
 returns c = planned-in _ _ _ _ _ _ (c .before .before .before .before .before .before .before .before .before .before .before .before .before .before .before .before .before .before .before .before .before .before .plan-counted .ensures)
 
 pub plan-cut-spec : {M : Type 1} → statement M
-plan-cut-spec = tie.close (tie.spec slice-aggregate-plan-counted slice-aggregate-plan-counted-2
-    slice-aggregate-plan-counted-3 slice-aggregate-plan-counted-4 slice-aggregate-plan-counted-5
-    slice-aggregate-plan-counted-6 slice-relend-prefix-plan-counted slice-aggregate-plan-counted-7
-    slice-relend-prefix-plan-counted-2 slice-aggregate-plan-counted-8 slice-relend-prefix-plan-counted-3
-    slice-aggregate-plan-counted-9 slice-relend-prefix-plan-counted-4 slice-aggregate-plan-counted-10
-    plan-counted-requires (λ c. search needs) (λ c. search needs) (λ c. search needs) (λ c. search needs)
-    (λ c. search needs) (λ c. search needs) (λ c. search needs) (λ c. search needs) (λ c. search needs)
-    (λ c. search needs) (λ c. search needs) returns)
+plan-cut-spec =
+    tie.close
+    (tie.spec
+    slice-aggregate-plan-counted
+    slice-aggregate-plan-counted-2
+    slice-aggregate-plan-counted-3
+    slice-aggregate-plan-counted-4
+    slice-aggregate-plan-counted-5
+    slice-aggregate-plan-counted-6
+    slice-relend-prefix-plan-counted
+    slice-aggregate-plan-counted-7
+    slice-relend-prefix-plan-counted-2
+    slice-aggregate-plan-counted-8
+    slice-relend-prefix-plan-counted-3
+    slice-aggregate-plan-counted-9
+    slice-relend-prefix-plan-counted-4
+    slice-aggregate-plan-counted-10
+    plan-counted-requires
+    same-length
+    same-length-2
+    same-length-3
+    same-length-4
+    same-length-5
+    same-length-6
+    same-length-7
+    same-length-8
+    same-length-9
+    same-length-10
+    same-length-11
+    returns)
