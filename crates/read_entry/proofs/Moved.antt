@@ -1,6 +1,7 @@
 -- A table read in its own part of a window, as a table of sector 0 in a window that starts with sector 0, is read as in the window. Assumes nothing.
---     read-moved, name-moved      where the table starts in the window: each place is counted from there
---     read-outside, read-nothing  where it does not: at offset 0 both readings refuse 24
+--     read-moved, name-moved                 where the table starts in the window: each place is counted from there
+--     read-outside, read-past, read-nothing  where it does not: at offset 0 both readings refuse 24
+--     starts                                 one of the two is the case
 use Prim.Native.Nat.{ℕ, zero, suc, _+_, _-_, _*_, _≤_, _<_}
 use mathlib.Core.Path.{_≡_, refl, sym, ap, _∙_}
 use mathlib.Core.Bool.{Bool, true, false}
@@ -18,7 +19,6 @@ use Rattle.units.specs.declared.Region.{Region}
 use Rattle.layout_node.specs.Header.{headerOf, isBlank}
 use Rattle.read_entry.specs.Entry.{Placed, byteOf, readHere, readAt, nameOf}
 use Rattle.read_entry.specs.Part.{partOf, placedOn, moved}
-use Rattle.read_entry.proofs.Fit.{entryAt, entry-is}
 
 -- two tests whose facts follow from each other
 same-by : (a b c d : ℕ) (p q : Bool) → ltb a b ≡ p → ltb c d ≡ q → (a < b → c < d) → (c < d → a < b) → p ≡ q
@@ -71,10 +71,6 @@ module _ (w : List ℕ) (first : Sector) (t : Region) (f : Sector) (u : Region) 
       let i : ltb (byteOf t o) (2048 * first .0) ≡ false = le-ltb (byteOf t o) (2048 * first .0) (omega arith) in
       let j : ltb (byteOf u o) (2048 * f .0) ≡ false = le-ltb (byteOf u o) (2048 * f .0) (omega arith) in
       rw (i, j, p, q, same) (moved-past b (leb (t .size) o) o (readHere w (b + o) o) (readHere (drop b w) o o) (here-moved w b held o o))
-
-  -- an entry that is read in the part stands at its offset
-  pub place-is : (v : List ℕ) (o : ℕ) (x : Placed) → readAt v f u o ≡ gives (some x) → x .place ≡ o
-  place-is v o x e = let k : byteOf u o - 2048 * f .0 ≡ x .place = ap (λ (y : Placed). y .place) (entry-is v f u o x e) in omega arith
 
   module _ (some-size : t .size ≡ 0 → ⊥) where
     pub read-outside : 2048 * t .sector .0 < 2048 * first .0 → readAt w first t 0 ≡ refuses 24 (0 ∷ [])
