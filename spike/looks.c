@@ -155,6 +155,19 @@ LOOKS
 #undef X
 typedef uint32_t lf(struct sl *, uint32_t, uint32_t, uint32_t, struct sl *, uint32_t *, size_t *, uint32_t *, uint32_t *);
 typedef uint32_t wf(struct sl *, uint32_t, uint32_t, uint32_t, struct sl *, struct sl *, size_t *, uint32_t *);
+#define X(i) uint32_t x_check##i(struct sl *, uint32_t, uint32_t, uint32_t, struct sl *, struct sl *, size_t *, uint32_t *) __attribute__((weak));
+LOOKS
+#undef X
+#define X(i) uint32_t x_path##i(struct sl *, uint32_t, uint32_t, uint32_t, struct sl *, uint32_t *, size_t *, uint32_t *) __attribute__((weak));
+LOOKS
+#undef X
+typedef uint32_t pf(struct sl *, uint32_t, uint32_t, uint32_t, struct sl *, uint32_t *, size_t *, uint32_t *);
+#define X(i) x_check##i,
+static wf *checks[] = {LOOKS};
+#undef X
+#define X(i) x_path##i,
+static pf *paths[] = {LOOKS};
+#undef X
 #define X(i) x_look##i,
 static lf *looks[] = {LOOKS};
 #undef X
@@ -217,14 +230,39 @@ static void race(const char *what, int n, int lo, int hi, const char *front, int
         t = (now() - t) / (reps / 4 + 1) / count; if (t < bw[me]) bw[me] = t;
         static uint32_t l0[16384]; if (turn == 0 && me == 0) memcpy(l0, list, 4 * count); else if (memcmp(l0, list, 4 * count)) { printf("DIFFERENT LIST %d\n", me); exit(1); }
     }
+    double bc[12], bp[12]; for (int i = 0; i < 12; i++) bc[i] = bp[i] = 1e9;
+    for (int turn = 0; turn < 16; turn++) for (int who = 1; who < 11; who++) {
+        int me = 1 + (who + turn) % 10;
+        if (me >= 2 && !checks[me - 2]) continue;
+        struct sl w = {out, wl}, li = {list, count}, st = {sc8, count + 1};
+        double t = now(); size_t c = 0; uint32_t o;
+        for (int q = 0; q < reps / 8 + 1; q++) {
+            int r = me == 1 ? (int)xdvdfs_check_table(out, wl, 33, 33, ts, list, count, sc8, count + 1, &c, &o) : (int)checks[me - 2](&w, 33, 33, ts, &li, &st, &c, &o);
+            if (r || c != count) { printf("check %d by %d\n", r, me); exit(1); }
+        }
+        t = (now() - t) / (reps / 8 + 1) / count; if (t < bc[me]) bc[me] = t;
+        t = now(); uint64_t sum = 0;
+        for (int q = 0; q < reps / 20 + 1; q++) for (uint32_t i = 0; i < count; i++) {
+            uint32_t k = (i * 7919u) % count; struct xdvdfs_fields f; size_t pl = 0;
+            if (me == 1) xdvdfs_find_path(out, wl, 33, 33, ts, names + start[k], len[k], &f, &pl, &o);
+            else paths[me - 2](&w, 33, 33, ts, &nms[k], (uint32_t *)&f, &pl, &o);
+            sum += pl;
+        }
+        t = (now() - t) / (reps / 20 + 1) / count; if (t < bp[me]) bp[me] = t;
+        static uint64_t psum; if (turn == 0 && who == 1) psum = sum; else if (sum != psum) { printf("DIFFERENT PATHS %d\n", me); exit(1); }
+    }
     printf("%-26s C %6.1f ns lib %.2f |", what, bl[0] * 1e9, bl[1] / bl[0]);
     for (int i = 2; i < 11; i++) if (looks[i - 2]) printf(" %d:%.2f", i - 1, bl[i] / bl[0]);
     printf(" | walk C %5.2f lib %.2f |", bw[0] * 1e9, bw[1] / bw[0]);
     for (int i = 2; i < 11; i++) if (walks[i - 2]) printf(" %d:%.2f", i - 1, bw[i] / bw[0]);
+    printf(" | strict lib %4.1f |", bc[1] * 1e9);
+    for (int i = 2; i < 11; i++) if (checks[i - 2]) printf(" %d:%.2f", i - 1, bc[i] / bc[1]);
+    printf(" | path lib %5.1f |", bp[1] * 1e9);
+    for (int i = 2; i < 11; i++) if (paths[i - 2]) printf(" %d:%.2f", i - 1, bp[i] / bp[1]);
     printf("\n");
 }
 int main(void) {
-    printf("lookup: ns of C, ratio of the library, ratios of the shapes | walk: the same\n");
+    printf("lookup: ns of C, ratio of the library, ratios of the shapes | walk: the same | strict check and path of one part: ns of the library, ratios of the shapes to it\n");
     race("100 short random", 100, 4, 8, "", 0);
     race("1000 short random", 1000, 4, 8, "", 0);
     race("8000 short random", 8000, 4, 8, "", 0);
