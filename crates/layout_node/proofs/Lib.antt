@@ -2,3 +2,4 @@
 pub mod RoundTrip
 pub mod Cases
 pub mod Blank
+pub mod Words

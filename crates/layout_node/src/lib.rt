@@ -5,7 +5,7 @@ ghost use mathlib.Core.Path.{_≡_};
 ghost use Prim.Native.Nat.{_+_, _≤_};
 ghost use lib.ListN.{length};
 ghost use Rattle.units.specs.Lent.{was, is};
-ghost use Rattle.layout_bytes.specs.Bytes.{putAt};
+ghost use Rattle.layout_bytes.specs.Bytes.{putAt, all};
 ghost use Rattle.layout_node.specs.Header.{headerOf, headerBytes, isBlank, isDirectory, entryLength};
 
 // The fields of an entry but its name.
@@ -48,6 +48,26 @@ pub fn put_header(out: &mut [u8], at: usize, header: Header)
     layout_bytes::put_two(out, at + 12, header.attributes, header.name_len);
 }
 
+// Fourteen bytes of 0xff. They are compared as three numbers and two bytes, in little code: so what calls it is inlined where it is called.
+fn are_ones(h: &[u8]) -> bool
+    requires { ⌜ length (now h) ≡ 14 ⌝ }
+    ensures { λ r. ⌜ r ≡ all 255 (now (h .entry)) ⌝ }
+{
+    (layout_bytes::u32_at(h, 0) == 0xffffffff)
+        & ((layout_bytes::u32_at(h, 4) == 0xffffffff)
+            & ((layout_bytes::u32_at(h, 8) == 0xffffffff) & ((h[12] == 0xff) & (h[13] == 0xff))))
+}
+
+// Fourteen bytes of 0, in the same way.
+fn are_zeros(h: &[u8]) -> bool
+    requires { ⌜ length (now h) ≡ 14 ⌝ }
+    ensures { λ r. ⌜ r ≡ all 0 (now (h .entry)) ⌝ }
+{
+    (layout_bytes::u32_at(h, 0) == 0)
+        & ((layout_bytes::u32_at(h, 4) == 0)
+            & ((layout_bytes::u32_at(h, 8) == 0) & ((h[12] == 0) & (h[13] == 0))))
+}
+
 // No entry: fourteen bytes of 0xff, or of 0. The last byte is looked at first.
 pub fn is_blank(h: &[u8]) -> bool
     requires { ⌜ length (now h) ≡ 14 ⌝ }
@@ -55,10 +75,10 @@ pub fn is_blank(h: &[u8]) -> bool
 {
     let last = h[13];
     if last == 0xff {
-        return layout_bytes::all_are(h, 0xff);
+        return are_ones(h);
     }
     if last == 0 {
-        return layout_bytes::all_are(h, 0);
+        return are_zeros(h);
     }
     false
 }

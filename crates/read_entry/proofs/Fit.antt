@@ -1,11 +1,12 @@
 -- What reading at an offset gives, read backwards: where the header stands, that the links of a window of bytes fit in two bytes, and which refusals there
 -- are. The definitions are over lists of any numbers, so that the elements are bytes is a premise here. Assumes nothing.
-use Prim.Native.Nat.{ℕ, zero, suc, _+_, _-_, _*_, _<_}
-use mathlib.Core.Path.{_≡_, subst}
+use Prim.Native.Nat.{ℕ, zero, suc, _+_, _-_, _*_, _≤_, _<_}
+use mathlib.Core.Path.{_≡_, refl, ap, subst}
 use mathlib.Core.Bool.{Bool, true, false}
 use mathlib.Core.List.{List, [], _∷_}
 use mathlib.Core.Option.{Option, some, none}
 use native.Mathlib.Omega.{arith}
+use borrow.Author.Tests.{ltb-false}
 use lib.Dec.{ltb, leb}
 use lib.ListN.{length, getD, take, drop}
 use lib.Seq.{getD-drop}
@@ -44,6 +45,11 @@ gives-by false true c o y x e = let z : _≡_ {A = ℕ} 0 1 = cc in absurd (omeg
 gives-by false false true o y x e = let z : _≡_ {A = ℕ} 0 1 = cc in absurd (omega arith)
 gives-by false false false o y x e = cc
 
+-- .. and what is given is in the window
+held-by : (a b c : Bool) (o : ℕ) (y x : Placed) → pick a (refuses 24 (o ∷ [])) (pick b (gives none) (pick c (refuses 24 (o ∷ [])) (gives (some y)))) ≡ gives (some x) → a ≡ false
+held-by true b c o y x e = let z : _≡_ {A = ℕ} 0 1 = cc in absurd (omega arith)
+held-by false b c o y x e = refl
+
 -- the number of a refusal, and the offset that it carries
 abbrev pub Faulty : ℕ → ℕ → List ℕ → Type 0
 Faulty o k vs = (22 < k) × (k < 25) × (vs ≡ o ∷ [])
@@ -79,6 +85,12 @@ module _ (w : List ℕ) (p o : ℕ) where
       let h : List ℕ = take 14 (drop p w) in
       gives-by (ltb (length w) (p + 14)) (isBlank h) (ltb (length w) (p + 14 + headerOf h .«name_len»)) o (entryAt w p) x e
 
+  here-held : (x : Placed) → readHere w p o ≡ gives (some x) → p + 14 ≤ length w
+  unfolding readHere
+  here-held x e =
+      let h : List ℕ = take 14 (drop p w) in
+      ltb-false (length w) (p + 14) (held-by (ltb (length w) (p + 14)) (isBlank h) (ltb (length w) (p + 14 + headerOf h .«name_len»)) o (entryAt w p) x e)
+
   here-refuses : (k : ℕ) (vs : List ℕ) → readHere w p o ≡ refuses k vs → Faulty o k vs
   unfolding readHere
   here-refuses k vs e =
@@ -92,6 +104,16 @@ module _ (w : List ℕ) (first : Sector) (t : Region) (o : ℕ) where
   entry-is x e =
       let p : ℕ = byteOf t o - 2048 * first .0 in
       here-gives w p o x (at-gives-by (leb (t .size) o) (ltb (byteOf t o) (2048 * first .0)) o (readHere w p o) x e)
+
+  -- .. and its header is in the window
+  pub entry-held : (x : Placed) → readAt w first t o ≡ gives (some x) → x .place + 14 ≤ length w
+  unfolding readAt
+  entry-held x e =
+      let p : ℕ = byteOf t o - 2048 * first .0 in
+      let r : readHere w p o ≡ gives (some x) = at-gives-by (leb (t .size) o) (ltb (byteOf t o) (2048 * first .0)) o (readHere w p o) x e in
+      let k : p ≡ x .place = ap (λ (y : Placed). y .place) (here-gives w p o x r) in
+      let h : p + 14 ≤ length w = here-held w p o x r in
+      omega arith
 
   -- a reading refuses 23 or 24 alone, with the offset
   pub refusal-is : (k : ℕ) (vs : List ℕ) → readAt w first t o ≡ refuses k vs → Faulty o k vs

@@ -1,4 +1,5 @@
--- Laws of what is told of a reading, and of what a reading gives.
+-- Laws of what is told of a reading, of what a reading gives, and of a table read in its own part of a window.
 pub mod Told
 pub mod Fit
+pub mod Moved
 pub mod Cases

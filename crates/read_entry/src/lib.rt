@@ -8,6 +8,7 @@ ghost use mathlib.Core.Path.{_≡_};
 ghost use Prim.Native.Nat.{_<_, _^_};
 ghost use Rattle.units.specs.Lent.{was};
 ghost use Rattle.read_entry.specs.Entry.{told, readHere, readAt, nameOf};
+ghost use Rattle.read_entry.specs.Part.{partOf};
 
 // What reading at an offset finds.
 pub enum Read {
@@ -62,6 +63,24 @@ pub fn read_at(w: &[u8], first: Sector, table: Region, offset: Offset) -> Read
             read_here(w, (byte - from) as usize, offset)
         }
     }
+}
+
+// The window from a table's first byte on; nothing where the table starts outside it. Read in that part, as a table of sector 0 in a window that starts with
+// sector 0, the table is the same, and where an offset stands is not worked out at each header again.
+pub fn part_of(w: &[u8], first: Sector, table: Region) -> &[u8]
+    ensures { λ r. ⌜ now r ≡ partOf (now (w .entry)) first table ⌝ }
+{
+    let sector = table.sector;
+    let start = sector.start();
+    let from = first.start();
+    if start < from {
+        return &w[..0];
+    }
+    let base = (start - from) as usize;
+    if w.len() < base {
+        return &w[..0];
+    }
+    &w[base..]
 }
 
 // The name of an entry whose first byte stands at a place of the window, as that part of the window itself.

@@ -8,3 +8,4 @@ pub mod Pigeonhole
 pub mod Chains
 pub mod Laws
 pub mod Loops
+pub mod Moved

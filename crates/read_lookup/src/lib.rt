@@ -86,8 +86,9 @@ pub fn any_high(s: &[u8]) -> bool
     false
 }
 
-// The entry of a name in a table. A chain of links that has read 65,536 headers never ends: there are no more offsets that a link can name.
-pub fn look_up(w: &[u8], first: Sector, table: Region, name: &[u8]) -> Looked
+// The entry of a name in a table. Each header is read by the numbers of the window and of the table.
+// A chain of links that has read 65,536 headers never ends: there are no more offsets that a link can name.
+fn look_in(w: &[u8], first: Sector, table: Region, name: &[u8]) -> Looked
     ensures { λ r. ⌜ told r ≡ lookupOf (was w) first table (was name) ⌝ }
 {
     if any_high(name) {
@@ -110,4 +111,25 @@ pub fn look_up(w: &[u8], first: Sector, table: Region, name: &[u8]) -> Looked
         }
     }
     Looked::Looped
+}
+
+// The entry of a name in a table. The table is read in its own part of the window, which starts with the table: so nothing is worked out at each header but
+// the header.
+pub fn look_up(w: &[u8], first: Sector, table: Region, name: &[u8]) -> Looked
+    ensures { λ r. ⌜ told r ≡ lookupOf (now (w .entry)) first table (now (name .entry)) ⌝ }
+{
+    let size = table.size;
+    let part = read_entry::part_of(w, first, table);
+    let base = w.len() - part.len();
+    let zero = Sector::new(0);
+    let sector = Sector::new(0);
+    match look_in(part, zero, Region { sector, size }, name) {
+        Looked::Found(h, place, o, n) => Looked::Found(h, base + place, o, n),
+        Looked::BadByte => Looked::BadByte,
+        Looked::DirectoryEmpty => Looked::DirectoryEmpty,
+        Looked::DoesNotExist(n) => Looked::DoesNotExist(n),
+        Looked::OutOfBounds(o) => Looked::OutOfBounds(o),
+        Looked::Truncated(o) => Looked::Truncated(o),
+        Looked::Looped => Looked::Looped,
+    }
 }

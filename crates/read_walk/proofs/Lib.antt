@@ -4,3 +4,4 @@ pub mod Steps
 pub mod Turn
 pub mod Told
 pub mod Cases
+pub mod Moved

@@ -89,7 +89,7 @@ fn kept(r: Walked) -> usize
 }
 
 // The walk of a table: the offsets of its entries in the list, and zeros past them; or a refusal, and a list of zeros. The scratch is all
-// zero after it. Where the scratch is not longer than the list, all is unchanged.
+// zero after it. Where the scratch is not longer than the list, all is unchanged. The table is read in its own part of the window, which starts with the table.
 pub fn walk(w: &[u8], first: Sector, table: Region, list: &mut [u32], scratch: &mut [u32]) -> Walked
     ensures answer { λ r. ⌜ told r ≡ walkAnswer (was w) first table (length (was list)) (length (was scratch)) ⌝ }
     ensures list { λ _. ⌜ is list ≡ listAfter (was w) first table (was list) (length (was scratch)) ⌝ }
@@ -104,7 +104,10 @@ pub fn walk(w: &[u8], first: Sector, table: Region, list: &mut [u32], scratch: &
         clear_words(scratch);
         return Walked::Done(0);
     }
-    let r = run(w, first, table, list, scratch);
+    let part = read_entry::part_of(w, first, table);
+    let zero = Sector::new(0);
+    let sector = Sector::new(0);
+    let r = run(part, zero, Region { sector, size }, list, scratch);
     let n = kept(r);
     clear_from(list, n);
     clear_words(scratch);

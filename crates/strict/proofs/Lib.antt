@@ -6,6 +6,7 @@ pub mod Units
 pub mod Judging
 pub mod Steps
 pub mod Turn
+pub mod Moved
 pub mod Told
 pub mod Way
 pub mod Course

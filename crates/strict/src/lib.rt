@@ -241,7 +241,7 @@ fn kept(r: Checked) -> usize
 }
 
 // The strict check of a table: where it finds no fault, the offsets of its entries in walk order in the list, and zeros past them; else the first fault, and a
-// list of zeros. The scratch is all zero after it. Where the scratch is not longer than the list, all is unchanged.
+// list of zeros. The scratch is all zero after it. Where the scratch is not longer than the list, all is unchanged. The table is read in its own part of the window.
 pub fn check_table(
     w: &[u8],
     first: Sector,
@@ -262,7 +262,10 @@ pub fn check_table(
         clear_longs(scratch);
         return Checked::Done(0);
     }
-    let r = run(w, first, table, list, scratch);
+    let part = read_entry::part_of(w, first, table);
+    let zero = Sector::new(0);
+    let sector = Sector::new(0);
+    let r = run(part, zero, Region { sector, size }, list, scratch);
     let n = kept(r);
     clear_from(list, n);
     clear_longs(scratch);

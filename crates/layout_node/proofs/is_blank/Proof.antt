@@ -5,19 +5,20 @@ use Rattle.layout_node.proofs.is_blank.Statement.{statement}
 use Rattle.layout_node.proofs.is_blank.Tie as tie
 use Rattle.layout_node.proofs.is_blank.Reads as reads
 use Rattle.layout_node.proofs.is_blank.Lts as lts
-use Rattle.layout_bytes.proofs.all_are.Reads as all-are-reads
+use Rattle.layout_node.proofs.are_ones.Reads as are-ones-reads
+use Rattle.layout_node.proofs.are_zeros.Reads as are-zeros-reads
 
 shared-slice-read-last : tie.Need-shared-slice-read-last
 shared-slice-read-last c = search needs
 
-all-are-requires : tie.Need-all-are-requires
-all-are-requires c κs = search needs
+are-ones-requires : tie.Need-are-ones-requires
+are-ones-requires c κs = search needs
 
 returns : tie.Need-returns
 returns c = search ones
 
-all-are-requires-2 : tie.Need-all-are-requires-2
-all-are-requires-2 c κs = search needs
+are-zeros-requires : tie.Need-are-zeros-requires
+are-zeros-requires c κs = search needs
 
 returns-2 : tie.Need-returns-2
 returns-2 c = search zeros
@@ -30,8 +31,8 @@ is-blank-spec =
     tie.close
     (tie.spec
     shared-slice-read-last
-    all-are-requires
+    are-ones-requires
     returns
-    all-are-requires-2
+    are-zeros-requires
     returns-2
     returns-3)

@@ -16,13 +16,16 @@ use Rattle.read_walk.specs.declared.Walked.the-variants as walked
 use Rattle.read_walk.specs.Walk.{walkFrom, walkOf, counted, listed, told, walkAnswer, listAfter, scratchAfter}
 use Rattle.read_walk.specs.Run.{keptOf, Runs}
 use Rattle.read_walk.proofs.Turn.{walkOn}
+use Rattle.read_walk.proofs.Moved.{runs-moved}
 use borrow.Author.Needs.{needs}
 use Rattle.read_walk.proofs.walk.Statement.{statement}
 use Rattle.read_walk.proofs.walk.Tie as tie
 use Rattle.read_walk.proofs.walk.Reads as reads
 use Rattle.read_walk.proofs.walk.Lts as lts
+use Rattle.read_entry.proofs.part_of.Reads as part-of-reads
 use Rattle.read_walk.proofs.kept.Reads as kept-reads
 use Rattle.read_walk.proofs.run.Reads as run-reads
+use Rattle.units.proofs.Sector.new.Reads as new-reads
 
 -- a list whose kept part is empty, with zeros from there on
 none-kept : (l : List ℕ) (n : ℕ) → take n l ≡ [] → n ≤ length l → _≡_ {A = List ℕ} (replicate (length l - n) 0) (replicate (length l) 0)
@@ -91,6 +94,15 @@ same-length-2 c = search needs
 returns-2 : tie.Need-returns-2
 returns-2 c = empty _ _ _ _ _ (search needs) (search needs) _ _ (c .before .before .before .before .before .before .clear-words .ensures) (c .before .before .clear-words2 .ensures)
 
+part-of-requires : tie.Need-part-of-requires
+part-of-requires c κs = search needs
+
+new-requires : tie.Need-new-requires
+new-requires c κs = search needs
+
+new-requires-2 : tie.Need-new-requires-2
+new-requires-2 c κs = search needs
+
 run-requires : tie.Need-run-requires
 run-requires c κs = search needs
 
@@ -114,7 +126,9 @@ returns-3 c = let c4 = c .before .before in
     let c3 = c4 .before .before .before .before in
     let ck = c3 .before .before in
     let cr = ck .before .before .before .before .before in
-    ran _ _ _ _ _ (search needs) (search needs) _ (cr .run .last .1 .1 .1 .0) (cr .run .last .1 .1 .1 .1 .0) (cr .run .ensures) _ (ck .kept .ensures)
+    let m = cr .before .before .before in
+    ran _ _ _ _ _ (search needs) (search needs) _ (cr .run .last .1 .1 .1 .0) (cr .run .last .1 .1 .1 .1 .0)
+    (runs-moved _ _ _ (m .before .before .before .if2 .left) _ (m .before .before .part-of .ensures) _ _ (m .before .new .ensures) (m .new2 .ensures) _ _ _ (cr .run .ensures)) _ (ck .kept .ensures)
     (cr .run .kept .1 .1 .1 .0) (cr .run .kept .1 .1 .1 .1 .0) _ _ (c3 .clear-from .ensures) (c4 .clear-words3 .ensures)
 
 pub walk-spec : {M : Type 1} → statement M
@@ -127,6 +141,9 @@ walk-spec =
     same-length
     same-length-2
     returns-2
+    part-of-requires
+    new-requires
+    new-requires-2
     run-requires
     kept-requires
     clear-from-requires

@@ -14,13 +14,16 @@ use Rattle.strict.specs.declared.Checked.the-variants as checked
 use Rattle.strict.specs.Strict.{root, strictOf, told, strictAnswer, listAfter, scratchAfter}
 use Rattle.strict.specs.Run.{keptOf, Runs}
 use Rattle.strict.proofs.Turn.{checkOn, countOf, kept-told}
+use Rattle.strict.proofs.Moved.{runs-moved}
 use borrow.Author.Needs.{needs}
 use Rattle.strict.proofs.check_table.Statement.{statement}
 use Rattle.strict.proofs.check_table.Tie as tie
 use Rattle.strict.proofs.check_table.Reads as reads
 use Rattle.strict.proofs.check_table.Lts as lts
+use Rattle.read_entry.proofs.part_of.Reads as part-of-reads
 use Rattle.strict.proofs.kept.Reads as kept-reads
 use Rattle.strict.proofs.run.Reads as run-reads
+use Rattle.units.proofs.Sector.new.Reads as new-reads
 
 -- the list, its kept part and zeros past it, is what the contract says
 cleared-list : (x : Told (List ℕ)) (r : Checked) (l : List ℕ) → Runs x r l → take (keptOf r) l ++ replicate (length l - keptOf r) 0 ≡ listed x (length l)
@@ -76,6 +79,15 @@ same-length-2 c = search needs
 returns-2 : tie.Need-returns-2
 returns-2 c = empty _ _ _ _ _ (search needs) (search needs) _ _ (c .before .before .before .before .before .before .clear-words .ensures) (c .before .before .clear-longs .ensures)
 
+part-of-requires : tie.Need-part-of-requires
+part-of-requires c κs = search needs
+
+new-requires : tie.Need-new-requires
+new-requires c κs = search needs
+
+new-requires-2 : tie.Need-new-requires-2
+new-requires-2 c κs = search needs
+
 run-requires : tie.Need-run-requires
 run-requires c κs = search needs
 
@@ -99,7 +111,9 @@ returns-3 c = let c4 = c .before .before in
     let c3 = c4 .before .before .before .before in
     let ck = c3 .before .before in
     let cr = ck .before .before .before .before .before in
-    ran _ _ _ _ _ (search needs) (search needs) _ (cr .run .last .1 .1 .1 .0) (cr .run .last .1 .1 .1 .1 .0) (cr .run .ensures) _ (ck .kept .ensures)
+    let m = cr .before .before .before in
+    ran _ _ _ _ _ (search needs) (search needs) _ (cr .run .last .1 .1 .1 .0) (cr .run .last .1 .1 .1 .1 .0)
+    (runs-moved _ _ _ (m .before .before .before .if2 .left) _ (m .before .before .part-of .ensures) _ _ (m .before .new .ensures) (m .new2 .ensures) _ _ _ (cr .run .ensures)) _ (ck .kept .ensures)
     (cr .run .kept .1 .1 .1 .0) (cr .run .kept .1 .1 .1 .1 .0) _ _ (c3 .clear-from .ensures) (c4 .clear-longs2 .ensures)
 
 pub check-table-spec : {M : Type 1} → statement M
@@ -112,6 +126,9 @@ check-table-spec =
     same-length
     same-length-2
     returns-2
+    part-of-requires
+    new-requires
+    new-requires-2
     run-requires
     kept-requires
     clear-from-requires

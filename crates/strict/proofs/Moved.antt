@@ -1,0 +1,115 @@
+-- The strict check of a table in its own part of a window, as a table of sector 0 in a window that starts with sector 0, is the check in the window.
+-- Assumes nothing.
+use Prim.Native.Nat.{ℕ, zero, suc, _+_, _*_, _≤_}
+use mathlib.Core.Path.{_≡_, refl, sym, ap, ap₂, subst, _∙_}
+use mathlib.Core.Bool.{Bool, true, false}
+use mathlib.Core.List.{List, [], _∷_, _++_}
+use mathlib.Core.Option.{Option, some, none}
+use lib.ListN.{length, drop}
+use Rattle.units.specs.Told.{Told, gives, refuses}
+use Rattle.units.specs.declared.Sector.{Sector}
+use Rattle.units.specs.declared.Region.{Region}
+use Rattle.read_entry.specs.Entry.{Placed, readAt, nameOf}
+use Rattle.read_entry.specs.Part.{partOf, placedOn, moved}
+use Rattle.read_entry.proofs.Moved.{read-moved, name-moved, read-nothing, Starts, inside, outside, starts}
+use Rattle.read_walk.specs.Walk.{before}
+use Rattle.strict.specs.declared.Checked.{Checked}
+use Rattle.strict.specs.Strict.{Visit, root, visitLeft, visitRight, push, endOf, endBy, nameBy, nameAt, apart, placed, ordered, verdictAt, ifGood, byRead, toEntry, strictFrom}
+use Rattle.strict.specs.Run.{Runs}
+use Rattle.strict.proofs.Steps.{check-refused}
+use Rattle.strict.proofs.Turn.{checkOn}
+
+end-alike : (b : ℕ) (r : Told (Option Placed)) (o : ℕ) → endBy (moved b r) o ≡ endBy r o
+end-alike b (gives (some x)) o = refl
+end-alike b (gives none) o = refl
+end-alike b (refuses k vs) o = refl
+
+name-alike : (w : List ℕ) (b : ℕ) → b ≤ length w → (r : Told (Option Placed)) → nameBy w (moved b r) ≡ nameBy (drop b w) r
+name-alike w b held (gives (some x)) = name-moved w b held (x .place) (x .header .«name_len»)
+name-alike w b held (gives none) = refl
+name-alike w b held (refuses k vs) = refl
+
+read-by : (b : ℕ) (r : Told (Option Placed)) (enter other : Placed → Told (List ℕ)) (rest rest₂ : Told (List ℕ)) → ((x : Placed) → enter (placedOn b x) ≡ other x) → rest ≡ rest₂ →
+    byRead (moved b r) enter rest ≡ byRead r other rest₂
+read-by b (gives (some x)) enter other rest rest₂ e d = e x
+read-by b (gives none) enter other rest rest₂ e d = d
+read-by b (refuses k vs) enter other rest rest₂ e d = refl
+
+-- f finds in the window what g finds in the part, with places counted from b on
+module _ (w : List ℕ) (b : ℕ) (held : b ≤ length w) (f g : ℕ → Told (Option Placed)) (alike : (o : ℕ) → f o ≡ moved b (g o)) where
+  apart-alike : (o e : ℕ) (seen : List ℕ) → apart f o e seen ≡ apart g o e seen
+  unfolding apart
+  apart-alike o e [] = refl
+  apart-alike o e (x ∷ xs) = rw (alike x, end-alike b (g x) x, apart-alike o e xs)
+
+  at-alike : (p : Option ℕ) → nameAt w f p ≡ nameAt (drop b w) g p
+  at-alike none = refl
+  at-alike (some o) = rw (alike o, name-alike w b held (g o))
+
+  ordered-alike : (v : Visit) (name : List ℕ) → ordered w f v name ≡ ordered (drop b w) g v name
+  unfolding ordered
+  ordered-alike v name = rw (at-alike (v .under), at-alike (v .over))
+
+  placed-alike : (size o e : ℕ) (seen : List ℕ) → placed f size o e seen ≡ placed g size o e seen
+  unfolding placed
+  placed-alike size o e seen = rw (apart-alike o e seen)
+
+  verdict-alike : (size : ℕ) (seen : List ℕ) (full : Bool) (v : Visit) (x : Placed) → verdictAt w f size seen full v (placedOn b x) ≡ verdictAt (drop b w) g size seen full v x
+  unfolding verdictAt
+  verdict-alike size seen full v x =
+      rw (
+        placed-alike size (v .offset) (endOf (x .header) (v .offset)) seen,
+        name-moved w b held (x .place) (x .header .«name_len»),
+        ordered-alike v (nameOf (drop b w) (x .place) (x .header .«name_len»)),
+      )
+
+  to-entry : (enter other : Visit → Placed → List Visit → Told (List ℕ)) → ((v : Visit) (x : Placed) (rest : List Visit) → enter v (placedOn b x) rest ≡ other v x rest) →
+      (stack : List Visit) → toEntry f enter stack ≡ toEntry g other stack
+  unfolding toEntry
+  to-entry enter other e [] = refl
+  to-entry enter other e (v ∷ stack) =
+      rw (alike (v .offset))
+      (read-by b (g (v .offset)) (λ x. enter v x stack) (λ x. other v x stack) (toEntry f enter stack) (toEntry g other stack) (λ x. e v x stack) (to-entry enter other e stack))
+
+  check-alike : (size room : ℕ) (seen : List ℕ) (stack : List Visit) → strictFrom w f size room seen stack ≡ strictFrom (drop b w) g size room seen stack
+  unfolding strictFrom
+  check-alike size zero seen stack =
+      to-entry (λ v x rest. ifGood (verdictAt w f size seen true v x) (refuses 26 [])) (λ v x rest. ifGood (verdictAt (drop b w) g size seen true v x) (refuses 26 []))
+      (λ v x rest. ap (λ (z : Told (Unit {0})). ifGood z (refuses 26 [])) (verdict-alike size seen true v x)) stack
+  check-alike size (suc room) seen stack =
+      to-entry
+      (λ v x rest.
+      ifGood (verdictAt w f size seen false v x)
+      (before (v .offset ∷ [])
+      (strictFrom w f size room (seen ++ (v .offset ∷ []))
+      (push (x .header .left .0) (visitLeft (x .header .left .0) v (v .offset)) (push (x .header .right .0) (visitRight (x .header .right .0) v (v .offset)) rest)))))
+      (λ v x rest.
+      ifGood (verdictAt (drop b w) g size seen false v x)
+      (before (v .offset ∷ [])
+      (strictFrom (drop b w) g size room (seen ++ (v .offset ∷ []))
+      (push (x .header .left .0) (visitLeft (x .header .left .0) v (v .offset)) (push (x .header .right .0) (visitRight (x .header .right .0) v (v .offset)) rest)))))
+      (λ v x rest.
+      ap₂ ifGood (verdict-alike size seen false v x)
+      (ap (before (v .offset ∷ []))
+      (check-alike size room (seen ++ (v .offset ∷ []))
+      (push (x .header .left .0) (visitLeft (x .header .left .0) v (v .offset)) (push (x .header .right .0) (visitRight (x .header .right .0) v (v .offset)) rest))))) stack
+
+-- f and s: the first sector, and the table's, for the part alone
+module _ (w : List ℕ) (first : Sector) (t : Region) (some-size : t .size ≡ 0 → ⊥) (f s : Sector) (f-is : f .0 ≡ 0) (s-is : s .0 ≡ 0) where
+  abbrev u : Region
+  u = record { sector = s; size = t .size }
+
+  check-by : (room : ℕ) (part : List ℕ) → Starts w first t part → checkOn part f u room [] (root ∷ []) ≡ checkOn w first t room [] (root ∷ [])
+  check-by room part (inside b begins held is base) =
+      rw is (sym (check-alike w b held (readAt w first t) (readAt (drop b w) f u) (read-moved w first t f u f-is s-is refl b begins held) (t .size) room [] (root ∷ [])))
+  check-by room part (outside is refused-there) =
+      rw is
+      (check-refused [] (readAt [] f u) (t .size) [] root [] room 24 (0 ∷ []) (read-nothing w first t f u f-is s-is refl some-size)
+      ∙ sym (check-refused w (readAt w first t) (t .size) [] root [] room 24 (0 ∷ []) (refused-there some-size)))
+
+-- the loop over the part, as the code has it, is the loop over the window
+pub runs-moved : (w : List ℕ) (first : Sector) (t : Region) → (t .size ≡ 0 → ⊥) → (part : List ℕ) → part ≡ partOf w first t → (f s : Sector) → f .0 ≡ 0 → s .0 ≡ 0 →
+    (room : ℕ) (r : Checked) (list : List ℕ) →
+    Runs (checkOn part f (record { sector = s; size = t .size }) room [] (root ∷ [])) r list → Runs (checkOn w first t room [] (root ∷ [])) r list
+runs-moved w first t some-size part e f s f-is s-is room r list runs =
+    subst (λ (x : Told (List ℕ)). Runs x r list) (check-by w first t some-size f s f-is s-is room part (starts w first t part e)) runs
