@@ -1,6 +1,6 @@
--- DEMAND 3: what is written is what is listed is what is found. Assumes nothing.
--- Said of a window w whose byte `place` is the first of a table's, of the table's items xs in preorder, and of what walk, lookup and reading an entry are
--- defined to answer. The links that a lookup takes for absent are a set.
+-- DEMAND 3: what is written is what is listed is what is found. Assumes nothing. Said of a window w whose byte
+-- `place` is the first of a table's, of the table's items xs in preorder, and of what walk, lookup and reading an
+-- entry are defined to answer. The links that a lookup takes for absent are a set.
 use Prim.Native.Nat.{ℕ, _+_, _≤_, _<_}
 use mathlib.Core.Path.{_≡_}
 use mathlib.Core.Bool.{false}
@@ -41,8 +41,9 @@ module _ (w : List ℕ) (first : Sector) (t : Region) (place : ℕ) where
     pub named : nameOf w (place + y .offset) (length (y .entry .name)) ≡ y .entry .name
 
 module _ (absent : List ℕ) (w : List ℕ) (first : Sector) (t : Region) (place : ℕ) where
-  -- an item is reached: there is a way to it from the first entry along links that are read, and a lookup of its name, raised, answers along that
-  -- way; that is, it finds the item at its offset, unless a link on the way is taken for absent, and then answers 22
+  -- an item is reached: there is a way to it from the first entry along links that are read, and a lookup of its
+  -- name, raised, answers along that way; that is, it finds the item at its offset, unless a link on the way is
+  -- taken for absent, and then answers 22
   pub record Reached (y : Item) : Type 0 where
     pub links : List ℕ
     pub way : Along (readAt w first t) 0 (y .offset) links
@@ -65,7 +66,8 @@ module _ (absent : List ℕ) (w : List ℕ) (first : Sector) (t : Region) (place
     -- the walk lists the items' offsets, in preorder, where its list has room
     pub listed : (room : ℕ) → length xs ≤ room → walkOf w first t room ≡ gives (offsets xs)
     -- none of them twice
-    pub once : (i j : ℕ) → i < length (offsets xs) → j < length (offsets xs) → getD (offsets xs) i 0 ≡ getD (offsets xs) j 0 → i ≡ j
+    pub once : (i j : ℕ) → i < length (offsets xs) → j < length (offsets xs)
+        → getD (offsets xs) i 0 ≡ getD (offsets xs) j 0 → i ≡ j
     -- at each the item is read back
     pub read : AllIn (ReadBack w first t place) xs
     -- each is found under its name unless a link on the way is taken for absent

@@ -11,11 +11,13 @@ use Rattle.read_lookup.specs.Lookup.{Finding}
 -- from one offset to another along links that are read: the links followed. `f o` is what is read at offset o
 pub data Along (f : ℕ → Told (Option Placed)) : ℕ → ℕ → List ℕ → Type 0 where
   there : {o : ℕ} → Along f o o []
-  left : {o p : ℕ} {x : Placed} {ks : List ℕ} → f o ≡ gives (some x) → Along f (4 * x .header .left .0) p ks → Along f o p (x .header .left .0 ∷ ks)
-  right : {o p : ℕ} {x : Placed} {ks : List ℕ} → f o ≡ gives (some x) → Along f (4 * x .header .right .0) p ks → Along f o p (x .header .right .0 ∷ ks)
+  left : {o p : ℕ} {x : Placed} {ks : List ℕ} → f o ≡ gives (some x) → Along f (4 * x .header .left .0) p ks
+      → Along f o p (x .header .left .0 ∷ ks)
+  right : {o p : ℕ} {x : Placed} {ks : List ℕ} → f o ≡ gives (some x) → Along f (4 * x .header .right .0) p ks
+      → Along f o p (x .header .right .0 ∷ ks)
 
--- what a lookup of an entry's name answers, with n headers read, where it has these links to follow to it: the entry and its offset, unless one of them
--- is taken for absent; then 22, with the headers read before it
+-- what a lookup of an entry's name answers, with n headers read, where it has these links to follow to it: the
+-- entry and its offset, unless one of them is taken for absent; then 22, with the headers read before it
 abbrev pub answerAlong : List ℕ → Placed → ℕ → ℕ → List ℕ → Told Finding
 answerAlong absent x o n [] = gives (record { entry = x; offset = o; headers = n })
 answerAlong absent x o n (k ∷ ks) = pick (isIn k absent) (refuses 22 (n ∷ [])) (answerAlong absent x o (n + 1) ks)

@@ -1,4 +1,5 @@
--- DOCUMENT 01'S STARRED CASES, as a single table: each row says what is put in and what must come out, and `Holds` what that means. Assumes nothing.
+-- DOCUMENT 01'S STARRED CASES, as a single table: each row says what is put in and what must come out, and `Holds`
+-- what that means. Assumes nothing.
 use Prim.Native.Nat.{ℕ, _+_, _/_}
 use mathlib.Core.Path.{_≡_}
 use mathlib.Core.List.{List, [], _∷_, _++_, map, List·Memᴰ}
@@ -39,7 +40,8 @@ row n o l r s = record { name = n; offset = o; left = l; right = r; sector = s }
 abbrev pub rows : List Item → List Row
 rows = map (λ (y : Item). row (y .entry .name) (y .offset) (y .left) (y .right) (y .sector))
 
--- the table of a list, from a start sector on, with alignment 1; and where it stands when it is read: at sector 33, in a window that is its bytes
+-- the table of a list, from a start sector on, with alignment 1; and where it stands when it is read: at sector 33,
+-- in a window that is its bytes
 abbrev pub itemsOf : List Given → ℕ → List Item
 itemsOf gs s = items (entryOf gs) 1 0 s (treeOf gs)
 
@@ -123,7 +125,8 @@ bac = row (0x62 ∷ []) 0 4 8 34 ∷ row (0x61 ∷ []) 16 0 0 35 ∷ row (0x63 �
 -- five files of which the last, `f`, is the root's right child and stands at 1,020: its link is 255
 abbrev at-1020 : List Given
 at-1020 =
-    file (0x64 ∷ replicate 254 0x78) 0 ∷ file (0x62 ∷ replicate 254 0x78) 0 ∷ file (0x66 ∷ []) 0 ∷ file (0x61 ∷ replicate 254 0x78) 0
+    file (0x64 ∷ replicate 254 0x78) 0 ∷ file (0x62 ∷ replicate 254 0x78) 0 ∷ file (0x66 ∷ []) 0
+    ∷ file (0x61 ∷ replicate 254 0x78) 0
     ∷ file (0x63 ∷ replicate 189 0x78) 0 ∷ []
 
 -- THE TABLE
@@ -133,7 +136,9 @@ starred =
     ∷ bytes [] 33 (replicate 2048 0xff)
     ∷ walked [] 33 []
     ∷ written (ab ∷ []) 33 (row (0x61 ∷ 0x62 ∷ []) 0 0 0 33 ∷ []) 16
-    ∷ bytes (ab ∷ []) 33 ((0x00 ∷ 0x00 ∷ 0x00 ∷ 0x00 ∷ 0x21 ∷ 0x00 ∷ 0x00 ∷ 0x00 ∷ 0x05 ∷ 0x00 ∷ 0x00 ∷ 0x00 ∷ 0x20 ∷ 0x02 ∷ 0x61 ∷ 0x62 ∷ []) ++ replicate 2032 0xff)
+    ∷ bytes (ab ∷ []) 33
+    ((0x00 ∷ 0x00 ∷ 0x00 ∷ 0x00 ∷ 0x21 ∷ 0x00 ∷ 0x00 ∷ 0x00 ∷ 0x05 ∷ 0x00 ∷ 0x00 ∷ 0x00
+    ∷ 0x20 ∷ 0x02 ∷ 0x61 ∷ 0x62 ∷ []) ++ replicate 2032 0xff)
     ∷ written (a ∷ b ∷ c ∷ []) 34 bac 48
     ∷ walked (a ∷ b ∷ c ∷ []) 34 (0 ∷ 16 ∷ 32 ∷ [])
     ∷ looked (a ∷ b ∷ c ∷ []) 34 (0x43 ∷ []) (gives (record { offset = 32; headers = 2 }))
@@ -161,11 +166,15 @@ abbrev pub Each : List Case → Type 0
 Each [] = Unit {0}
 Each (x ∷ xs) = Holds x × Each xs
 
--- THE STATEMENT: each row holds; and of every item of every table, offset 262,128 has the link 65,532, 262,144 is 7, and 262,140 never occurs
+-- THE STATEMENT: each row holds; and of every item of every table, offset 262,128 has the link 65,532, 262,144 is
+-- 7, and 262,140 never occurs
 pub record Starred : Type 0 where
   pub computed : Each starred
-  pub link-65532 : (entry : ℕ → Entry) (align s : ℕ) (x : Tree) (y : Item) → List·Memᴰ y (items entry align 0 s x) → y .offset ≡ 262128
+  pub link-65532 : (entry : ℕ → Entry) (align s : ℕ) (x : Tree) (y : Item) → List·Memᴰ y (items entry align 0 s x)
+      → y .offset ≡ 262128
       → (y .offset / 4 ≡ 65532) × LinkFits y
-  pub seven : (entry : ℕ → Entry) (align s : ℕ) (x : Tree) (y : Item) → List·Memᴰ y (items entry align 0 s x) → y .offset ≡ 262144
+  pub seven : (entry : ℕ → Entry) (align s : ℕ) (x : Tree) (y : Item) → List·Memᴰ y (items entry align 0 s x)
+      → y .offset ≡ 262144
       → placeOf entry align s x ≡ refuses 7 []
-  pub never : (entry : ℕ → Entry) (align s : ℕ) (x : Tree) → All (λ i. Fits (entry i)) x → (y : Item) → List·Memᴰ y (items entry align 0 s x) → y .offset ≡ 262140 → ⊥
+  pub never : (entry : ℕ → Entry) (align s : ℕ) (x : Tree) → All (λ i. Fits (entry i)) x → (y : Item)
+      → List·Memᴰ y (items entry align 0 s x) → y .offset ≡ 262140 → ⊥

@@ -1,4 +1,5 @@
--- A list of entries as they are given, put into a tree one after the other, and what is supposed of one that is written. Assumes nothing.
+-- A list of entries as they are given, put into a tree one after the other, and what is supposed of one that is
+-- written. Assumes nothing.
 use Prim.Native.Nat.{ℕ, zero, suc, _+_, _≤_, _<_}
 use mathlib.Core.Path.{_≡_}
 use mathlib.Core.Bool.{true, false}
@@ -28,7 +29,8 @@ pub record Given : Type 0 where
 abbrev pub largestDirectory : ℕ
 largestDirectory = 4294965248
 
--- what adding asks of it by itself (1, 2, 3, 5): a name of 1 to 255 bytes, each from 1 to 127, and a size of four bytes, a directory's so that it can be rounded
+-- what adding asks of it by itself (1, 2, 3, 5): a name of 1 to 255 bytes, each from 1 to 127, and a size of four
+-- bytes, a directory's so that it can be rounded
 pub record Good (g : Given) : Type 0 where
   pub some : 1 ≤ length (g .name)
   pub short : length (g .name) ≤ 255
@@ -66,7 +68,8 @@ pub record Admitted (align s : ℕ) (gs : List Given) : Type 0 where
   pub placing : Placing
   pub placed : placeOf (entryOf gs) align s (treeOf gs) ≡ gives placing
 
--- WHAT IS SUPPOSED: the bytes of its table stand in a window at the region's sector, and the region has the reported size
+-- WHAT IS SUPPOSED: the bytes of its table stand in a window at the region's sector, and the region has the
+-- reported size
 pub record WrittenList (align s : ℕ) (gs : List Given) (w : List ℕ) (first : Sector) (t : Region) : Type 0 where
   pub admitted : Admitted align s gs
   pub stand : Stand w first (t .sector) (tableBytes (entryOf gs) align s (treeOf gs))
@@ -77,7 +80,8 @@ abbrev pub times : ℕ → List ℕ → ℕ
 times j [] = 0
 times j (k ∷ ks) = δ k j + times j ks
 
--- the items are the entries with numbers below n, each once: in the order of some numbers, of which each below n stands there once, and no other
+-- the items are the entries with numbers below n, each once: in the order of some numbers, of which each below n
+-- stands there once, and no other
 pub record EachOnce (entry : ℕ → Entry) (n : ℕ) (xs : List Item) : Type 0 where
   pub numbers : List ℕ
   pub entries : map (λ (y : Item). y .entry) xs ≡ map entry numbers

@@ -39,15 +39,16 @@ pub record Stand (w : List ℕ) (first sector : Sector) (bytes : List ℕ) : Typ
   pub rest : List ℕ
   pub here : drop place w ≡ bytes ++ rest
 
--- a size with which a table can be read: the one that it reports, which a root's region has, or more, up to that one rounded, which the entry of a
--- directory has
+-- a size with which a table can be read: the one that it reports, which a root's region has, or more, up to that
+-- one rounded, which the entry of a directory has
 pub record SizedFor (reported n : ℕ) : Type 0 where
   pub least : reported ≤ n
   pub most : n ≤ rounded reported
 
--- WHAT IS SUPPOSED: the bytes of a tree that can be written stand in the window at the region's sector, and the region has the reported size, or more up to
--- that size rounded
-pub record Written (entry : ℕ → Entry) (align s : ℕ) (x : Tree) (w : List ℕ) (first : Sector) (t : Region) : Type 0 where
+-- WHAT IS SUPPOSED: the bytes of a tree that can be written stand in the window at the region's sector, and the
+-- region has the reported size, or more up to that size rounded
+pub record Written (entry : ℕ → Entry) (align s : ℕ) (x : Tree) (w : List ℕ) (first : Sector) (t : Region) :
+    Type 0 where
   pub writable : Writable entry align s x
   pub stand : Stand w first (t .sector) (tableBytes entry align s x)
   pub sized : SizedFor (sizeOf entry x) (t .size)

@@ -17,7 +17,8 @@ ifAdded i (refuses k vs) next = refuses k (i ∷ [])
 unfoldable pub addAll : (ℕ → given.Entry) → ℕ → ℕ → Arena → Told Arena
 addAll entry zero i A = gives A
 addAll entry (suc k) i A =
-    ifAdded i (addOf A (entry i)) (λ g. addAll entry k (i + 1) (arena (g .root) (g .count) (columnsAfter A (entry i)) (A .bytes)))
+    ifAdded i (addOf A (entry i))
+    (λ g. addAll entry k (i + 1) (arena (g .root) (g .count) (columnsAfter A (entry i)) (A .bytes)))
 
 -- an arena that holds nothing, in columns that may have anything in them
 abbrev pub emptyIn : Columns → List ℕ → Arena

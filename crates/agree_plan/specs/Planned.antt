@@ -1,4 +1,5 @@
--- A plan that is given: its tables, the sectors from which they are written, and what was planned for them. Assumes nothing.
+-- A plan that is given: its tables, the sectors from which they are written, and what was planned for them. Assumes
+-- nothing.
 use Prim.Native.Nat.{ℕ, zero, suc, _+_, _≤_, _<_}
 use mathlib.Core.Path.{_≡_}
 use mathlib.Core.Bool.{true}
@@ -31,7 +32,8 @@ freeGiven (refuses k vs) = 0
 abbrev pub rootSector : ℕ
 rootSector = 33
 
--- the directories are written in turn, each from the next free sector that the one before gave; the root from the first after its own table's
+-- the directories are written in turn, each from the next free sector that the one before gave; the root from the
+-- first after its own table's
 unfoldable pub startSector : Request → List ℕ → ℕ → ℕ
 startSector R sizes zero = rootSector + sectorsFor (tableIn sizes 0)
 startSector R sizes (suc d) = freeGiven (placeOf (entriesAt R sizes d) 1 (startSector R sizes d) (treeAt R sizes d))
@@ -46,12 +48,15 @@ pub record Planned (R : Request) (places : ℕ) (tables sectors : List ℕ) (p :
   pub entry-places : length sectors ≡ entriesOf R
   pub given : planOf R places tables sectors ≡ gives p
 
--- and where it is said: no entry is in two shares. (One that is has a place in two tables, with sectors of its own in each, and the column of sectors keeps
--- the later: the root has a directory `d` and a file `a`, and the share of `d` is that same `a`. proofs/Cases has this plan computed.)
+-- and where it is said: no entry is in two shares. (One that is has a place in two tables, with sectors of its own
+-- in each, and the column of sectors keeps the later: the root has a directory `d` and a file `a`, and the share of
+-- `d` is that same `a`. proofs/Cases has this plan computed.)
 pub record Disjoint (R : Request) : Type 0 where
-  pub once : (d e i j : ℕ) → d < directoriesOf R → e < directoriesOf R → i < countOf R d → j < countOf R e → firstOf R d + i ≡ firstOf R e + j → d ≡ e
+  pub once : (d e i j : ℕ) → d < directoriesOf R → e < directoriesOf R → i < countOf R d → j < countOf R e
+      → firstOf R d + i ≡ firstOf R e + j → d ≡ e
 
--- directory d has its tree, the planned size is what its table reports, and neither 7 nor 8 is met where it is written from its sector on
+-- directory d has its tree, the planned size is what its table reports, and neither 7 nor 8 is met where it is
+-- written from its sector on
 pub record Tabled (R : Request) (p : Plan) (d : ℕ) : Type 0 where
   pub grown : treeIn (shareOf R d) (tableIn (p .sizes)) ≡ gives (treeAt R (p .sizes) d)
   pub sized : tableIn (p .sizes) d ≡ sizeOf (entriesAt R (p .sizes) d) (treeAt R (p .sizes) d)
@@ -65,12 +70,13 @@ sectorAt R p d i = getD (p .taken .sectors) (firstOf R d + i) 0
 abbrev pub tableSector : Plan → ℕ → ℕ
 tableSector p x = getD (p .taken .tables) x 0
 
--- the table of directory d, written from its sector on, has each of its entries once, with the sector that was planned for it; and where an entry is a
--- directory, that is the sector that was planned for its table
+-- the table of directory d, written from its sector on, has each of its entries once, with the sector that was
+-- planned for it; and where an entry is a directory, that is the sector that was planned for its table
 pub record Sectored (R : Request) (p : Plan) (d : ℕ) : Type 0 where
   pub numbers : List ℕ
   pub once : (i : ℕ) → i < countOf R d → times i numbers ≡ 1
   pub others : (i : ℕ) → countOf R d ≤ i → times i numbers ≡ 0
   pub entries : map (λ (y : Item). y .entry) (itemsAt R (p .sizes) d) ≡ map (entriesAt R (p .sizes) d) numbers
   pub sectors : map (λ (y : Item). y .sector) (itemsAt R (p .sizes) d) ≡ map (sectorAt R p d) numbers
-  pub tables : (i : ℕ) → i < countOf R d → isDirectory (shareOf R d) i ≡ true → tableSector p (valueOf (shareOf R d) i) ≡ sectorAt R p d i
+  pub tables : (i : ℕ) → i < countOf R d → isDirectory (shareOf R d) i ≡ true
+      → tableSector p (valueOf (shareOf R d) i) ≡ sectorAt R p d i

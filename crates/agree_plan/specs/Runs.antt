@@ -22,7 +22,8 @@ unfoldable pub runsOf : Request → List ℕ → ℕ → List Run
 runsOf R sizes zero = record { start = rootSector; count = sectorsFor (tableIn sizes 0) } ∷ []
 runsOf R sizes (suc d) = runsOf R sizes d ++ map runOf (itemsAt R sizes d)
 
--- runs that follow one another from sector s on: each starts where the one before ended, and the last ends where e is the next free sector
+-- runs that follow one another from sector s on: each starts where the one before ended, and the last ends where e
+-- is the next free sector
 abbrev pub Follow : ℕ → List Run → ℕ → Type 0
 Follow s [] e = s ≡ e
 Follow s (r ∷ rs) e = (r .start ≡ s) × Follow (r .start + r .count) rs e

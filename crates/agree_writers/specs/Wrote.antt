@@ -16,8 +16,10 @@ use Rattle.dirtab_list.specs.Whole.{Listing, givenIn, hasPlaces}
 use Rattle.agree.specs.Written.{Stand}
 use Rattle.agree.specs.Agreement.{Same}
 
--- A WHOLE LIST WAS WRITTEN from sector s on: the answer is p, the output stands in a window at the region's sector, and the region has the size answered
-pub record WroteList (L : Listing) (shortest s : ℕ) (out : List ℕ) (p : Placing) (w : List ℕ) (first : Sector) (t : Region) : Type 0 where
+-- A WHOLE LIST WAS WRITTEN from sector s on: the answer is p, the output stands in a window at the region's sector,
+-- and the region has the size answered
+pub record WroteList (L : Listing) (shortest s : ℕ) (out : List ℕ) (p : Placing) (w : List ℕ) (first : Sector)
+    (t : Region) : Type 0 where
   -- each size is a number of four bytes, as the column's type says
   pub sizes : (i : ℕ) → getD (L .size) i 0 ≤ 4294967295
   pub answer : whole.wholeOf L shortest s (length out) ≡ gives p
@@ -25,7 +27,8 @@ pub record WroteList (L : Listing) (shortest s : ℕ) (out : List ℕ) (p : Plac
   pub sized : t .size ≡ p .size
 
 -- AN ARENA WAS SERIALISED, the same; n and m are the lengths of the scratch
-pub record WroteArena (A : Arena) (s n m : ℕ) (out : List ℕ) (p : Placing) (w : List ℕ) (first : Sector) (t : Region) : Type 0 where
+pub record WroteArena (A : Arena) (s n m : ℕ) (out : List ℕ) (p : Placing) (w : List ℕ) (first : Sector) (t : Region) :
+    Type 0 where
   pub sizes : (i : ℕ) → getD (A .columns .size) i 0 ≤ 4294967295
   pub answer : serialise.serialiseOf A s n m (length out) ≡ gives p
   pub stand : Stand w first (t .sector) (serialise.outAfter A s n m out)
@@ -36,4 +39,5 @@ pub record Taken (L : Listing) (shortest : ℕ) : Type 0 where
   pub places : hasPlaces L shortest ≡ true
   pub few : L .count ≤ 16384
   pub checked : (i : ℕ) → i < L .count → checkOf (L .bytes) (givenIn L i) ≡ gives tt
-  pub differ : (i j : ℕ) → i < L .count → j < L .count → Same (nameIn (L .bytes) (givenIn L i)) (nameIn (L .bytes) (givenIn L j)) → i ≡ j
+  pub differ : (i j : ℕ) → i < L .count → j < L .count
+      → Same (nameIn (L .bytes) (givenIn L i)) (nameIn (L .bytes) (givenIn L j)) → i ≡ j

@@ -23,8 +23,8 @@ pub record Places (S : Lists) (N : Names) (n : ℕ) : Type 0 where
   pub start : n ≤ length (N .start)
   pub len : n ≤ length (N .len)
 
--- the first n places of the columns hold the tree t: each number below n stands in it once, links, parents and heights are true, it is balanced and
--- ordered by name, and each name lies inside the lent bytes
+-- the first n places of the columns hold the tree t: each number below n stands in it once, links, parents and
+-- heights are true, it is balanced and ordered by name, and each name lies inside the lent bytes
 pub record HeldTree (S : Lists) (N : Names) (n : ℕ) (t : Tree) : Type 0 where
   pub places : Places S N n
   pub root-is : S .root ≡ top t

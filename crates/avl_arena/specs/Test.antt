@@ -1,6 +1,7 @@
--- The arena test: whether the first n places of the columns hold one ordered, balanced tree of n nodes, parents and heights true, each name inside
--- the lent bytes. It is a test on the tree that the links hold, to a depth that no balanced tree of at most 65,535 nodes passes; for every content of
--- the columns. proofs/Sound.antt and proofs/Complete.antt say that it is `HeldTree`. Assumes nothing.
+-- The arena test: whether the first n places of the columns hold one ordered, balanced tree of n nodes, parents and
+-- heights true, each name inside the lent bytes. It is a test on the tree that the links hold, to a depth that no
+-- balanced tree of at most 65,535 nodes passes; for every content of the columns. proofs/Sound.antt and
+-- proofs/Complete.antt say that it is `HeldTree`. Assumes nothing.
 use Prim.Native.Nat.{ℕ, zero, suc, _+_, max}
 use mathlib.Core.Bool.{Bool, true, _&&_, _||_}
 use mathlib.Core.List.{List}
@@ -23,7 +24,9 @@ partNames n N = names (N .bytes) (take n (N .start)) (take n (N .len))
 -- each column has n places
 unfoldable pub places : Lists → List ℕ → List ℕ → ℕ → Bool
 places S start len n =
-    leb n (length (S .L)) && (leb n (length (S .R)) && (leb n (length (S .P)) && (leb n (length (S .H)) && (leb n (length start) && leb n (length len)))))
+    leb n (length (S .L))
+    && (leb n (length (S .R))
+    && (leb n (length (S .P)) && (leb n (length (S .H)) && (leb n (length start) && leb n (length len)))))
 
 -- a test of each number below n
 abbrev pub every : (ℕ → Bool) → ℕ → Bool
@@ -38,7 +41,8 @@ inside N i = leb (getD (N .start) i 0 + getD (N .len) i 0) (length (N .bytes))
 unfoldable pub between : Names → ℕ → ℕ → ℕ → ℕ → Bool
 between N n lo hi i = (leb n lo || isLess (byName N lo i)) && (leb n hi || isLess (byName N i hi))
 
--- the links, the parent and the height of i, over subtrees whose roots are a and b and whose heights are x and y; and its balance
+-- the links, the parent and the height of i, over subtrees whose roots are a and b and whose heights are x and y;
+-- and its balance
 unfoldable pub cellOk : Lists → ℕ → ℕ → ℕ → ℕ → ℕ → ℕ → Bool
 cellOk S i up a b x y =
     eqb (getD (S .L) i 0) a && (eqb (getD (S .R) i 0) b && (eqb (getD (S .P) i 0) up
@@ -48,7 +52,8 @@ cellOk S i up a b x y =
 abbrev pub okTree : Lists → Names → ℕ → ℕ → ℕ → ℕ → Tree → Bool
 okTree S N n lo hi up leaf = true
 okTree S N n lo hi up (node l i r) =
-    between N n lo hi i && (okTree S N n lo i i l && (okTree S N n i hi i r && cellOk S i up (top l) (top r) (ht l) (ht r)))
+    between N n lo hi i && (okTree S N n lo i i l
+    && (okTree S N n i hi i r && cellOk S i up (top l) (top r) (ht l) (ht r)))
 
 -- the tree that the links hold
 abbrev pub treeOf : Lists → Tree
@@ -68,4 +73,5 @@ wholeTree S N n = isWhole S N n (treeOf S)
 
 -- the first n places of the columns do. An empty arena has no root.
 unfoldable pub holdsTree : Lists → Names → ℕ → Bool
-holdsTree S N n = places S (N .start) (N .len) n && (every (inside (partNames n N)) n && wholeTree (partOf n S) (partNames n N) n)
+holdsTree S N n = places S (N .start) (N .len) n
+    && (every (inside (partNames n N)) n && wholeTree (partOf n S) (partNames n N) n)

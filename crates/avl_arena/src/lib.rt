@@ -64,7 +64,8 @@ fn read_name<'a>(bytes: &'a [u8], start: &[u32], len: &[u32], i: usize) -> &'a [
 
 // The name of i is less than that of j.
 fn is_less(bytes: &[u8], start: &[u32], len: &[u32], i: usize, j: usize) -> bool
-    requires { ⌜ Named (names (now bytes) (now start) (now len)) × (i < length (now start)) × (j < length (now start)) ⌝ }
+    requires { ⌜ Named (names (now bytes) (now start) (now len)) × (i < length (now start))
+        × (j < length (now start)) ⌝ }
     ensures { λ r. ⌜ r ≡ isLess (byName (names (was bytes) (was start) (was len)) i j) ⌝ }
 {
     let a = read_name(bytes, start, len, i);
@@ -79,7 +80,8 @@ fn is_less(bytes: &[u8], start: &[u32], len: &[u32], i: usize, j: usize) -> bool
 // i comes after lo by name, if that is a node.
 fn is_after(bytes: &[u8], start: &[u32], len: &[u32], lo: u16, i: usize) -> bool
     requires { ⌜ Named (names (now bytes) (now start) (now len)) × (i < length (now start)) ⌝ }
-    ensures { λ r. ⌜ r ≡ (leb (length (was start)) lo || isLess (byName (names (was bytes) (was start) (was len)) lo i)) ⌝ }
+    ensures { λ r. ⌜ r ≡ (leb (length (was start)) lo || isLess
+        (byName (names (was bytes) (was start) (was len)) lo i)) ⌝ }
 {
     let k = widen(lo);
     if start.len() <= k {
@@ -91,7 +93,8 @@ fn is_after(bytes: &[u8], start: &[u32], len: &[u32], lo: u16, i: usize) -> bool
 // i comes before hi by name, if that is a node.
 fn is_before(bytes: &[u8], start: &[u32], len: &[u32], hi: u16, i: usize) -> bool
     requires { ⌜ Named (names (now bytes) (now start) (now len)) × (i < length (now start)) ⌝ }
-    ensures { λ r. ⌜ r ≡ (leb (length (was start)) hi || isLess (byName (names (was bytes) (was start) (was len)) i hi)) ⌝ }
+    ensures { λ r. ⌜ r ≡ (leb (length (was start)) hi || isLess
+        (byName (names (was bytes) (was start) (was len)) i hi)) ⌝ }
 {
     let k = widen(hi);
     if start.len() <= k {
@@ -122,8 +125,10 @@ fn is_cell(
     l: Seen,
     r: Seen,
 ) -> bool
-    requires { ⌜ (i < length (now left)) × (i < length (now right)) × (i < length (now parent)) × (i < length (now height)) × (l .high ≤ 22) × (r .high ≤ 22) ⌝ }
-    ensures { λ b. ⌜ b ≡ cellOk (lists 0 (was left) (was right) (was parent) (was height)) i up (l .top) (r .top) (l .high) (r .high) ⌝ }
+    requires { ⌜ (i < length (now left)) × (i < length (now right)) × (i < length (now parent))
+        × (i < length (now height)) × (l .high ≤ 22) × (r .high ≤ 22) ⌝ }
+    ensures { λ b. ⌜ b ≡ cellOk (lists 0 (was left) (was right) (was parent) (was height)) i up (l .top) (r .top)
+        (l .high) (r .high) ⌝ }
 {
     if left[i] != l.top {
         return false;
@@ -149,7 +154,8 @@ fn is_cell(
 // What is seen of the node `at`, over the subtrees l and r.
 fn join(ok: bool, at: u16, l: Seen, r: Seen) -> Seen
     requires { ⌜ (l .high ≤ 22) × (r .high ≤ 22) × (l .size < 4194304) × (r .size < 4194304) ⌝ }
-    ensures { λ s. ⌜ (s .ok ≡ ok) × (s .top ≡ at) × (s .high ≡ max (l .high) (r .high) + 1) × (s .size ≡ l .size + r .size + 1) ⌝ }
+    ensures { λ s. ⌜ (s .ok ≡ ok) × (s .top ≡ at) × (s .high ≡ max (l .high) (r .high) + 1)
+        × (s .size ≡ l .size + r .size + 1) ⌝ }
 {
     Seen {
         ok,
@@ -184,8 +190,11 @@ fn look(
     at: u16,
     d: usize,
 ) -> Seen
-    requires { ⌜ Lent (lists 0 (now left) (now right) (now parent) (now height)) (names (now bytes) (now start) (now len)) (length (now left)) × (d ≤ 22) ⌝ }
-    ensures { λ s. ⌜ Judged s (okTree (lists 0 (was left) (was right) (was parent) (was height)) (names (was bytes) (was start) (was len)) (length (was left)) (g .lo) (g .hi) (g .up) (treeAt d (was left) (was right) at)) (treeAt d (was left) (was right) at) ⌝ }
+    requires { ⌜ Lent (lists 0 (now left) (now right) (now parent) (now height))
+        (names (now bytes) (now start) (now len)) (length (now left)) × (d ≤ 22) ⌝ }
+    ensures { λ s. ⌜ Judged s (okTree (lists 0 (was left) (was right) (was parent) (was height))
+        (names (was bytes) (was start) (was len)) (length (was left)) (g .lo) (g .hi) (g .up)
+        (treeAt d (was left) (was right) at)) (treeAt d (was left) (was right) at) ⌝ }
 {
     if d == 0 {
         return see_none(true);
@@ -232,8 +241,10 @@ fn is_whole(
     len: &[u32],
     root: u16,
 ) -> bool
-    requires { ⌜ Lent (lists 0 (now left) (now right) (now parent) (now height)) (names (now bytes) (now start) (now len)) (length (now left)) ⌝ }
-    ensures { λ r. ⌜ r ≡ wholeTree (lists root (was left) (was right) (was parent) (was height)) (names (was bytes) (was start) (was len)) (length (was left)) ⌝ }
+    requires { ⌜ Lent (lists 0 (now left) (now right) (now parent) (now height))
+        (names (now bytes) (now start) (now len)) (length (now left)) ⌝ }
+    ensures { λ r. ⌜ r ≡ wholeTree (lists root (was left) (was right) (was parent) (was height))
+        (names (was bytes) (was start) (was len)) (length (was left)) ⌝ }
 {
     let g = Gap {
         lo: NONE,
@@ -294,7 +305,8 @@ fn have_places(
     n <= len.len()
 }
 
-// The first `count` places of the columns hold one ordered, balanced tree of as many nodes, with true parents and heights and each name inside `bytes`.
+// The first `count` places of the columns hold one ordered, balanced tree of as many nodes, with true parents and
+// heights and each name inside `bytes`.
 pub fn is_tree(
     left: &[u16],
     right: &[u16],
@@ -306,7 +318,8 @@ pub fn is_tree(
     root: u16,
     count: u16,
 ) -> bool
-    ensures { λ r. ⌜ r ≡ holdsTree (lists root (was left) (was right) (was parent) (was height)) (names (was bytes) (was start) (was len)) count ⌝ }
+    ensures { λ r. ⌜ r ≡ holdsTree (lists root (was left) (was right) (was parent) (was height))
+        (names (was bytes) (was start) (was len)) count ⌝ }
 {
     let n = widen(count);
     if have_places(left, right, parent, height, start, len, n) {

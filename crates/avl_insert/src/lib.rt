@@ -1,5 +1,6 @@
-// Insertion by name into the balanced tree that lent columns hold. The name of node i is the part of `bytes` that starts at start[i] and has
-// len[i] bytes; nothing is asked of what the columns hold for numbers that are not in the tree.
+// Insertion by name into the balanced tree that lent columns hold. The name of node i is the part of `bytes` that
+// starts at start[i] and has len[i] bytes; nothing is asked of what the columns hold for numbers that are not in
+// the tree.
 ghost use mathlib.Core.Path.{_≡_};
 ghost use Prim.Native.Nat.{_≤_, _<_};
 ghost use lib.ListN.{length};
@@ -119,7 +120,8 @@ fn attach(
     place: Place,
     new: u16,
 )
-    requires { ⌜ (new < length (now left)) × (new < length (now right)) × (new < length (now parent)) × (new < length (now height)) ⌝ }
+    requires { ⌜ (new < length (now left)) × (new < length (now right)) × (new < length (now parent))
+        × (new < length (now height)) ⌝ }
     ensures { λ _. let s = lentLists root left right parent height in ⌜ s .exit ≡ attached (s .entry) place new ⌝ }
 {
     put(root, left, right, place, new);
@@ -130,7 +132,8 @@ fn attach(
     height[i] = 0;
 }
 
-// From a node whose child has changed upwards: heights, and rotations where they are needed, as far as a height changes.
+// From a node whose child has changed upwards: heights, and rotations where they are needed, as far as a height
+// changes.
 fn rebalance(
     root: &mut u16,
     left: &mut [u16],
@@ -141,7 +144,8 @@ fn rebalance(
 )
     requires { ⌜ Ready (lists (now root) (now left) (now right) (now parent) (now height)) from ⌝ }
     ensures { λ _. let s = lentLists root left right parent height in
-        ⌜ ((w : Ready (s .entry) from) → Whole (s .exit) (length (was left)) (climb (w .k) (bal (w .l) from (w .r)))) ⌝ }
+        ⌜ ((w : Ready (s .entry) from) → Whole (s .exit) (length (was left))
+        (climb (w .k) (bal (w .l) from (w .r)))) ⌝ }
 {
     let mut at = from;
     while at < NONE {
@@ -175,7 +179,8 @@ pub fn put_in(
     rebalance(root, left, right, parent, height, new);
 }
 
-// Puts the node `new`, which has this name, into the tree; or says which node has the name already, and leaves all as it is.
+// Puts the node `new`, which has this name, into the tree; or says which node has the name already, and leaves all
+// as it is.
 pub fn insert(
     root: &mut u16,
     left: &mut [u16],
@@ -188,7 +193,8 @@ pub fn insert(
     name: &[u8],
     new: u16,
 ) -> Inserted
-    requires { ⌜ Filled (lists (now root) (now left) (now right) (now parent) (now height)) (names (now bytes) (now start) (now len)) new ⌝ }
+    requires { ⌜ Filled (lists (now root) (now left) (now right) (now parent) (now height))
+        (names (now bytes) (now start) (now len)) new ⌝ }
     requires { ⌜ length (now name) ≤ 255 ⌝ }
     ensures { λ r.
         let s = lentLists root left right parent height in

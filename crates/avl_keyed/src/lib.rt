@@ -52,8 +52,8 @@ fn place_below(above: u16, less: bool) -> Spot
     }
 }
 
-// Where a name, of which `copy` is the raised copy and k the key, stands or would hang. What a node says is read before it is tested, so that the child is
-// chosen without a branch where the keys differ.
+// Where a name, of which `copy` is the raised copy and k the key, stands or would hang. What a node says is read
+// before it is tested, so that the child is chosen without a branch where the keys differ.
 pub fn seek(
     left: &[u16],
     right: &[u16],

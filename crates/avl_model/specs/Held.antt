@@ -1,5 +1,6 @@
--- What the climbing functions take and leave, of the lists that they are lent. A `requires` gives such a record, and the `ensures` speaks of every
--- such record: so the trees are in no parameter, and the caller gets back its own.
+-- What the climbing functions take and leave, of the lists that they are lent. A `requires` gives such a record,
+-- and the `ensures` speaks of every such record: so the trees are in no parameter, and the caller gets back its
+-- own.
 use Prim.Native.Nat.{ℕ, suc, _+_, _≤_, _<_, max}
 use mathlib.Core.Path.{_≡_}
 use lib.ListN.{length, getD}

@@ -22,7 +22,8 @@ pub record Filled (S : Lists) (N : Names) (new : ℕ) : Type 0 where
   pub arena : Arena S new
   pub named : All (Inside N) (arena .t)
 
--- an arena, and q is the place where a name that no node has would hang; `by i` is the order of that name to that of node i
+-- an arena, and q is the place where a name that no node has would hang; `by i` is the order of that name to that
+-- of node i
 pub record Placed (S : Lists) (q : Place) (new : ℕ) : Type 0 where
   pub arena : Arena S new
   pub by : ℕ → Order

@@ -1,5 +1,5 @@
--- What each function does to the lists of numbers that it is lent. A store at a number that is no index changes nothing, and `getD .. 0`
--- reads 0 there, so that none of these asks whether a child is there.
+-- What each function does to the lists of numbers that it is lent. A store at a number that is no index changes
+-- nothing, and `getD .. 0` reads 0 there, so that none of these asks whether a child is there.
 use Prim.Native.Nat.{ℕ, suc, _+_, _<_, max}
 use mathlib.Core.Bool.{Bool, true, false}
 use mathlib.Core.Path.{_≡_}

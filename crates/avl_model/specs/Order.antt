@@ -12,7 +12,8 @@ abbrev pub order : Tree → List ℕ
 order leaf = []
 order (node l i r) = i ∷ (order l ++ order r)
 
--- the links hold the tree t below the root, no higher than balanced trees of 65,535 nodes are, and a list of so many places has one for each node
+-- the links hold the tree t below the root, no higher than balanced trees of 65,535 nodes are, and a list of so
+-- many places has one for each node
 pub record Listed (L R : List ℕ) (root places : ℕ) : Type 0 where
   pub t : Tree
   pub n-is : length R ≡ length L

@@ -1,4 +1,5 @@
--- What it is for four arrays and a root to hold a tree. An array is taken as the function from an index to what stands there.
+-- What it is for four arrays and a root to hold a tree. An array is taken as the function from an index to what
+-- stands there.
 use Prim.Native.Nat.{ℕ, suc, _+_, _≤_, _<_, max}
 use mathlib.Core.Path.{_≡_}
 use mathlib.Core.List.{List}

@@ -1,4 +1,5 @@
--- Insertion as the Rust does it: the rotation is chosen by the way that the climb came, and not by the heights of the grandchildren.
+-- Insertion as the Rust does it: the rotation is chosen by the way that the climb came, and not by the heights of
+-- the grandchildren.
 use Prim.Native.Nat.{ℕ, suc}
 use mathlib.Core.Bool.{Bool, true, false, not}
 use lib.Dec.{ltb}
@@ -12,9 +13,11 @@ pick false a b = b
 -- the node i, come to from the left (true) or from the right; below, the climb came by `less`
 abbrev pub rust : (ℕ → Bool) → Bool → Tree → ℕ → Tree → Tree
 rust less true leaf i r = node leaf i r
-rust less true (node x b y) i r = pick (ltb (suc (ht r)) (ht (node x b y))) (turnRightBy (not (less b)) x b y i r) (node (node x b y) i r)
+rust less true (node x b y) i r =
+    pick (ltb (suc (ht r)) (ht (node x b y))) (turnRightBy (not (less b)) x b y i r) (node (node x b y) i r)
 rust less false l i leaf = node l i leaf
-rust less false l i (node y b z) = pick (ltb (suc (ht l)) (ht (node y b z))) (turnLeftBy (less b) l i y b z) (node l i (node y b z))
+rust less false l i (node y b z) =
+    pick (ltb (suc (ht l)) (ht (node y b z))) (turnLeftBy (less b) l i y b z) (node l i (node y b z))
 
 -- the side to which the new node goes
 abbrev pub rustBy : (ℕ → Bool) → Bool → Tree → Tree → ℕ → Tree → Tree → Tree

@@ -57,7 +57,8 @@ Links L R n (node l i r) = Link2 L R n l i r × Links L R n l × Links L R n r
 -- the tree that the links hold from i down, to a depth
 unfoldable pub treeAt : ℕ → List ℕ → List ℕ → ℕ → Tree
 treeAt zero L R i = leaf
-treeAt (suc f) L R i = elim (ltb i (length L)) [ true ↦ node (treeAt f L R (getD L i 0)) i (treeAt f L R (getD R i 0)) | false ↦ leaf ]
+treeAt (suc f) L R i =
+    elim (ltb i (length L)) [ true ↦ node (treeAt f L R (getD L i 0)) i (treeAt f L R (getD R i 0)) | false ↦ leaf ]
 
 -- the links hold a tree, from the root
 pub record Linked (L R : List ℕ) (root : ℕ) : Type 0 where

@@ -36,7 +36,8 @@ abbrev pub cnt : ℕ → Tree → ℕ
 cnt j leaf = 0
 cnt j (node l i r) = cnt j l + (δ i j + cnt j r)
 
--- the left rotation of a, whose right child is b, by a test: the subtree y between them is higher than b's other subtree z
+-- the left rotation of a, whose right child is b, by a test: the subtree y between them is higher than b's other
+-- subtree z
 abbrev pub turnLeftBy : Bool → Tree → ℕ → Tree → ℕ → Tree → Tree
 turnLeftBy false x a y b z = node (node x a y) b z
 turnLeftBy true x a leaf b z = node x a (node leaf b z)

@@ -1,4 +1,5 @@
-// The words that the code of the tree and its definitions share. No code: the definitions are in specs/, their laws in proofs/.
+// The words that the code of the tree and its definitions share. No code: the definitions are in specs/, their laws
+// in proofs/.
 
 // Which way a node leans, or which child of its parent it is: left is -1, right is 1.
 pub enum Direction {

@@ -25,12 +25,13 @@ fn count_node(link: u16) -> usize
     if link == NONE { 0 } else { 1 }
 }
 
-// The numbers of the tree below the root into the first places of `list`: a node, then what is left of it, then what is right.
-// The stack has the roots of the subtrees still to be listed, the next one on top. The more lie below a subtree the lower it is, so that 23 places
-// are enough for a tree that is 22 high.
+// The numbers of the tree below the root into the first places of `list`: a node, then what is left of it, then
+// what is right. The stack has the roots of the subtrees still to be listed, the next one on top. The more lie
+// below a subtree the lower it is, so that 23 places are enough for a tree that is 22 high.
 pub fn preorder(left: &[u16], right: &[u16], root: u16, list: &mut [u16])
     requires { ⌜ Listed (now left) (now right) root (length (now list)) ⌝ }
-    ensures { λ _. ⌜ ((w : Listed (was left) (was right) root (length (was list))) → is list ≡ order (w .t) ++ drop (size (w .t)) (was list)) ⌝ }
+    ensures { λ _. ⌜ ((w : Listed (was left) (was right) root (length (was list))) →
+        is list ≡ order (w .t) ++ drop (size (w .t)) (was list)) ⌝ }
 {
     let mut stack = [0u16; 23];
     stack[0] = root;

@@ -1,12 +1,14 @@
-// Rotations of a tree that lent columns hold. left, right and parent hold the number of a node, or 65535 where there is none; height holds the
-// height of the node's subtree. A rotation to the other side is the same function with the columns left and right exchanged.
+// Rotations of a tree that lent columns hold. left, right and parent hold the number of a node, or 65535 where
+// there is none; height holds the height of the node's subtree. A rotation to the other side is the same function
+// with the columns left and right exchanged.
 ghost use mathlib.Core.Path.{_≡_};
 ghost use Prim.Native.Nat.{ℕ, _<_, max};
 ghost use lib.ListN.{length, getD, set};
 ghost use Rattle.units.specs.Lent.{was, is};
 ghost use Rattle.avl_model.specs.Tree.{node, turnLeft, bal};
 ghost use Rattle.avl_model.specs.Held.{Heavy, Ready, Up};
-ghost use Rattle.avl_model.specs.Lists.{risen, tiltOf, placeOf, putRoot, putLeft, putRight, lists, lentLists, lRotated, rlRotated, risen3, Three};
+ghost use Rattle.avl_model.specs.Lists.{risen, tiltOf, placeOf, putRoot, putLeft, putRight, lists, lentLists};
+ghost use Rattle.avl_model.specs.Lists.{lRotated, rlRotated, risen3, Three};
 use avl_model::Direction;
 use avl_model::Place;
 
@@ -55,7 +57,8 @@ fn update_heights(left: &[u16], right: &[u16], height: &mut [u8], i: u16, j: u16
     update_height(left, right, height, k);
 }
 
-// To which side a node leans by more than one, whose children have these heights. Its balance is left height minus right height.
+// To which side a node leans by more than one, whose children have these heights. Its balance is left height minus
+// right height.
 fn tilt(l: u8, r: u8) -> Direction
     ensures { λ d. ⌜ d ≡ tiltOf l r ⌝ }
 {
@@ -69,7 +72,8 @@ fn tilt(l: u8, r: u8) -> Direction
     Direction::Leaf
 }
 
-// The child of a node on one side is now `to`. With the column left it sets the left child, with the column right the right one.
+// The child of a node on one side is now `to`. With the column left it sets the left child, with the column right
+// the right one.
 fn set_child(side: &mut [u16], parent: &mut [u16], node: u16, to: u16)
     requires { ⌜ node < length (now side) ⌝ }
     ensures { λ _. ⌜ is side ≡ set (was side) node to ⌝ }
@@ -194,8 +198,9 @@ fn rl_rotate(
     update_heights(left, right, height, a, b, c);
 }
 
-// a's child b on the far side is more than one higher than its child on the near side: b, or b's child on the near side
-// where that is the higher, comes up. The number of what came up. (near, far) are (left, right), or the other way round.
+// a's child b on the far side is more than one higher than its child on the near side: b, or b's child on the near
+// side where that is the higher, comes up. The number of what came up. (near, far) are (left, right), or the other
+// way round.
 fn turn(
     root: &mut u16,
     near: &mut [u16],
@@ -222,7 +227,8 @@ fn turn(
     }
 }
 
-// The height of a node on the way up, and a rotation where it leans by more than one. The number of what then stands there.
+// The height of a node on the way up, and a rotation where it leans by more than one. The number of what then
+// stands there.
 pub fn settle(
     root: &mut u16,
     left: &mut [u16],

@@ -1,8 +1,11 @@
-// The operations of `xdvdfs` for C, and for any language that calls as C does: on numbers, slices (a pointer and a length) and cells (a pointer). include/xdvdfs.h declares them.
+// The operations of `xdvdfs` for C, and for any language that calls as C does: on numbers, slices (a pointer and a
+// length) and cells (a pointer). include/xdvdfs.h declares them.
 //
-// What a function returns is document 01's number, 0 where nothing is refused. The values of the answer go into lent cells, and a cell for which the answer has no value is
-// unchanged (capi_cells/specs/Cells.antt). Each contract says so by the definition that the like-named operation of `xdvdfs` has: the number, each cell and each lent slice is an equation.
-// No function asks anything of its caller beyond what every call from C does: pointers to as many elements as the length says, and no two that overlap.
+// What a function returns is document 01's number, 0 where nothing is refused. The values of the answer go into
+// lent cells, and a cell for which the answer has no value is unchanged (capi_cells/specs/Cells.antt). Each
+// contract says so by the definition that the like-named operation of `xdvdfs` has: the number, each cell and each
+// lent slice is an equation. No function asks anything of its caller beyond what every call from C does: pointers
+// to as many elements as the length says, and no two that overlap.
 //
 // `was x`, `is x`, `m .entry` and `m .exit` are as in `xdvdfs`: at the call, and at the return.
 //
@@ -43,8 +46,11 @@ ghost use Rattle.read_lookup.specs.Lookup as lookup;
 ghost use Rattle.read_path.specs.Path as following;
 ghost use Rattle.read_walk.specs.Walk as walking;
 ghost use Rattle.strict.specs.Strict as checking;
-ghost use Rattle.capi_cells.specs.Cells.{ofGiven, ofSome, isSome, ofRefusal, atOffset, atFault, afterHeaders, ofEntry, ofPlanned, ofDirectory};
-ghost use Rattle.capi_cells.specs.Parts.{placedFields, placedAt, foundFields, foundPlace, foundOffset, foundHeaders, rootSector, rootSize, itself, grownRoot, grownCount, tableSize, nextFree, runStart, runFree};
+ghost use Rattle.capi_cells.specs.Cells.{ofGiven, ofSome, isSome, ofRefusal, atOffset, atFault, afterHeaders};
+ghost use Rattle.capi_cells.specs.Cells.{ofEntry, ofPlanned, ofDirectory};
+ghost use Rattle.capi_cells.specs.Parts.{placedFields, placedAt, foundFields, foundPlace, foundOffset};
+ghost use Rattle.capi_cells.specs.Parts.{foundHeaders, rootSector, rootSize, itself, grownRoot, grownCount};
+ghost use Rattle.capi_cells.specs.Parts.{tableSize, nextFree, runStart, runFree};
 ghost use Rattle.capi.specs.Given.{sectorOf, regionOf, descriptorOf, entryOf, nameStart};
 
 // The sector, and the table, that numbers stand for.
@@ -77,7 +83,8 @@ pub extern "C" fn xdvdfs_read_descriptor(s: &[u8], sector: &mut u32, size: &mut 
     store_descriptor(xdvdfs::read_descriptor(s), sector, size)
 }
 
-// Reads the entry at an offset of a table: whether one is there, its six fields and its place in the window. 23, 24, both of the offset given.
+// Reads the entry at an offset of a table: whether one is there, its six fields and its place in the window. 23,
+// 24, both of the offset given.
 #[no_mangle]
 pub extern "C" fn xdvdfs_read_entry(
     w: &[u8],
@@ -136,8 +143,8 @@ pub extern "C" fn xdvdfs_entry_name(
     *len = name.len();
 }
 
-// Looks a name up in a table: the entry's fields, its place in the window and its offset in the table, and the number of headers read. 2, 21, then 22 with the
-// number of headers, 23, 24 with the offset, 25.
+// Looks a name up in a table: the entry's fields, its place in the window and its offset in the table, and the
+// number of headers read. 2, 21, then 22 with the number of headers, 23, 24 with the offset, 25.
 #[no_mangle]
 pub extern "C" fn xdvdfs_look_up(
     w: &[u8],
@@ -162,7 +169,8 @@ pub extern "C" fn xdvdfs_look_up(
     store_looked(r, fields, place, offset, headers)
 }
 
-// Follows a path from a table: the entry's fields and its place in the window. 2, 28, then as the lookup of each part, 22 without its count, and 27.
+// Follows a path from a table: the entry's fields and its place in the window. 2, 28, then as the lookup of each
+// part, 22 without its count, and 27.
 #[no_mangle]
 pub extern "C" fn xdvdfs_find_path(
     w: &[u8],
@@ -210,7 +218,8 @@ pub extern "C" fn xdvdfs_walk(
     store_walked(r, count, offset)
 }
 
-// Checks that a table is of the form on which the readers agree, and lists it. 6, then 23, 24, 30, 26, 32, 31, all but 6 and 26 with the offset.
+// Checks that a table is of the form on which the readers agree, and lists it. 6, then 23, 24, 30, 26, 32, 31, all
+// but 6 and 26 with the offset.
 #[no_mangle]
 pub extern "C" fn xdvdfs_check_table(
     w: &[u8],
@@ -333,7 +342,8 @@ pub extern "C" fn xdvdfs_add(
     store_added(r, root, count)
 }
 
-// Writes the table that an arena holds, with sectors from `first` on: the reported size, and the next free sector. `order` and `place` are scratch. 12, then 6, 7, 8, 9.
+// Writes the table that an arena holds, with sectors from `first` on: the reported size, and the next free sector.
+// `order` and `place` are scratch. 12, then 6, 7, 8, 9.
 #[no_mangle]
 pub extern "C" fn xdvdfs_serialise(
     root: u16,
@@ -386,8 +396,9 @@ pub extern "C" fn xdvdfs_serialise(
     store_serialised(r, table_size, free)
 }
 
-// Writes the table of the first `count` entries of a list in one call, with sectors from `first` on: the reported size, and the next free sector. The columns from `left` to
-// `place` are scratch. 6 where a column is too short; then 1, 2, 3, 5, 4, 6 with the number of the entry; then 7, 8, 9.
+// Writes the table of the first `count` entries of a list in one call, with sectors from `first` on: the reported
+// size, and the next free sector. The columns from `left` to `place` are scratch. 6 where a column is too short;
+// then 1, 2, 3, 5, 4, 6 with the number of the entry; then 7, 8, 9.
 #[no_mangle]
 pub extern "C" fn xdvdfs_write_list(
     count: u32,
@@ -439,8 +450,9 @@ pub extern "C" fn xdvdfs_write_list(
     store_written(r, table_size, free, entry)
 }
 
-// Plans an image: the reported size and the sector of each directory's table, and the sector of each entry; the next free sector. The columns from `sized` on are scratch. 6, then 11, then 10, 1, 2,
-// 3, 5, 4, 6 with the entry's place in the list, then 7, 8 with the directory's number.
+// Plans an image: the reported size and the sector of each directory's table, and the sector of each entry; the
+// next free sector. The columns from `sized` on are scratch. 6, then 11, then 10, 1, 2, 3, 5, 4, 6 with the entry's
+// place in the list, then 7, 8 with the directory's number.
 #[no_mangle]
 pub extern "C" fn xdvdfs_plan(
     directories: u32,

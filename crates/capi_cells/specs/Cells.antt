@@ -1,5 +1,5 @@
--- What a call leaves in the cells that are lent for the values of its answer. (The number that it returns is `numberOf` of the answer.)
--- A cell for which the answer has no value is unchanged. Assumes nothing.
+-- What a call leaves in the cells that are lent for the values of its answer. (The number that it returns is
+-- `numberOf` of the answer.) A cell for which the answer has no value is unchanged. Assumes nothing.
 use Prim.Native.Nat.{ℕ}
 use mathlib.Core.List.{List, [], _∷_}
 use mathlib.Core.Option.{Option, some, none}

@@ -1,5 +1,6 @@
-// An answer of `xdvdfs` as a number and cells: for each answer a function that puts its values into lent cells, leaves the others unchanged, and gives document 01's number,
-// 0 for what is no refusal. Each contract is over what the answer is told as (specs/Cells.antt).
+// An answer of `xdvdfs` as a number and cells: for each answer a function that puts its values into lent cells,
+// leaves the others unchanged, and gives document 01's number, 0 for what is no refusal. Each contract is over what
+// the answer is told as (specs/Cells.antt).
 use xdvdfs::Added;
 use xdvdfs::Checked;
 use xdvdfs::DescriptorRead;
@@ -27,8 +28,11 @@ ghost use Rattle.read_lookup.specs.Lookup as lookup;
 ghost use Rattle.read_path.specs.Path as following;
 ghost use Rattle.read_walk.specs.Walk as walking;
 ghost use Rattle.strict.specs.Strict as checking;
-ghost use Rattle.capi_cells.specs.Cells.{ofGiven, ofSome, isSome, ofRefusal, atOffset, atFault, afterHeaders, ofEntry, ofPlanned, ofDirectory};
-ghost use Rattle.capi_cells.specs.Parts.{fieldsOf, placedFields, placedAt, foundFields, foundPlace, foundOffset, foundHeaders, rootSector, rootSize, itself, grownRoot, grownCount, tableSize, nextFree, runStart, runFree};
+ghost use Rattle.capi_cells.specs.Cells.{ofGiven, ofSome, isSome, ofRefusal, atOffset, atFault, afterHeaders};
+ghost use Rattle.capi_cells.specs.Cells.{ofEntry, ofPlanned, ofDirectory};
+ghost use Rattle.capi_cells.specs.Parts.{fieldsOf, placedFields, placedAt, foundFields, foundPlace};
+ghost use Rattle.capi_cells.specs.Parts.{foundOffset, foundHeaders, rootSector, rootSize, itself, grownRoot};
+ghost use Rattle.capi_cells.specs.Parts.{grownCount, tableSize, nextFree, runStart, runFree};
 
 fn widen_byte(x: u8) -> u32
     ensures { λ r. ⌜ r ≡ x ⌝ }
@@ -100,7 +104,8 @@ pub fn store_entry(r: Read, found: &mut u32, fields: &mut [u32; 6], place: &mut 
     }
 }
 
-// The entry's fields, its place in the window, its offset in the table, and the number of headers read; of a refusal the offset or the number of headers.
+// The entry's fields, its place in the window, its offset in the table, and the number of headers read; of a
+// refusal the offset or the number of headers.
 pub fn store_looked(
     r: Looked,
     fields: &mut [u32; 6],

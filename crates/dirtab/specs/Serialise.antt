@@ -22,7 +22,8 @@ abbrev pub ifFits : ℕ → Told Placing → Told Placing
 ifFits bytes (gives p) = pick (leb (rounded (p .size)) bytes) (gives p) (refuses 9 [])
 ifFits bytes (refuses k vs) = refuses k vs
 
--- THE ANSWER: the reported size and the next free sector. s is the first sector, n and m the lengths of the scratch, `bytes` that of the output
+-- THE ANSWER: the reported size and the next free sector. s is the first sector, n and m the lengths of the
+-- scratch, `bytes` that of the output
 unfoldable pub serialiseOf : Arena → ℕ → ℕ → ℕ → ℕ → Told Placing
 serialiseOf A s n m bytes =
     pick (isArena A)
@@ -52,7 +53,8 @@ lent order place out = record { order = order; place = place; out = out }
 
 -- the same at the call, and at the return
 abbrev pub memory : Slice → Slice → Slice → Both Lent Lent
-memory order place out = record { entry = lent (was order) (was place) (was out); exit = lent (is order) (is place) (is out) }
+memory order place out =
+    record { entry = lent (was order) (was place) (was out); exit = lent (is order) (is place) (is out) }
 
 -- the answer, by what is lent
 abbrev pub answerIn : Arena → ℕ → Lent → Told Placing

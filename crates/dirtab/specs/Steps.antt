@@ -42,7 +42,8 @@ pub record Listing (listed left right start len size kind bytes : List ℕ) (pla
 -- the same of columns as they are lent, at the call
 abbrev pub Listed : Slice → Slice → Slice → Slice → Slice → Slice → Slice → Slice → Slice → Tree → Type 0
 Listed listed left right start len size kind bytes place =
-    Listing (was listed) (was left) (was right) (was start) (was len) (was size) (was kind) (was bytes) (length (was place))
+    Listing (was listed) (was left) (was right) (was start) (was len) (was size) (was kind) (was bytes)
+    (length (was place))
 
 -- the first n places of the columns hold the entries of t, which is below the root
 pub record Rooted (left right start len size kind bytes : List ℕ) (root n : ℕ) (t : Tree) : Type 0 where

@@ -21,7 +21,8 @@ ghost use Rattle.dirtab_entry.specs.Entry.{rounded};
 ghost use Rattle.avl_model.specs.Tree.{Tree};
 ghost use Rattle.dirtab_arena.specs.Arena.{arenaIn};
 ghost use Rattle.dirtab.specs.Serialise.{told, memory, answerIn, lentAfter};
-ghost use Rattle.dirtab.specs.Steps.{lentEntries, sizeFrom, writingOf, writingOut, Listing, Listed, Rooted, RootedIn};
+ghost use Rattle.dirtab.specs.Steps.{lentEntries, sizeFrom, writingOf, writingOut, Listing, Listed, Rooted};
+ghost use Rattle.dirtab.specs.Steps.{RootedIn};
 
 // What serialising answers.
 pub enum Serialised {
@@ -77,10 +78,12 @@ fn write_listed(
         (now start) (now len) (now size) (now kind) (now names) (length (now place)) t) ⌝ }
     ensures answer { λ r.
         let entry = lentEntries start len size kind names in
-        ⌜ ((t : Tree) → Listed order left right start len size kind names place t → told r ≡ writingOf entry (first .0) t (length (was out))) ⌝ }
+        ⌜ ((t : Tree) → Listed order left right start len size kind names place t →
+        told r ≡ writingOf entry (first .0) t (length (was out))) ⌝ }
     ensures out { λ _.
         let entry = lentEntries start len size kind names in
-        ⌜ ((t : Tree) → Listed order left right start len size kind names place t → is out ≡ writingOut entry (first .0) t (was out)) ⌝ }
+        ⌜ ((t : Tree) → Listed order left right start len size kind names place t →
+        is out ≡ writingOut entry (first .0) t (was out)) ⌝ }
 {
     match place_entries(order, len, place) {
         Ends::TooManyDirectoryEntries => Serialised::TooManyDirectoryEntries,
@@ -187,9 +190,10 @@ fn refuse_short(held: bool) -> Serialised
     }
 }
 
-// Writes the table of the arena into the first bytes of the output, up to the size rounded to whole sectors, with sectors from `first` on. The answer is
-// the reported size and the next free sector, or a refusal: 12, 6, 7, 8, 9, and then the output is unchanged. Both columns of scratch need a place for
-// each held node; where one has not, both are unchanged, and else both are all zero after the call.
+// Writes the table of the arena into the first bytes of the output, up to the size rounded to whole sectors, with
+// sectors from `first` on. The answer is the reported size and the next free sector, or a refusal: 12, 6, 7, 8, 9,
+// and then the output is unchanged. Both columns of scratch need a place for each held node; where one has not,
+// both are unchanged, and else both are all zero after the call.
 pub fn serialise(
     tree: Held,
     left: &[u16],

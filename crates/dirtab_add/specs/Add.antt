@@ -38,8 +38,10 @@ most = 16384
 unfoldable pub hasRoom : ℕ → Columns → Bool
 hasRoom n c =
     ltb n most
-    && (ltb n (length (c .left)) && (ltb n (length (c .right)) && (ltb n (length (c .parent)) && (ltb n (length (c .height))
-    && (ltb n (length (c .start)) && (ltb n (length (c .len)) && (ltb n (length (c .size)) && ltb n (length (c .kind)))))))))
+    && (ltb n (length (c .left))
+    && (ltb n (length (c .right)) && (ltb n (length (c .parent)) && (ltb n (length (c .height))
+    && (ltb n (length (c .start))
+    && (ltb n (length (c .len)) && (ltb n (length (c .size)) && ltb n (length (c .kind)))))))))
 
 -- what is given: the held tree's new root and count
 pub record Grown : Type 0 where

@@ -1,4 +1,5 @@
--- What the functions of adding take of one another: what is known of an entry after some of the checks. Assumes nothing.
+-- What the functions of adding take of one another: what is known of an entry after some of the checks. Assumes
+-- nothing.
 use Prim.Native.Nat.{ℕ}
 use mathlib.Core.Path.{_≡_}
 use mathlib.Core.Bool.{true}

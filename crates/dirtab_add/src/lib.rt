@@ -245,7 +245,8 @@ fn store_entry(
     i: usize,
     entry: Entry,
 )
-    requires { ⌜ (i < length (now start)) × (i < length (now len)) × (i < length (now size)) × (i < length (now kind)) ⌝ }
+    requires { ⌜ (i < length (now start)) × (i < length (now len)) × (i < length (now size))
+        × (i < length (now kind)) ⌝ }
     requires { ⌜ (isDirectory (entry .kind) ≡ true → entry .size ≤ 4294965248) ⌝ }
     ensures { λ _. ⌜ (is start ≡ set (was start) i (entry .start))
         × (is len ≡ set (was len) i (entry .len))
@@ -274,7 +275,8 @@ fn grow(
         place (tree .count) ⌝ }
     ensures { λ r. let s = lists (tree .root) (was left) (was right) (was parent) (was height) in
         ⌜ ((w : Placed (partOf (tree .count + 1) s) place (tree .count)) →
-        lists r (is left) (is right) (is parent) (is height) ≡ written (ins (λ i. isLess (w .by i)) (tree .count) (w .arena .t)) s) ⌝ }
+        lists r (is left) (is right) (is parent) (is height)
+        ≡ written (ins (λ i. isLess (w .by i)) (tree .count) (w .arena .t)) s) ⌝ }
 {
     let m = widen(tree.count) + 1;
     let mut root = tree.root;

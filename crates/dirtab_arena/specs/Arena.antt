@@ -15,7 +15,8 @@ use Rattle.avl_model.specs.Tree.{Tree}
 use Rattle.avl_arena.specs.Test.{every, holdsTree, decoded}
 use Rattle.table_model.specs.Entry.{Entry}
 
--- the columns, by node: links, parent and height of the tree; the name's place and length, the size and the kind of the entry
+-- the columns, by node: links, parent and height of the tree; the name's place and length, the size and the kind of
+-- the entry
 pub record Columns : Type 0 where
   pub left : List ℕ
   pub right : List ℕ
@@ -81,7 +82,8 @@ isGiven (refuses k vs) = false
 unfoldable pub isTaken : Arena → ℕ → Bool
 isTaken A i = isGiven (checkOf (A .bytes) (givenAt A i))
 
--- THE ARENA TEST (else 12): the held nodes are one ordered, balanced tree, parents and heights true, of entries that adding takes
+-- THE ARENA TEST (else 12): the held nodes are one ordered, balanced tree, parents and heights true, of entries
+-- that adding takes
 unfoldable pub isArena : Arena → Bool
 isArena A =
     leb (A .count) (length (A .columns .size))

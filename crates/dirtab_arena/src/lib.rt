@@ -13,7 +13,8 @@ use dirtab_entry::EntryChecked;
 use dirtab_entry::check_entry;
 use dirtab_entry::kind_of;
 
-// The tree that the columns hold: its root, 65,535 for none, and how many nodes it has. They are the numbers below count.
+// The tree that the columns hold: its root, 65,535 for none, and how many nodes it has. They are the numbers below
+// count.
 pub struct Held {
     pub root: u16,
     pub count: u16,
@@ -53,8 +54,10 @@ fn is_taken(names: &[u8], entry: Entry) -> bool
 
 // Adding takes each of the first n entries.
 fn are_taken(start: &[u32], len: &[u32], size: &[u32], kind: &[u8], names: &[u8], n: usize) -> bool
-    requires { ⌜ (n ≤ length (now start)) × (n ≤ length (now len)) × (n ≤ length (now size)) × (n ≤ length (now kind)) ⌝ }
-    ensures { λ r. ⌜ r ≡ every (isTaken (arena 0 0 (columns [] [] [] [] (was start) (was len) (was size) (was kind)) (was names))) n ⌝ }
+    requires { ⌜ (n ≤ length (now start)) × (n ≤ length (now len)) × (n ≤ length (now size))
+        × (n ≤ length (now kind)) ⌝ }
+    ensures { λ r. ⌜ r ≡ every (isTaken (arena 0 0 (columns [] [] [] [] (was start) (was len) (was size) (was kind))
+        (was names))) n ⌝ }
 {
     let mut i = 0;
     while i < n {
@@ -72,7 +75,8 @@ fn are_taken(start: &[u32], len: &[u32], size: &[u32], kind: &[u8], names: &[u8]
     true
 }
 
-// The arena check (else 12): the columns hold one ordered, balanced tree, parents and heights true, of entries that adding takes.
+// The arena check (else 12): the columns hold one ordered, balanced tree, parents and heights true, of entries that
+// adding takes.
 pub fn is_arena(
     tree: Held,
     left: &[u16],
@@ -85,7 +89,8 @@ pub fn is_arena(
     kind: &[u8],
     names: &[u8],
 ) -> bool
-    ensures { λ r. let A = arenaIn (tree .root) (tree .count) left right parent height start len size kind names in ⌜ r ≡ isArena A ⌝ }
+    ensures { λ r. let A = arenaIn (tree .root) (tree .count) left right parent height start len size kind names in
+        ⌜ r ≡ isArena A ⌝ }
 {
     let n = widen(tree.count);
     if size.len() < n {

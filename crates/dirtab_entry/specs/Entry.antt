@@ -1,4 +1,5 @@
--- An entry as it is given: what adding asks of it by itself, 1, 2, 3, 5 in that order, and the size that it is stored with. Assumes nothing.
+-- An entry as it is given: what adding asks of it by itself, 1, 2, 3, 5 in that order, and the size that it is
+-- stored with. Assumes nothing.
 use Prim.Native.Nat.{ℕ, _+_, _*_, _/_}
 use mathlib.Core.Bool.{Bool, true, false}
 use mathlib.Core.List.{List, [], _∷_}
@@ -9,7 +10,13 @@ use Rattle.dirtab_entry.specs.declared.Kind.{Kind}
 use Rattle.dirtab_entry.specs.declared.Kind.the-variants.{File, Directory}
 use Rattle.dirtab_entry.specs.declared.Entry.{Entry}
 use Rattle.dirtab_entry.specs.declared.EntryChecked.{EntryChecked}
-use Rattle.dirtab_entry.specs.declared.EntryChecked.the-variants.{Good, EmptyName, BadByte, NameTooLong, SizeOverflow}
+use Rattle.dirtab_entry.specs.declared.EntryChecked.the-variants.{
+  Good,
+  EmptyName,
+  BadByte,
+  NameTooLong,
+  SizeOverflow,
+}
 
 -- the kind that a column's number says: 1 is a directory, any other a file
 abbrev pub kindFor : ℕ → Kind
@@ -41,7 +48,8 @@ anyBad (x ∷ xs) = pick (isBad x) true (anyBad xs)
 abbrev pub nameIn : List ℕ → Entry → List ℕ
 nameIn names e = take (e .len) (drop (e .start) names)
 
--- 1 an empty name; 2 a place that reaches past the bytes lent, or a bad byte; 3 more than 255 bytes; 5 a directory's size above 4,294,965,248
+-- 1 an empty name; 2 a place that reaches past the bytes lent, or a bad byte; 3 more than 255 bytes; 5 a
+-- directory's size above 4,294,965,248
 unfoldable pub checkOf : List ℕ → Entry → Told (Unit {0})
 checkOf names e =
     pick (eqb (e .len) 0) (refuses 1 [])

@@ -1,4 +1,5 @@
--- The tree of a list of entries, added one after another, or the first refusal with the entry's number. Assumes nothing.
+-- The tree of a list of entries, added one after another, or the first refusal with the entry's number. Assumes
+-- nothing.
 use Prim.Native.Nat.{ℕ, zero, suc, _+_}
 use mathlib.Core.List.{List, [], _∷_}
 use lib.Dec.{ltb}

@@ -18,7 +18,14 @@ use Rattle.avl_model.specs.Names.{Names, nameAt, byName, Inside}
 use Rattle.avl_model.specs.Seek.{spotIn}
 use Rattle.avl_keyed.specs.Key.{keyFor, Keyed}
 use Rattle.dirtab_grow.specs.declared.Cause.{Cause}
-use Rattle.dirtab_grow.specs.declared.Cause.the-variants.{EmptyName, BadByte, NameTooLong, SizeOverflow, DuplicateFileName, Room}
+use Rattle.dirtab_grow.specs.declared.Cause.the-variants.{
+  EmptyName,
+  BadByte,
+  NameTooLong,
+  SizeOverflow,
+  DuplicateFileName,
+  Room,
+}
 use Rattle.dirtab_grow.specs.declared.Step.{Step}
 use Rattle.dirtab_grow.specs.declared.Step.the-variants as step
 use Rattle.dirtab_grow.specs.declared.Seat.{Seat}
@@ -105,7 +112,8 @@ Seated (seat.At q k) N s i = (s ≡ Free q) × ((i < 16384) × (k ≡ keyFor (na
 Seated (seat.Refused c) N s i = (x : Told Tree) → refuses (numberOf c) (i ∷ []) ≡ stepOf (gives tt) s i x
 
 -- what a step answers, and leaves in the columns: t is the tree with the entry i in it
-pub record Stepped (r : Step) (u : Told (Unit {0})) (s : Spot) (i : ℕ) (S : Lists) (K : List ℕ) (N : Names) (t : Tree) : Type 0 where
+pub record Stepped (r : Step) (u : Told (Unit {0})) (s : Spot) (i : ℕ) (S : Lists) (K : List ℕ) (N : Names) (t : Tree) :
+    Type 0 where
   pub answer : (x : Told Tree) → goOn r i x ≡ stepOf u s i x
   pub taken : r ≡ step.Taken → Grown S N (i + 1) t
   pub keyed : r ≡ step.Taken → All (Keyed K N) t

@@ -6,7 +6,8 @@ use Rattle.units.specs.Lent.{Slice, was}
 use Rattle.dirtab_entry.specs.declared.Entry as given
 use Rattle.dirtab_entry.specs.Entry.{kindFor}
 
--- a list of entries in columns: how many they are, where each name starts and how long it is in the bytes lent for names, size and kind
+-- a list of entries in columns: how many they are, where each name starts and how long it is in the bytes lent for
+-- names, size and kind
 pub record Listing : Type 0 where
   pub count : ℕ
   pub start : List ℕ
@@ -24,4 +25,10 @@ listed n a l z k b = listing n (was a) (was l) (was z) (was k) (was b)
 
 -- entry i as it is given
 abbrev pub givenIn : Listing → ℕ → given.Entry
-givenIn L i = record { start = getD (L .start) i 0; len = getD (L .len) i 0; kind = kindFor (getD (L .kind) i 0); size = getD (L .size) i 0 }
+givenIn L i = record {
+  start = getD (L .start) i 0;
+  len = getD (L .len) i 0;
+  kind = kindFor (getD (L .kind) i 0);
+  size =
+      getD (L .size) i 0;
+}

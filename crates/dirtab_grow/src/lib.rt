@@ -1,4 +1,5 @@
-// A list's entries are put one after another into a tree that lent columns hold, without a check of what the columns held before.
+// A list's entries are put one after another into a tree that lent columns hold, without a check of what the
+// columns held before.
 ghost use mathlib.Core.Path.{_≡_};
 ghost use mathlib.Core.Bool.{true};
 ghost use Prim.Native.Nat.{_-_, _≤_, _<_};
@@ -17,7 +18,8 @@ ghost use Rattle.avl_model.specs.Seek.{spotIn, treeAt};
 ghost use Rattle.avl_keyed.specs.Key.{KeySought};
 ghost use Rattle.dirtab_grow.specs.Listing.{listing, listed, givenIn};
 ghost use Rattle.dirtab_grow.specs.Grow.{ifTaken, grow};
-ghost use Rattle.dirtab_grow.specs.Growing.{goOn, After, Growing, Hangable, Lent, Wide, Roomy, Seated, Stepped, Outcome};
+ghost use Rattle.dirtab_grow.specs.Growing.{goOn, After, Growing, Hangable, Lent, Wide, Roomy, Seated};
+ghost use Rattle.dirtab_grow.specs.Growing.{Stepped, Outcome};
 use avl_insert::name_of;
 use avl_insert::put_in;
 use avl_keyed::key_of;
@@ -121,7 +123,8 @@ fn find_seat(
 fn seat_after(bytes: &[u8], start: &[u32], len: &[u32], new: u16) -> Seat
     requires { ⌜ Inside (names (now bytes) (now start) (now len)) new × (getD (now len) new 0 ≤ 255) ⌝ }
     requires { ⌜ 0 < new ⌝ }
-    ensures { λ r. ⌜ ((s : Spot) → s ≡ Free (Right (new - 1)) → Seated r (names (was bytes) (was start) (was len)) s new) ⌝ }
+    ensures { λ r. ⌜ ((s : Spot) → s ≡ Free (Right (new - 1)) →
+        Seated r (names (was bytes) (was start) (was len)) s new) ⌝ }
 {
     let name = name_of(bytes, start, len, new);
     let copy = raise_name(name);
@@ -173,7 +176,8 @@ pub fn hang_entry(
 ) -> Step
     requires { ⌜ Hangable (lists (now root) (now left) (now right) (now parent) (now height)) (now key)
         (names (now bytes) (now start) (now len)) new ⌝ }
-    requires { ⌜ After after (names (now bytes) (now start) (now len)) (treeAt 100 (now left) (now right) (now root)) new ⌝ }
+    requires { ⌜ After after (names (now bytes) (now start) (now len)) (treeAt 100 (now left) (now right) (now root))
+        new ⌝ }
     ensures { λ r.
         let s = lentLists root left right parent height in
         let n = names (was bytes) (was start) (was len) in
@@ -192,7 +196,8 @@ pub fn hang_entry(
     }
 }
 
-// The entry i: its own checks, and then its place in the tree of those before it, in the first i + 1 places of the columns.
+// The entry i: its own checks, and then its place in the tree of those before it, in the first i + 1 places of the
+// columns.
 fn add_entry(
     bytes: &[u8],
     start: &[u32],
@@ -217,7 +222,8 @@ fn add_entry(
         let s = lentLists root left right parent height in
         let n = names (was bytes) (was start) (was len) in
         ⌜ ((w : Growing (s .entry) (was key) n i) →
-        Stepped r (checkOf (was bytes) (givenIn (listed 0 start len size kind bytes) i)) (spotIn (byName n i) (w .t) Root) i
+        Stepped r (checkOf (was bytes) (givenIn (listed 0 start len size kind bytes) i))
+        (spotIn (byName n i) (w .t) Root) i
         (s .exit) (is key) n (ins (λ j. isLess (byName n i j)) i (w .t))) ⌝ }
 {
     match check_at(bytes, start, len, size, kind, i) {
@@ -281,7 +287,8 @@ fn comes_after(bytes: &[u8], start: &[u32], len: &[u32], at: u16) -> bool
 // The entries so far came in order (`up`), and the next one goes on so.
 fn goes_up(bytes: &[u8], start: &[u32], len: &[u32], at: u16, up: bool) -> bool
     requires { ⌜ (at < length (now start)) × (at < length (now len)) × (up ≡ true → 0 < at) ⌝ }
-    ensures { λ r. ⌜ (r ≡ true → (up ≡ true) × (byName (names (was bytes) (was start) (was len)) at (at - 1) ≡ Greater)) ⌝ }
+    ensures { λ r. ⌜ (r ≡ true → (up ≡ true)
+        × (byName (names (was bytes) (was start) (was len)) at (at - 1) ≡ Greater)) ⌝ }
 {
     if up {
         return comes_after(bytes, start, len, at);
@@ -297,7 +304,8 @@ fn narrow(i: u32) -> u16
     i as u16
 }
 
-// The first `count` entries of a list, one after another, into the tree that the columns hold afterwards in their first places.
+// The first `count` entries of a list, one after another, into the tree that the columns hold afterwards in their
+// first places.
 pub fn build(
     count: u32,
     bytes: &[u8],

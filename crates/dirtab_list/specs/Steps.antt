@@ -14,4 +14,5 @@ unfoldable pub answerOf : Listing → ℕ → ℕ → Told Placing
 answerOf L s bytes = ifGrown (grow (L .bytes) (givenIn L) (L .count)) (λ t. ifFits bytes (placeOf (entryIn L) 1 s t))
 
 unfoldable pub outputOf : Listing → ℕ → List ℕ → List ℕ
-outputOf L s out = ifWritten (answerOf L s (length out)) (tableFor (grow (L .bytes) (givenIn L) (L .count)) (λ t. tableBytes (entryIn L) 1 s t)) out
+outputOf L s out = ifWritten (answerOf L s (length out))
+    (tableFor (grow (L .bytes) (givenIn L) (L .count)) (λ t. tableBytes (entryIn L) 1 s t)) out

@@ -28,12 +28,15 @@ entryIn L i = record {
 -- the length of the shortest column of scratch
 abbrev pub shortest : List ℕ → List ℕ → List ℕ → List ℕ → List ℕ → List ℕ → List ℕ → ℕ
 shortest left right parent height key order place =
-    min (length left) (min (length right) (min (length parent) (min (length height) (min (length key) (min (length order) (length place))))))
+    min (length left) (min (length right)
+    (min (length parent) (min (length height) (min (length key) (min (length order) (length place))))))
 
 -- every column has a place for each entry; n is the length of the shortest column of scratch
 abbrev pub hasPlaces : Listing → ℕ → Bool
 hasPlaces L n =
-    leb (L .count) (length (L .start)) && (leb (L .count) (length (L .len)) && (leb (L .count) (length (L .size)) && (leb (L .count) (length (L .kind)) && leb (L .count) n)))
+    leb (L .count) (length (L .start))
+    && (leb (L .count) (length (L .len))
+    && (leb (L .count) (length (L .size)) && (leb (L .count) (length (L .kind)) && leb (L .count) n)))
 
 -- go on with the tree
 abbrev pub ifGrown : Told Tree → (Tree → Told Placing) → Told Placing
@@ -54,7 +57,8 @@ tableFor (refuses k vs) bytes = []
 
 unfoldable pub outAfter : Listing → ℕ → ℕ → List ℕ → List ℕ
 outAfter L n s out =
-    ifWritten (wholeOf L n s (length out)) (tableFor (grow (L .bytes) (givenIn L) (L .count)) (λ t. tableBytes (entryIn L) 1 s t)) out
+    ifWritten (wholeOf L n s (length out))
+    (tableFor (grow (L .bytes) (givenIn L) (L .count)) (λ t. tableBytes (entryIn L) 1 s t)) out
 
 -- EACH COLUMN OF SCRATCH AFTERWARDS: unchanged after the first 6, else all zero
 unfoldable pub scratchAfter : Listing → ℕ → List ℕ → List ℕ

@@ -268,7 +268,8 @@ fn measure(
     )
 }
 
-// The table of the first `count` entries of a list, in one call: as adding each of them in turn to an empty arena, and then serialising.
+// The table of the first `count` entries of a list, in one call: as adding each of them in turn to an empty arena,
+// and then serialising.
 pub fn write_list(
     count: u32,
     start: &[u32],

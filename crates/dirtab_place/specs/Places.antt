@@ -1,4 +1,5 @@
--- Places along an order of numbers, over columns: proofs/Along.antt says that in preorder they are a table's. Assumes nothing.
+-- Places along an order of numbers, over columns: proofs/Along.antt says that in preorder they are a table's.
+-- Assumes nothing.
 use Prim.Native.Nat.{ℕ, _+_, _/_, _≤_, _<_}
 use mathlib.Core.Path.{_≡_}
 use mathlib.Core.Bool.{Bool, true}
@@ -34,7 +35,8 @@ endsOver len e (i ∷ is) = pick (isFar len e i) (refuses 7 []) (endsOver len (s
 -- a column with the offset over 4 of each stored at its number, as far as none exceeds 65,535
 unfoldable pub placesOver : List ℕ → ℕ → List ℕ → List ℕ → List ℕ
 placesOver len e [] p = p
-placesOver len e (i ∷ is) p = pick (isFar len e i) p (placesOver len (stopIn len e i) is (set p i (startIn len e i / 4)))
+placesOver len e (i ∷ is) p =
+    pick (isFar len e i) p (placesOver len (stopIn len e i) is (set p i (startIn len e i / 4)))
 
 -- the size that the entry i is stored with, and the next free sector after it took its own
 abbrev pub sizeIn : List ℕ → List ℕ → ℕ → ℕ
@@ -46,9 +48,11 @@ freeIn size kind s i = alignedUp 1 s + sectorsFor (sizeIn size kind i)
 -- the next free sector after the entries of an order took theirs, or 8
 unfoldable pub freeOver : List ℕ → List ℕ → ℕ → List ℕ → Told ℕ
 freeOver size kind s [] = gives s
-freeOver size kind s (i ∷ is) = pick (ltb 4294967295 (freeIn size kind s i)) (refuses 8 []) (freeOver size kind (freeIn size kind s i) is)
+freeOver size kind s (i ∷ is) =
+    pick (ltb 4294967295 (freeIn size kind s i)) (refuses 8 []) (freeOver size kind (freeIn size kind s i) is)
 
--- what is asked of an order to place it: each number has a name of at most 255 bytes, and a place in a column of so many
+-- what is asked of an order to place it: each number has a name of at most 255 bytes, and a place in a column of so
+-- many
 pub record Placeable (order len : List ℕ) (places : ℕ) : Type 0 where
   pub in-len : (k : ℕ) → k < length order → getD order k 0 < length len
   pub in-place : (k : ℕ) → k < length order → getD order k 0 < places

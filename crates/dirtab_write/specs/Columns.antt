@@ -1,4 +1,5 @@
--- Entries in columns, by number, and the items that are written of them: proofs/Bridge.antt says that they are a table's. Assumes nothing.
+-- Entries in columns, by number, and the items that are written of them: proofs/Bridge.antt says that they are a
+-- table's. Assumes nothing.
 use Prim.Native.Nat.{ℕ, _+_, _*_, _≤_, _<_}
 use mathlib.Core.Path.{_≡_}
 use mathlib.Core.List.{List, [], _∷_}
@@ -15,7 +16,8 @@ use Rattle.table_model.specs.Entry.{Entry, Item, attributes}
 use Rattle.table_model.specs.Writing.{stored, Spaced}
 use Rattle.dirtab_place.specs.Places.{sizeIn, freeIn, freeOver, Sized}
 
--- the columns: the children, the offsets over 4, where each name starts and how long it is, the sizes and the kinds; and the bytes lent for names
+-- the columns: the children, the offsets over 4, where each name starts and how long it is, the sizes and the
+-- kinds; and the bytes lent for names
 pub record Cols : Type 0 where
   pub left : List ℕ
   pub right : List ℕ
@@ -31,7 +33,12 @@ cols l r p a n z k b = record { left = l; right = r; place = p; start = a; len =
 
 -- entry i, as a table has it
 abbrev pub entryBy : Cols → ℕ → Entry
-entryBy c i = record { name = nameAt (names (c .bytes) (c .start) (c .len)) i; kind = kindFor (getD (c .kind) i 0); size = sizeIn (c .size) (c .kind) i }
+entryBy c i = record {
+  name = nameAt (names (c .bytes) (c .start) (c .len)) i;
+  kind =
+      kindFor (getD (c .kind) i 0);
+  size = sizeIn (c .size) (c .kind) i;
+}
 
 -- the link to a child: its offset over 4, or 0 for none
 unfoldable pub linkBy : List ℕ → ℕ → ℕ

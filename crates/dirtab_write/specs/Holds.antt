@@ -7,7 +7,8 @@ use Rattle.avl_model.specs.Names.{names, Inside}
 use Rattle.avl_model.specs.Seek.{Links}
 use Rattle.dirtab_place.specs.Places.{Sized}
 
--- the first n places of the columns hold t: its links, and for each number a name of at most 255 bytes inside the lent bytes, and a size that can be stored
+-- the first n places of the columns hold t: its links, and for each number a name of at most 255 bytes inside the
+-- lent bytes, and a size that can be stored
 pub record Holds (left right start len size kind bytes : List ℕ) (n : ℕ) (t : Tree) : Type 0 where
   pub small : n ≤ none
   pub links : Links left right n t

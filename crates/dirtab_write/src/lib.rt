@@ -1,4 +1,5 @@
-// The bytes of a table, from its entries in columns and the offsets over 4 in another: 0xff everywhere, then entry after entry in an order.
+// The bytes of a table, from its entries in columns and the offsets over 4 in another: 0xff everywhere, then entry
+// after entry in an order.
 use avl_insert::name_of;
 use dirtab_entry::Kind;
 use dirtab_entry::kind_of;
@@ -22,7 +23,8 @@ ghost use Rattle.layout_sector.specs.Counter.{alignedUp};
 ghost use Rattle.dirtab_place.specs.Places.{freeIn};
 ghost use Rattle.table_model.specs.Entry.{attributes};
 ghost use Rattle.table_model.specs.Writing.{stored, writtenOver};
-ghost use Rattle.dirtab_write.specs.Columns.{cols, LinkIn, linkBy, Headed, headerBy, itemBy, itemsBy, Numbered, Writes, Spaces, putAll};
+ghost use Rattle.dirtab_write.specs.Columns.{cols, LinkIn, linkBy, Headed, headerBy, itemBy, itemsBy};
+ghost use Rattle.dirtab_write.specs.Columns.{Numbered, Writes, Spaces, putAll};
 
 // The number that stands for no node.
 const NONE: u16 = 65535;
@@ -101,8 +103,11 @@ fn put_item(
     names: &[u8],
     sector: Sector,
 )
-    requires { ⌜ Numbered (cols (now left) (now right) (now place) (now start) (now len) (now size) (now kind) (now names)) (length (now out)) number ⌝ }
-    ensures { λ _. ⌜ is out ≡ putAt (was out) (4 * getD (was place) number 0) (stored (itemBy (cols (was left) (was right) (was place) (was start) (was len) (was size) (was kind) (was names)) (sector .0) number)) ⌝ }
+    requires { ⌜ Numbered (cols (now left) (now right) (now place) (now start) (now len) (now size) (now kind)
+        (now names)) (length (now out)) number ⌝ }
+    ensures { λ _. ⌜ is out ≡ putAt (was out) (4 * getD (was place) number 0)
+        (stored (itemBy (cols (was left) (was right) (was place) (was start) (was len) (was size) (was kind)
+        (was names)) (sector .0) number)) ⌝ }
 {
     let i = widen(number);
     let name = name_of(names, start, len, number);
@@ -111,8 +116,8 @@ fn put_item(
     put_entry(out, 4 * widen(place[i]), header, name);
 }
 
-// Entry i, at its offset and with the sectors that it takes; the answer is the counter past them. (That they can be taken is asked, so that the last
-// arm is never met.)
+// Entry i, at its offset and with the sectors that it takes; the answer is the counter past them. (That they can be
+// taken is asked, so that the last arm is never met.)
 fn put_node(
     out: &mut [u8],
     number: u16,
@@ -126,9 +131,13 @@ fn put_node(
     names: &[u8],
     counter: SectorCounter,
 ) -> SectorCounter
-    requires { ⌜ Numbered (cols (now left) (now right) (now place) (now start) (now len) (now size) (now kind) (now names)) (length (now out)) number × (freeIn (now size) (now kind) (counter .next .0) number ≤ 4294967295) ⌝ }
+    requires { ⌜ Numbered (cols (now left) (now right) (now place) (now start) (now len) (now size) (now kind)
+        (now names)) (length (now out)) number
+        × (freeIn (now size) (now kind) (counter .next .0) number ≤ 4294967295) ⌝ }
     ensures counter { λ r. ⌜ r .next .0 ≡ freeIn (was size) (was kind) (counter .next .0) number ⌝ }
-    ensures out { λ _. ⌜ is out ≡ putAt (was out) (4 * getD (was place) number 0) (stored (itemBy (cols (was left) (was right) (was place) (was start) (was len) (was size) (was kind) (was names)) (alignedUp 1 (counter .next .0)) number)) ⌝ }
+    ensures out { λ _. ⌜ is out ≡ putAt (was out) (4 * getD (was place) number 0)
+        (stored (itemBy (cols (was left) (was right) (was place) (was start) (was len) (was size) (was kind)
+        (was names)) (alignedUp 1 (counter .next .0)) number)) ⌝ }
 {
     let bytes = stored_at(size, kind, widen(number));
     match counter.take(bytes as u64) {
@@ -166,8 +175,11 @@ fn write_entries(
     names: &[u8],
     first: Sector,
 )
-    requires { ⌜ Writes (cols (now left) (now right) (now place) (now start) (now len) (now size) (now kind) (now names)) (now order) (first .0) (length (now out)) ⌝ }
-    ensures { λ _. ⌜ is out ≡ putAll (itemsBy (cols (was left) (was right) (was place) (was start) (was len) (was size) (was kind) (was names)) (first .0) (was order)) (was out) ⌝ }
+    requires { ⌜ Writes (cols (now left) (now right) (now place) (now start) (now len) (now size) (now kind)
+        (now names)) (now order) (first .0) (length (now out)) ⌝ }
+    ensures { λ _. ⌜ is out ≡ putAll (itemsBy
+        (cols (was left) (was right) (was place) (was start) (was len) (was size) (was kind) (was names)) (first .0)
+        (was order)) (was out) ⌝ }
 {
     let mut counter = SectorCounter::starting_at(first);
     let mut k: usize = 0;
@@ -204,8 +216,11 @@ pub fn write_table(
     names: &[u8],
     first: Sector,
 )
-    requires { ⌜ Spaces (cols (now left) (now right) (now place) (now start) (now len) (now size) (now kind) (now names)) (now order) (first .0) n (length (now out)) ⌝ }
-    ensures { λ _. ⌜ is out ≡ writtenOver n (itemsBy (cols (was left) (was right) (was place) (was start) (was len) (was size) (was kind) (was names)) (first .0) (was order)) (was out) ⌝ }
+    requires { ⌜ Spaces (cols (now left) (now right) (now place) (now start) (now len) (now size) (now kind)
+        (now names)) (now order) (first .0) n (length (now out)) ⌝ }
+    ensures { λ _. ⌜ is out ≡ writtenOver n
+        (itemsBy (cols (was left) (was right) (was place) (was start) (was len) (was size) (was kind) (was names))
+        (first .0) (was order)) (was out) ⌝ }
 {
     fill(out, n, 0xff);
     write_entries(

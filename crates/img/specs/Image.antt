@@ -1,4 +1,5 @@
--- Planning with lent memory: the 6 that comes first, then what Plan says, and what is left of all that was lent. Assumes nothing.
+-- Planning with lent memory: the 6 that comes first, then what Plan says, and what is left of all that was lent.
+-- Assumes nothing.
 use Prim.Native.Nat.{ℕ, min}
 use mathlib.Core.Bool.{Bool, true, _&&_}
 use mathlib.Core.List.{List, [], _∷_, _++_}
@@ -40,7 +41,8 @@ abbrev pub asking : ℕ → ℕ → Slice → Slice → Slice → Slice → Slic
 asking directories entries first share start len kind value bytes =
     asked directories entries (was first) (was share) (was start) (was len) (was kind) (was value) (was bytes)
 
--- what is lent: the size and the sector of each table, the sector of each entry; and scratch: a size for each directory, the columns of a tree, an order
+-- what is lent: the size and the sector of each table, the sector of each entry; and scratch: a size for each
+-- directory, the columns of a tree, an order
 pub record Lent : Type 0 where
   pub sizes : List ℕ
   pub tables : List ℕ
@@ -54,7 +56,8 @@ pub record Lent : Type 0 where
   pub size : List ℕ
   pub order : List ℕ
 
-abbrev pub lent : List ℕ → List ℕ → List ℕ → List ℕ → List ℕ → List ℕ → List ℕ → List ℕ → List ℕ → List ℕ → List ℕ → Lent
+abbrev pub lent : List ℕ → List ℕ → List ℕ → List ℕ → List ℕ → List ℕ → List ℕ → List ℕ → List ℕ → List ℕ → List ℕ
+    → Lent
 lent sizes tables sectors sized left right parent height key size order = record {
   sizes = sizes;
   tables = tables;
@@ -70,22 +73,30 @@ lent sizes tables sectors sized left right parent height key size order = record
 }
 
 -- the same at the call, and at the return
-abbrev pub memory : Slice → Slice → Slice → Slice → Slice → Slice → Slice → Slice → Slice → Slice → Slice → Both Lent Lent
+abbrev pub memory : Slice → Slice → Slice → Slice → Slice → Slice → Slice → Slice → Slice → Slice → Slice
+    → Both Lent Lent
 memory sizes tables sectors sized left right parent height key size order = record {
-  entry = lent (was sizes) (was tables) (was sectors) (was sized) (was left) (was right) (was parent) (was height) (was key) (was size) (was order);
-  exit = lent (is sizes) (is tables) (is sectors) (is sized) (is left) (is right) (is parent) (is height) (is key) (is size) (is order);
+  entry = lent (was sizes) (was tables) (was sectors) (was sized) (was left) (was right) (was parent) (was height)
+      (was key) (was size) (was order);
+  exit = lent (is sizes) (is tables) (is sectors) (is sized) (is left) (is right) (is parent) (is height) (is key)
+      (is size) (is order);
 }
 
 -- the length of the shortest column that has a place for each directory, for each entry, and for each node of a tree
 abbrev pub byDirectory : Asked → Lent → ℕ
-byDirectory A L = min (length (A .first)) (min (length (A .share)) (min (length (L .sizes)) (min (length (L .tables)) (length (L .sized)))))
+byDirectory A L = min (length (A .first))
+    (min (length (A .share)) (min (length (L .sizes)) (min (length (L .tables)) (length (L .sized)))))
 
 abbrev pub byEntry : Asked → Lent → ℕ
 byEntry A L =
-    min (length (A .start)) (min (length (A .len)) (min (length (A .kind)) (min (length (A .value)) (min (length (L .sectors)) (length (L .order))))))
+    min (length (A .start))
+    (min (length (A .len))
+    (min (length (A .kind)) (min (length (A .value)) (min (length (L .sectors)) (length (L .order))))))
 
 abbrev pub byNode : Lent → ℕ
-byNode L = min (length (L .left)) (min (length (L .right)) (min (length (L .parent)) (min (length (L .height)) (min (length (L .key)) (length (L .size))))))
+byNode L = min (length (L .left))
+    (min (length (L .right))
+    (min (length (L .parent)) (min (length (L .height)) (min (length (L .key)) (length (L .size))))))
 
 -- each share, as far as the entries go, has its places in columns of n
 unfoldable pub fits : ℕ → ℕ → List ℕ → Bool
@@ -95,16 +106,19 @@ fits n entries (c ∷ cs) = leb (min c entries) n && fits n entries cs
 -- every column is long enough (else 6)
 unfoldable pub hasRoom : Asked → Lent → Bool
 hasRoom A L =
-    leb (A .directories) (byDirectory A L) && (leb (A .entries) (byEntry A L) && fits (byNode L) (A .entries) (take (A .directories) (A .share)))
+    leb (A .directories) (byDirectory A L)
+    && (leb (A .entries) (byEntry A L) && fits (byNode L) (A .entries) (take (A .directories) (A .share)))
 
 -- the columns as far as the counts go
 abbrev pub requestIn : Asked → Request
-requestIn A = request (A .directories) (A .entries) (A .first) (A .share) (A .start) (A .len) (A .kind) (A .value) (A .bytes)
+requestIn A = request (A .directories) (A .entries) (A .first) (A .share) (A .start) (A .len) (A .kind) (A .value)
+    (A .bytes)
 
 -- THE PLAN
 unfoldable pub imageOf : Asked → Lent → Told Plan
 imageOf A L =
-    pick (hasRoom A L) (planOf (requestIn A) (length (L .order)) (take (A .directories) (L .tables)) (take (A .entries) (L .sectors))) (refuses 6 [])
+    pick (hasRoom A L) (planOf (requestIn A) (length (L .order)) (take (A .directories) (L .tables))
+    (take (A .entries) (L .sectors))) (refuses 6 [])
 
 -- the answer: the next free sector
 abbrev pub answerOf : Told Plan → Told ℕ

@@ -42,14 +42,16 @@ after (gives p) column xs = column p
 after (refuses k vs) column xs = xs
 
 -- what handing out answers and leaves, where g is to be told of what the entries take and s are the tables' sizes
-pub record HandedOut (r : Planned) (s : List ℕ) (g : Told Taking) (sizes sizes' tables tables' sectors sectors' : List ℕ) : Type 0 where
+pub record HandedOut (r : Planned) (s : List ℕ) (g : Told Taking)
+    (sizes sizes' tables tables' sectors sectors' : List ℕ) : Type 0 where
   pub answer : told r ≡ freeTold g
   pub sizes-are : sizes' ≡ after g (λ p. s) sizes
   pub tables-are : tables' ≡ after g (λ p. p .tables) tables
   pub sectors-are : sectors' ≡ after g (λ p. p .sectors) sectors
 
 -- what planning answers and leaves, where g is to be told of the plan
-pub record PlannedBy (r : Planned) (g : Told Plan) (sizes sizes' tables tables' sectors sectors' : List ℕ) : Type 0 where
+pub record PlannedBy (r : Planned) (g : Told Plan) (sizes sizes' tables tables' sectors sectors' : List ℕ) :
+    Type 0 where
   pub answer : told r ≡ answerOf g
   pub sizes-are : sizes' ≡ after g (λ p. p .sizes) sizes
   pub tables-are : tables' ≡ after g (λ p. p .taken .tables) tables
@@ -63,7 +65,8 @@ pub record Cut (A : Asked) (L : Lent) : Type 0 where
 
 -- the plan of the columns as far as the counts go
 unfoldable pub planIn : Asked → Lent → Told Plan
-planIn A L = planOf (requestIn A) (length (L .order)) (take (A .directories) (L .tables)) (take (A .entries) (L .sectors))
+planIn A L = planOf (requestIn A) (length (L .order)) (take (A .directories) (L .tables))
+    (take (A .entries) (L .sectors))
 
 -- what planning answers and leaves, over the whole columns
 pub record PlannedIn (r : Planned) (A : Asked) (L : Lent) (sizes' tables' sectors' : List ℕ) : Type 0 where

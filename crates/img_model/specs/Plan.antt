@@ -1,4 +1,5 @@
--- Planning: 11, then from the last directory back 10 and adding's refusals entry by entry, then forward 7 and 8 table by table. Assumes nothing.
+-- Planning: 11, then from the last directory back 10 and adding's refusals entry by entry, then forward 7 and 8
+-- table by table. Assumes nothing.
 use Prim.Native.Nat.{ℕ, zero, suc, _+_}
 use mathlib.Core.List.{List, [], _∷_}
 use lib.Dec.{ltb, leb}
@@ -29,7 +30,13 @@ module _ (S : Share) (tab : ℕ → ℕ) where
 
   -- the entry as it is given to be added, and as the table has it (a directory's size rounded)
   abbrev pub givenAt : ℕ → given.Entry
-  givenAt i = record { start = getD (S .start) i 0; len = getD (S .len) i 0; kind = kindFor (getD (S .kind) i 0); size = sizeAt i }
+  givenAt i = record {
+    start = getD (S .start) i 0;
+    len = getD (S .len) i 0;
+    kind = kindFor (getD (S .kind) i 0);
+    size =
+        sizeAt i;
+  }
 
   abbrev pub entryIn : ℕ → Entry
   entryIn i = record {
@@ -55,7 +62,8 @@ ifGrown R d (refuses k vs) next = refuses k ((firstOf R d + getD vs 0 0) ∷ [])
 unfoldable pub sizesDown : Request → ℕ → List ℕ → Told (List ℕ)
 sizesDown R zero sizes = gives sizes
 sizesDown R (suc n) sizes =
-    ifGrown R n (treeIn (shareOf R n) (tableIn sizes)) (λ t. sizesDown R n (set sizes n (sizeOf (entryIn (shareOf R n) (tableIn sizes)) t)))
+    ifGrown R n (treeIn (shareOf R n) (tableIn sizes))
+    (λ t. sizesDown R n (set sizes n (sizeOf (entryIn (shareOf R n) (tableIn sizes)) t)))
 
 -- what the entries of a plan take: each table's sector, each entry's sector, and the next free one
 pub record Taking : Type 0 where
@@ -69,10 +77,12 @@ module _ (R : Request) (sizes : List ℕ) where
   abbrev pub entriesAt : ℕ → ℕ → Entry
   entriesAt d = entryIn (shareOf R d) (tableIn sizes)
 
-  -- its i-th entry takes its sectors, and with them a directory's table has its own. (Sectors are taken at multiples of 1.)
+  -- its i-th entry takes its sectors, and with them a directory's table has its own. (Sectors are taken at
+  -- multiples of 1.)
   abbrev pub taking : ℕ → Taking → ℕ → Taking
   taking d p i = record {
-    tables = pick (isDirectory (shareOf R d) i) (set (p .tables) (valueOf (shareOf R d) i) (alignedUp 1 (p .free))) (p .tables);
+    tables = pick (isDirectory (shareOf R d) i) (set (p .tables) (valueOf (shareOf R d) i) (alignedUp 1 (p .free)))
+        (p .tables);
     sectors = set (p .sectors) (firstOf R d + i) (alignedUp 1 (p .free));
     free = freeAfter (entriesAt d) 1 (p .free) i;
   }
@@ -96,7 +106,8 @@ module _ (R : Request) (sizes : List ℕ) where
 
   -- the root table takes the first sector, 33; `tables` and `sectors` are what was there
   abbrev pub rooted : List ℕ → List ℕ → Taking
-  rooted tables sectors = record { tables = set tables 0 33; sectors = sectors; free = 33 + sectorsFor (tableIn sizes 0) }
+  rooted tables sectors =
+      record { tables = set tables 0 33; sectors = sectors; free = 33 + sectorsFor (tableIn sizes 0) }
 
 -- a plan: the reported size of every table, and what the entries take
 pub record Plan : Type 0 where
@@ -116,13 +127,14 @@ unfoldable pub total : List ℕ → ℕ
 total [] = 0
 total (n ∷ ns) = n + total ns
 
--- THE PLAN, over what was lent for the tables' and the entries' sectors. `places` is the length of the column for the tables' orders: it has to hold them
--- all (else 6), and it does where no entry is in two shares
+-- THE PLAN, over what was lent for the tables' and the entries' sectors. `places` is the length of the column for
+-- the tables' orders: it has to hold them all (else 6), and it does where no entry is in two shares
 unfoldable pub planOf : Request → ℕ → List ℕ → List ℕ → Told Plan
 planOf R places tables sectors =
     pick (isTree R)
     (pick (leb (total (R .share)) places)
-    (ifSized (sizesDown R (directoriesOf R) (replicate (directoriesOf R) 0)) (λ s. takingUp R s (directoriesOf R) 0 (rooted R s tables sectors)))
+    (ifSized (sizesDown R (directoriesOf R) (replicate (directoriesOf R) 0))
+    (λ s. takingUp R s (directoriesOf R) 0 (rooted R s tables sectors)))
     (refuses 6 []))
     (refuses 11 [])
 

@@ -8,9 +8,9 @@ use Rattle.units.specs.Told.{pick}
 use Rattle.units.specs.Lent.{Slice, was}
 use Rattle.avl_arena.specs.Test.{every}
 
--- what is to be planned: for each directory the place of its first entry in the list of entries and how many it has, the root first; for each entry its
--- name's place and length in the bytes lent for names, its kind (1 is a directory), and its value: a file's length, or a directory's place in the list of
--- directories
+-- what is to be planned: for each directory the place of its first entry in the list of entries and how many it
+-- has, the root first; for each entry its name's place and length in the bytes lent for names, its kind (1 is a
+-- directory), and its value: a file's length, or a directory's place in the list of directories
 pub record Request : Type 0 where
   pub first : List ℕ
   pub share : List ℕ
@@ -32,7 +32,8 @@ columnsIn first share start len kind value bytes =
 -- the columns that are lent, as far as the two counts go
 abbrev pub request : ℕ → ℕ → List ℕ → List ℕ → List ℕ → List ℕ → List ℕ → List ℕ → List ℕ → Request
 request directories entries first share start len kind value bytes =
-    columns (take directories first) (take directories share) (take entries start) (take entries len) (take entries kind) (take entries value) bytes
+    columns (take directories first) (take directories share) (take entries start) (take entries len)
+    (take entries kind) (take entries value) bytes
 
 -- how many directories and entries there are
 abbrev pub directoriesOf : Request → ℕ
@@ -98,7 +99,8 @@ namesLater S n d i = pick (isDirectory S i) (ltb d (valueOf S i) && ltb (valueOf
 
 -- the share of directory d lies in the list, and its directories are later ones
 abbrev pub isShare : Request → ℕ → Bool
-isShare R d = leb (firstOf R d + countOf R d) (entriesOf R) && every (namesLater (shareOf R d) (directoriesOf R) d) (countOf R d)
+isShare R d = leb (firstOf R d + countOf R d) (entriesOf R)
+    && every (namesLater (shareOf R d) (directoriesOf R) d) (countOf R d)
 
 -- directory x is the root, or named exactly once
 abbrev pub namedOnce : Request → ℕ → Bool

@@ -1,4 +1,5 @@
-// The words that planning an image and its definitions share. No code: the definitions are in specs/, their laws in proofs/.
+// The words that planning an image and its definitions share. No code: the definitions are in specs/, their laws in
+// proofs/.
 use units::Sector;
 
 // What planning answers.

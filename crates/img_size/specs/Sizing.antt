@@ -9,7 +9,17 @@ use Rattle.avl_model.specs.Tree.{Tree}
 use Rattle.avl_model.specs.Order.{order}
 use Rattle.table_model.specs.Table.{sizeOf}
 use Rattle.dirtab_grow.specs.Growing.{numberOf}
-use Rattle.img_model.specs.Shares.{Request, shareOf, directoriesOf, firstOf, countOf, entriesOf, part, isDirectory, valueOf}
+use Rattle.img_model.specs.Shares.{
+  Request,
+  shareOf,
+  directoriesOf,
+  firstOf,
+  countOf,
+  entriesOf,
+  part,
+  isDirectory,
+  valueOf,
+}
 use Rattle.img_model.specs.Plan.{tableIn, entryIn, treeIn, total}
 use Rattle.img_table.specs.declared.Arranged.{Arranged}
 use Rattle.img_table.specs.declared.Arranged.the-variants as arranged
@@ -28,7 +38,8 @@ pub record TableIn (R : Request) (sizes orders : List ℕ) (d : ℕ) : Type 0 wh
 abbrev pub TablesIn : Request → List ℕ → List ℕ → Type 0
 TablesIn R sizes orders = (d : ℕ) → d < directoriesOf R → TableIn R sizes orders d
 
--- what is asked of a request to size its tables: columns of one length, shares in the list, and directories that name later ones. (isTree gives the last two)
+-- what is asked of a request to size its tables: columns of one length, shares in the list, and directories that
+-- name later ones. (isTree gives the last two)
 pub record Sizeable (R : Request) : Type 0 where
   pub shared : length (R .share) ≡ directoriesOf R
   pub started : length (R .start) ≡ entriesOf R
@@ -37,9 +48,11 @@ pub record Sizeable (R : Request) : Type 0 where
   pub few : directoriesOf R ≤ 4294967295
   pub low : entriesOf R ≤ 4294967295
   pub inside : (d : ℕ) → d < directoriesOf R → firstOf R d + countOf R d ≤ entriesOf R
-  pub later : (d i : ℕ) → d < directoriesOf R → i < countOf R d → isDirectory (shareOf R d) i ≡ true → (d < valueOf (shareOf R d) i) × (valueOf (shareOf R d) i < directoriesOf R)
+  pub later : (d i : ℕ) → d < directoriesOf R → i < countOf R d → isDirectory (shareOf R d) i ≡ true
+      → (d < valueOf (shareOf R d) i) × (valueOf (shareOf R d) i < directoriesOf R)
 
--- and of the columns of scratch: a size for each directory, places of the tree for each share, and places for all the orders
+-- and of the columns of scratch: a size for each directory, places of the tree for each share, and places for all
+-- the orders
 pub record Roomy (R : Request) (sizes left right parent height key size orders : ℕ) : Type 0 where
   pub sizes-are : sizes ≡ directoriesOf R
   pub l : (d : ℕ) → d < directoriesOf R → countOf R d ≤ left

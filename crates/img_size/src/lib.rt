@@ -70,8 +70,8 @@ fn place_in_list(f: u32, i: u32) -> u32
     f + i
 }
 
-// Every table's size into `sized`, from the last directory back; and every table's preorder into `order`, the last directory's first. An entry that is
-// refused is told by its place in the list.
+// Every table's size into `sized`, from the last directory back; and every table's preorder into `order`, the last
+// directory's first. An entry that is refused is told by its place in the list.
 pub fn size_tables(
     first: &[u32],
     share: &[u32],

@@ -20,7 +20,8 @@ use Rattle.img_table.specs.declared.TableSized.the-variants as sized
 
 -- a directory's entries, in slices of the columns
 abbrev pub shareBy : List ℕ → List ℕ → List ℕ → List ℕ → List ℕ → Share
-shareBy start len kind value bytes = record { count = length kind; start = start; len = len; kind = kind; value = value; bytes = bytes }
+shareBy start len kind value bytes =
+    record { count = length kind; start = start; len = len; kind = kind; value = value; bytes = bytes }
 
 -- the number of the first of k sizes, from number i on, that exceeds 4,294,967,295; else the number past the last
 unfoldable pub fitting : (ℕ → ℕ) → ℕ → ℕ → ℕ

@@ -15,7 +15,8 @@ ghost use Rattle.units.specs.Lent.{was, is};
 ghost use Rattle.layout_node.specs.Header.{entryLength};
 ghost use Rattle.table_model.specs.Place.{startAfter};
 ghost use Rattle.img_model.specs.Plan.{tableIn, sizeAt, treeIn};
-ghost use Rattle.img_table.specs.Arranging.{shareBy, fitting, sizeAlong, Fillable, Arrangeable, Measurable, Arrangement, Sizing};
+ghost use Rattle.img_table.specs.Arranging.{shareBy, fitting, sizeAlong, Fillable, Arrangeable, Measurable};
+ghost use Rattle.img_table.specs.Arranging.{Arrangement, Sizing};
 
 // What arranging a directory's entries answers: their preorder is there, or one of them is refused, by its number.
 pub enum Arranged {
@@ -57,7 +58,8 @@ fn size_for(kind: u8, value: u64, sized: &[u32]) -> u64
     value
 }
 
-// The sizes of a directory's entries into the first places of a column, up to the first that four bytes do not hold: its number, or how many there are.
+// The sizes of a directory's entries into the first places of a column, up to the first that four bytes do not
+// hold: its number, or how many there are.
 pub fn fill_sizes(kind: &[u8], value: &[u64], sized: &[u32], size: &mut [u32]) -> u32
     requires { ⌜ Fillable (shareBy [] [] (now kind) (now value) []) (length (now sized)) (length (now size)) ⌝ }
     ensures answer { λ r. ⌜ r ≡ fitting (sizeAt (shareBy [] [] (was kind) (was value) []) (tableIn (was sized)))

@@ -34,7 +34,8 @@ toldFitting (fitting.Free s) = gives (s .0)
 toldFitting (fitting.TooManyDirectoryEntries d) = refuses 7 (d ∷ [])
 toldFitting (fitting.SectorOverflow d) = refuses 8 (d ∷ [])
 
--- columns of an image whose tables are sized, with a column that has a place for each of a share's sizes; start, len and bytes are what the code does not look at here
+-- columns of an image whose tables are sized, with a column that has a place for each of a share's sizes; start,
+-- len and bytes are what the code does not look at here
 pub record Sized (first share kind value sizes orders : List ℕ) (places : ℕ) : Type 0 where
   pub start : List ℕ
   pub len : List ℕ
@@ -47,8 +48,10 @@ pub record Sized (first share kind value sizes orders : List ℕ) (places : ℕ)
   pub wide : (d : ℕ) → d < length first → getD share d 0 ≤ places
 
 -- the request that these columns are of
-abbrev pub requestOf : {first share kind value sizes orders : List ℕ} {places : ℕ} → Sized first share kind value sizes orders places → Request
-requestOf {first = first} {share = share} {kind = kind} {value = value} w = columns first share (w .start) (w .len) kind value (w .bytes)
+abbrev pub requestOf : {first share kind value sizes orders : List ℕ} {places : ℕ}
+    → Sized first share kind value sizes orders places → Request
+requestOf {first = first} {share = share} {kind = kind} {value = value} w =
+    columns first share (w .start) (w .len) kind value (w .bytes)
 
 -- a directory d whose order ends at `to`
 pub record Turn (first share kind value sizes orders : List ℕ) (places d to : ℕ) : Type 0 where
@@ -56,7 +59,8 @@ pub record Turn (first share kind value sizes orders : List ℕ) (places d to : 
   pub is-one : d < length first
   pub to-is : to ≡ total (drop d share)
 
--- one directory's entries in slices of the columns, with a column that has a place for each size: their tree, and `listed` is its preorder
+-- one directory's entries in slices of the columns, with a column that has a place for each size: their tree, and
+-- `listed` is its preorder
 pub record Treed (listed kind value sizes : List ℕ) (places : ℕ) : Type 0 where
   pub start : List ℕ
   pub len : List ℕ
@@ -67,8 +71,10 @@ pub record Treed (listed kind value sizes : List ℕ) (places : ℕ) : Type 0 wh
   pub listed-is : listed ≡ preorder.order t
 
 -- its entries
-abbrev pub entriesOf : {listed kind value sizes : List ℕ} {places : ℕ} → Treed listed kind value sizes places → ℕ → Entry
-entriesOf {kind = kind} {value = value} {sizes = sizes} w = entryIn (shareBy (w .start) (w .len) kind value (w .bytes)) (tableIn sizes)
+abbrev pub entriesOf : {listed kind value sizes : List ℕ} {places : ℕ} → Treed listed kind value sizes places → ℕ
+    → Entry
+entriesOf {kind = kind} {value = value} {sizes = sizes} w =
+    entryIn (shareBy (w .start) (w .len) kind value (w .bytes)) (tableIn sizes)
 
 -- the next free sector, or 8 where it exceeds 4,294,967,295
 abbrev pub limited : ℕ → Told ℕ
@@ -96,4 +102,5 @@ pub record Enters (kind value size : List ℕ) (f i tables sectors : ℕ) : Type
 
 -- and of those of an order
 abbrev pub EntersAll : List ℕ → List ℕ → List ℕ → List ℕ → ℕ → ℕ → ℕ → Type 0
-EntersAll order kind value size f tables sectors = (k : ℕ) → k < length order → Enters kind value size f (getD order k 0) tables sectors
+EntersAll order kind value size f tables sectors =
+    (k : ℕ) → k < length order → Enters kind value size f (getD order k 0) tables sectors

@@ -1,4 +1,5 @@
-// Sectors are taken from the root forward: first it is seen whether every table can be placed, then every table and entry gets its sector.
+// Sectors are taken from the root forward: first it is seen whether every table can be placed, then every table and
+// entry gets its sector.
 use dirtab_place::Counted;
 use dirtab_place::count_sectors;
 use dirtab_place::stored_at;
@@ -18,7 +19,8 @@ ghost use Rattle.layout_sector.specs.Counter.{sectorsFor};
 ghost use Rattle.table_model.specs.Place.{freeOf};
 ghost use Rattle.dirtab_place.specs.Places.{toldFree};
 ghost use Rattle.img_model.specs.Plan.{Taking, total, takingUp, rooted};
-ghost use Rattle.img_take.specs.Forward.{Sized, requestOf, taking, freeTold, toldFitting, Turn, Treed, entriesOf, limited, takeOne, takeAlong, Enters, EntersAll};
+ghost use Rattle.img_take.specs.Forward.{Sized, requestOf, taking, freeTold, toldFitting, Turn, Treed};
+ghost use Rattle.img_take.specs.Forward.{entriesOf, limited, takeOne, takeAlong, Enters, EntersAll};
 
 // What going over the tables answers.
 pub enum Fitting {
@@ -94,8 +96,9 @@ fn count_table(
     count_sectors(order, size, kind, free)
 }
 
-// Whether the table of directory d can be placed: the next free sector after its entries. `to` is where its order ends. An offset over 4 exceeds 65,535
-// exactly where the table's size exceeds 262,144, since no entry crosses that sector line.
+// Whether the table of directory d can be placed: the next free sector after its entries. `to` is where its order
+// ends. An offset over 4 exceeds 65,535 exactly where the table's size exceeds 262,144, since no entry crosses that
+// sector line.
 fn check_table(
     d: usize,
     to: usize,
@@ -132,7 +135,8 @@ fn check_table(
     }
 }
 
-// Whether every table can be placed, in turn from the root on. `end` is where the root's order ends: the last directory's is the first.
+// Whether every table can be placed, in turn from the root on. `end` is where the root's order ends: the last
+// directory's is the first.
 pub fn check_tables(
     first: &[u32],
     share: &[u32],
@@ -199,7 +203,8 @@ fn take_entry(
     free + sectors_for(stored_at(size, kind, i))
 }
 
-// The entries of the directory whose first stands at f take their sectors in the order given, from `free` on: the next free sector.
+// The entries of the directory whose first stands at f take their sectors in the order given, from `free` on: the
+// next free sector.
 fn take_entries(
     order: &[u16],
     kind: &[u8],

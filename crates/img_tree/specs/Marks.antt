@@ -1,5 +1,5 @@
--- The columns that are looked at to see whether directories are a tree, and the marks that are set on the way: one for each directory, 1 where it has been
--- named and 0 where not. Assumes nothing.
+-- The columns that are looked at to see whether directories are a tree, and the marks that are set on the way: one
+-- for each directory, 1 where it has been named and 0 where not. Assumes nothing.
 use Prim.Native.Nat.{ℕ, _+_, _≤_, _<_}
 use mathlib.Core.Path.{_≡_}
 use mathlib.Core.Bool.{Bool, true, _&&_}
@@ -12,7 +12,8 @@ use Rattle.img_model.specs.Shares.{Request, Share, part, tally, names, namesLat
 
 -- the columns, as far as a tree's rule speaks of them
 abbrev pub shares : List ℕ → List ℕ → List ℕ → List ℕ → Request
-shares first share kind value = record { first = first; share = share; start = []; len = []; kind = kind; value = value; bytes = [] }
+shares first share kind value =
+    record { first = first; share = share; start = []; len = []; kind = kind; value = value; bytes = [] }
 
 -- a column for each directory is as long as another, and so is one for each entry; there is a mark for each directory
 pub record Even (R : Request) (marks : ℕ) : Type 0 where
@@ -53,7 +54,8 @@ times named S x = getD named x 0 + tally (names S x) (S .count)
 
 -- the entries of directory d can all be marked: the directories that they name are later ones, and none is named twice
 unfoldable pub isMarkable : List ℕ → ℕ → Share → Bool
-isMarkable named d S = every (namesLater S (length named) d) (S .count) && every (λ x. leb (times named S x) 1) (length named)
+isMarkable named d S =
+    every (namesLater S (length named) d) (S .count) && every (λ x. leb (times named S x) 1) (length named)
 
 -- they all are marked
 pub record Marked (named : List ℕ) (S : Share) (after : List ℕ) : Type 0 where
@@ -62,7 +64,8 @@ pub record Marked (named : List ℕ) (S : Share) (after : List ℕ) : Type 0 whe
 
 -- the same for n entries from the place f on, which have to be in the list
 unfoldable pub isPartMarkable : List ℕ → ℕ → ℕ → ℕ → List ℕ → List ℕ → Bool
-isPartMarkable named d f n kind value = leb (f + n) (length kind) && isMarkable named d (entries n (part f n kind) (part f n value))
+isPartMarkable named d f n kind value =
+    leb (f + n) (length kind) && isMarkable named d (entries n (part f n kind) (part f n value))
 
 -- ---- all directories
 

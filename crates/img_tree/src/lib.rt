@@ -6,9 +6,11 @@ ghost use lib.ListN.{length};
 ghost use Rattle.units.specs.Lent.{was, is};
 ghost use Rattle.avl_arena.specs.Test.{every};
 ghost use Rattle.img_model.specs.Shares.{part, isTree};
-ghost use Rattle.img_tree.specs.Marks.{shares, Even, entries, isFree, markedAt, isEntryFree, entryMarked, Marks, isMarkable, Marked, isPartMarkable, isNamed};
+ghost use Rattle.img_tree.specs.Marks.{shares, Even, entries, isFree, markedAt, isEntryFree, entryMarked};
+ghost use Rattle.img_tree.specs.Marks.{Marks, isMarkable, Marked, isPartMarkable, isNamed};
 
-// Marks the directory x, which an entry of directory d names: false where it is d, an earlier one or none, or is marked.
+// Marks the directory x, which an entry of directory d names: false where it is d, an earlier one or none, or is
+// marked.
 fn mark(d: usize, x: u64, named: &mut [u32]) -> bool
     ensures { λ r. ⌜ (r ≡ isFree (was named) d x) × (is named ≡ markedAt (was named) d x) ⌝ }
 {
@@ -80,7 +82,8 @@ fn all_marked(named: &[u32]) -> bool
     true
 }
 
-// There is a directory, every share lies in the list, and every directory but the root is named exactly once, by an earlier one. `named` is scratch.
+// There is a directory, every share lies in the list, and every directory but the root is named exactly once, by an
+// earlier one. `named` is scratch.
 pub fn is_tree(first: &[u32], share: &[u32], kind: &[u8], value: &[u64], named: &mut [u32]) -> bool
     requires { ⌜ Even (shares (now first) (now share) (now kind) (now value)) (length (now named)) ⌝ }
     ensures { λ r. ⌜ r ≡ isTree (shares (was first) (was share) (was kind) (was value)) ⌝ }

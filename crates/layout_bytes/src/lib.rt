@@ -1,4 +1,5 @@
-// Little-endian numbers read from bytes and written to them, and runs of bytes written: the only stores of the library into bytes.
+// Little-endian numbers read from bytes and written to them, and runs of bytes written: the only stores of the
+// library into bytes.
 ghost use mathlib.Core.Path.{_≡_};
 ghost use mathlib.Core.List.{[], _∷_, _++_};
 ghost use Prim.Native.Nat.{_+_, _≤_, _<_};

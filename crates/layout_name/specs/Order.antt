@@ -1,6 +1,7 @@
--- The order of names: byte by byte, by a key of each byte; a proper prefix is less. Assumes nothing.
--- Today's key raises a to z to A to Z and leaves every other byte as it is, so that a byte of 0x80 and above is greater than every ASCII byte.
--- Another key (a code point) is another argument of `orderBy`; the laws, in proofs/Laws.antt, hold for every key.
+-- The order of names: byte by byte, by a key of each byte; a proper prefix is less. Assumes nothing. Today's key
+-- raises a to z to A to Z and leaves every other byte as it is, so that a byte of 0x80 and above is greater than
+-- every ASCII byte. Another key (a code point) is another argument of `orderBy`; the laws, in proofs/Laws.antt,
+-- hold for every key.
 use Prim.Native.Nat.{ℕ, _-_}
 use mathlib.Core.List.{List, [], _∷_, _++_, map}
 use lib.Dec.{ltb, leb}

@@ -42,10 +42,13 @@ pub fn byte_order(p: u8, q: u8) -> Order
     Order::Equal
 }
 
-// Four bytes of two names, from a place on, are the same as they stand. There is no branch between them, so that they are compared at once.
+// Four bytes of two names, from a place on, are the same as they stand. There is no branch between them, so that
+// they are compared at once.
 fn same_four(a: &[u8], b: &[u8], at: usize) -> bool
     requires { ⌜ (at + 4 ≤ length (now a)) × (at + 4 ≤ length (now b)) ⌝ }
-    ensures { λ r. ⌜ r ≡ ((eqb (getD (was a) at 0) (getD (was b) at 0) && eqb (getD (was a) (at + 1) 0) (getD (was b) (at + 1) 0)) && eqb (getD (was a) (at + 2) 0) (getD (was b) (at + 2) 0)) && eqb (getD (was a) (at + 3) 0) (getD (was b) (at + 3) 0) ⌝ }
+    ensures { λ r. ⌜ r ≡ ((eqb (getD (was a) at 0) (getD (was b) at 0) && eqb (getD (was a) (at + 1) 0)
+        (getD (was b) (at + 1) 0)) && eqb (getD (was a) (at + 2) 0) (getD (was b) (at + 2) 0)) && eqb
+        (getD (was a) (at + 3) 0) (getD (was b) (at + 3) 0) ⌝ }
 {
     (a[at] == b[at])
         & (a[at + 1] == b[at + 1])
@@ -62,7 +65,8 @@ fn shorter(n: usize, m: usize) -> usize
 
 // How many bytes are the same at the front of two names, counted by fours: what is left of the names decides.
 fn same_front(a: &[u8], b: &[u8]) -> usize
-    ensures { λ r. ⌜ (r ≤ length (was a)) × (r ≤ length (was b)) × (nameOrder (was a) (was b) ≡ nameOrder (drop r (was a)) (drop r (was b))) ⌝ }
+    ensures { λ r. ⌜ (r ≤ length (was a)) × (r ≤ length (was b))
+        × (nameOrder (was a) (was b) ≡ nameOrder (drop r (was a)) (drop r (was b))) ⌝ }
 {
     let n = shorter(a.len(), b.len());
     let mut i = 0;

@@ -1,5 +1,5 @@
--- The fourteen bytes of an entry before its name: left link u16, right link u16, sector u32, size u32, attributes u8, name length u8, little-endian.
--- Assumes nothing.
+-- The fourteen bytes of an entry before its name: left link u16, right link u16, sector u32, size u32, attributes
+-- u8, name length u8, little-endian. Assumes nothing.
 use Prim.Native.Nat.{ℕ, _+_, _*_, _/_, _%_}
 use mathlib.Core.Bool.{Bool, true, false}
 use mathlib.Core.List.{List, [], _∷_, _++_}
@@ -21,7 +21,8 @@ headerOf h = record {
 
 -- the fourteen bytes of the fields
 unfoldable pub headerBytes : Header → List ℕ
-headerBytes h = le16 (h .left .0) ++ (le16 (h .right .0) ++ (le32 (h .sector .0) ++ (le32 (h .size) ++ (h .attributes ∷ h .«name_len» ∷ []))))
+headerBytes h = le16 (h .left .0)
+    ++ (le16 (h .right .0) ++ (le32 (h .sector .0) ++ (le32 (h .size) ++ (h .attributes ∷ h .«name_len» ∷ []))))
 
 -- either
 abbrev pub either : Bool → Bool → Bool

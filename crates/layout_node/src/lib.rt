@@ -48,7 +48,8 @@ pub fn put_header(out: &mut [u8], at: usize, header: Header)
     layout_bytes::put_two(out, at + 12, header.attributes, header.name_len);
 }
 
-// Fourteen bytes of 0xff. They are compared as three numbers and two bytes, in little code: so what calls it is inlined where it is called.
+// Fourteen bytes of 0xff. They are compared as three numbers and two bytes, in little code: so what calls it is
+// inlined where it is called.
 fn are_ones(h: &[u8]) -> bool
     requires { ⌜ length (now h) ≡ 14 ⌝ }
     ensures { λ r. ⌜ r ≡ all 255 (now (h .entry)) ⌝ }

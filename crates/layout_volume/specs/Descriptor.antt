@@ -1,5 +1,5 @@
--- The volume descriptor: the mark, root sector u32, root size u32, eight stamp bytes, 1,992 unused bytes, the mark again; 2,048 bytes in all.
--- Stamp and unused bytes are zero (volume.rs). Assumes nothing.
+-- The volume descriptor: the mark, root sector u32, root size u32, eight stamp bytes, 1,992 unused bytes, the mark
+-- again; 2,048 bytes in all. Stamp and unused bytes are zero (volume.rs). Assumes nothing.
 use Prim.Native.Nat.{ℕ, _+_}
 use mathlib.Core.Bool.{Bool, true, false}
 use mathlib.Core.List.{List, [], _∷_, _++_}
@@ -19,7 +19,8 @@ mark = 77 ∷ 73 ∷ 67 ∷ 82 ∷ 79 ∷ 83 ∷ 79 ∷ 70 ∷ 84 ∷ 42 ∷ 88 
 
 -- the 2,048 bytes of a descriptor
 unfoldable pub descriptorBytes : Descriptor → List ℕ
-descriptorBytes d = mark ++ (le32 (d .root .sector .0) ++ (le32 (d .root .size) ++ (replicate 8 0 ++ (replicate 1992 0 ++ mark))))
+descriptorBytes d = mark
+    ++ (le32 (d .root .sector .0) ++ (le32 (d .root .size) ++ (replicate 8 0 ++ (replicate 1992 0 ++ mark))))
 
 -- two lists are equal
 unfoldable pub sameList : List ℕ → List ℕ → Bool

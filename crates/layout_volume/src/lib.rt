@@ -3,7 +3,8 @@ use units::Region;
 use units::Sector;
 ghost use mathlib.Core.Path.{_≡_};
 ghost use Rattle.units.specs.Lent.{was, is};
-ghost use Rattle.layout_volume.specs.Descriptor.{mark, sameList, writeTold, writeOf, bytesAfter, readTold, readOf};
+ghost use Rattle.layout_volume.specs.Descriptor.{mark, sameList, writeTold, writeOf, bytesAfter, readTold};
+ghost use Rattle.layout_volume.specs.Descriptor.{readOf};
 ghost use lib.ListN.{take, drop};
 
 // What a descriptor says: where the root table stands, and its size.

@@ -1,4 +1,5 @@
-// Lists the root directory of the image on standard input: discards the 65,536 bytes before sector 32, and keeps the 32 sectors from there on.
+// Lists the root directory of the image on standard input: discards the 65,536 bytes before sector 32, and keeps
+// the 32 sectors from there on.
 fn main() {
     let mut passed = io::large_buffer();
     io::read_full(0, &mut passed);

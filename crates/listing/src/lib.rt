@@ -1,4 +1,5 @@
-// The listing of an image's root directory, written to standard output: a line for each entry, and the number of entries; or the refusal's number alone.
+// The listing of an image's root directory, written to standard output: a line for each entry, and the number of
+// entries; or the refusal's number alone.
 use layout_volume::DescriptorRead;
 use read_entry::Read;
 use read_walk::Walked;

@@ -1,4 +1,5 @@
--- What reading at an offset of a table finds in a window: a list of bytes and the number of its first sector. Assumes nothing.
+-- What reading at an offset of a table finds in a window: a list of bytes and the number of its first sector.
+-- Assumes nothing.
 use Prim.Native.Nat.{ℕ, _+_, _-_, _*_}
 use mathlib.Core.List.{List, [], _∷_}
 use mathlib.Core.Option.{Option, some, none}
@@ -17,8 +18,8 @@ pub record Placed : Type 0 where
   pub header : Header
   pub place : ℕ
 
--- at place p of the window, for offset o of a table: header and name must be in the window (else 24, with the offset); fourteen bytes of 0xff or of 0 are
--- no entry, whatever follows
+-- at place p of the window, for offset o of a table: header and name must be in the window (else 24, with the
+-- offset); fourteen bytes of 0xff or of 0 are no entry, whatever follows
 unfoldable pub readHere : List ℕ → ℕ → ℕ → Told (Option Placed)
 readHere w p o =
     let h : List ℕ = take 14 (drop p w) in
@@ -31,7 +32,8 @@ readHere w p o =
 abbrev pub byteOf : Region → ℕ → ℕ
 byteOf t o = 2048 * (t .sector .0) + o
 
--- at an offset of a table: the offset must be below the table's size (else 23, with the offset), and not before the window (else 24)
+-- at an offset of a table: the offset must be below the table's size (else 23, with the offset), and not before the
+-- window (else 24)
 unfoldable pub readAt : List ℕ → Sector → Region → ℕ → Told (Option Placed)
 readAt w first t o =
     pick (leb (t .size) o) (refuses 23 (o ∷ []))

@@ -1,5 +1,5 @@
--- Which links are absent. The two readers have different sets: a link of 0xff is absent for lookup and a link of 0xffff for the walk, 0 for both.
--- What is said of links is said over a set. Assumes nothing.
+-- Which links are absent. The two readers have different sets: a link of 0xff is absent for lookup and a link of
+-- 0xffff for the walk, 0 for both. What is said of links is said over a set. Assumes nothing.
 use Prim.Native.Nat.{ℕ}
 use mathlib.Core.Bool.{Bool, true, false}
 use mathlib.Core.List.{List, [], _∷_}

@@ -1,4 +1,5 @@
-// One directory entry, read at an offset of a table out of a window: a slice of bytes and the number of its first sector.
+// One directory entry, read at an offset of a table out of a window: a slice of bytes and the number of its first
+// sector.
 use layout_node::Header;
 use units::Located;
 use units::Offset;
@@ -65,8 +66,9 @@ pub fn read_at(w: &[u8], first: Sector, table: Region, offset: Offset) -> Read
     }
 }
 
-// The window from a table's first byte on; nothing where the table starts outside it. Read in that part, as a table of sector 0 in a window that starts with
-// sector 0, the table is the same, and where an offset stands is not worked out at each header again.
+// The window from a table's first byte on; nothing where the table starts outside it. Read in that part, as a table
+// of sector 0 in a window that starts with sector 0, the table is the same, and where an offset stands is not
+// worked out at each header again.
 pub fn part_of(w: &[u8], first: Sector, table: Region) -> &[u8]
     ensures { λ r. ⌜ now r ≡ partOf (now (w .entry)) first table ⌝ }
 {

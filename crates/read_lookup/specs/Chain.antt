@@ -1,4 +1,5 @@
--- What is said of a chain, without its bound: which offsets it reads, when it never ends, how long it is. Assumes nothing.
+-- What is said of a chain, without its bound: which offsets it reads, when it never ends, how long it is. Assumes
+-- nothing.
 use Prim.Native.Nat.{ℕ, zero, suc, _<_}
 use mathlib.Core.Path.{_≡_}
 use mathlib.Core.List.{List, [], _∷_}
@@ -7,7 +8,8 @@ use lib.Dec.{eqb}
 use Rattle.units.specs.Told.{Told, gives, refuses, pick}
 use Rattle.read_lookup.specs.Lookup.{Leads, found, missing, refused, onward, Finding}
 
--- the offset of the i-th header, counted from 0, that a chain from offset o on reads, where it reads so many. This is the Rust's chain, which may never end
+-- the offset of the i-th header, counted from 0, that a chain from offset o on reads, where it reads so many. This
+-- is the Rust's chain, which may never end
 abbrev pub goes : Leads → (ℕ → Option ℕ) → Option ℕ
 goes (found x) next = none
 goes missing next = none

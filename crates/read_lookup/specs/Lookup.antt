@@ -1,6 +1,7 @@
--- What a lookup answers: it follows a chain of entries, from offset 0 on, by the order of the sought name to each entry's. Assumes nothing.
--- The chain is cut at 65,536 headers, since there are no more offsets that a link can name: a chain that reaches so many reads some offset twice, and so
--- never ends, and no other does (proofs/Laws.antt).
+-- What a lookup answers: it follows a chain of entries, from offset 0 on, by the order of the sought name to each
+-- entry's. Assumes nothing. The chain is cut at 65,536 headers, since there are no more offsets that a link can
+-- name: a chain that reaches so many reads some offset twice, and so never ends, and no other does
+-- (proofs/Laws.antt).
 use Prim.Native.Nat.{ℕ, zero, suc, _+_, _*_}
 use mathlib.Core.Bool.{Bool, true, false}
 use mathlib.Core.List.{List, [], _∷_}

@@ -25,7 +25,8 @@ pub enum Step {
 
 // What a lookup answers.
 pub enum Looked {
-    // The entry: its header, the place in the window of its first byte, its offset in the table; and the number of headers read.
+    // The entry: its header, the place in the window of its first byte, its offset in the table; and the number of
+    // headers read.
     Found(Header, usize, Offset, u32),
     // 2: a byte of the name is above 127.
     BadByte,
@@ -113,8 +114,8 @@ fn look_in(w: &[u8], first: Sector, table: Region, name: &[u8]) -> Looked
     Looked::Looped
 }
 
-// The entry of a name in a table. The table is read in its own part of the window, which starts with the table: so nothing is worked out at each header but
-// the header.
+// The entry of a name in a table. The table is read in its own part of the window, which starts with the table: so
+// nothing is worked out at each header but the header.
 pub fn look_up(w: &[u8], first: Sector, table: Region, name: &[u8]) -> Looked
     ensures { λ r. ⌜ told r ≡ lookupOf (now (w .entry)) first table (now (name .entry)) ⌝ }
 {

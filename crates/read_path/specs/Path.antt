@@ -1,5 +1,5 @@
--- What a path leads to: leading slashes go, one trailing slash goes, the rest is split at each slash, and each part is looked up in the
--- table that the part before it names. Assumes nothing.
+-- What a path leads to: leading slashes go, one trailing slash goes, the rest is split at each slash, and each part
+-- is looked up in the table that the part before it names. Assumes nothing.
 use Prim.Native.Nat.{ℕ, zero, suc}
 use mathlib.Core.List.{List, [], _∷_}
 use lib.Dec.{eqb}
@@ -50,7 +50,9 @@ pub data Turns : Type 0 where
 -- its entry must be a directory (else 27)
 abbrev pub turnOf : Told Finding → Turns
 turnOf (gives x) =
-    pick (isDirectory (x .entry .header)) (into (record { sector = x .entry .header .sector; size = x .entry .header .size })) (stops (refuses 27 []))
+    pick (isDirectory (x .entry .header))
+    (into (record { sector = x .entry .header .sector; size = x .entry .header .size }))
+    (stops (refuses 27 []))
 turnOf (refuses k vs) = stops (lastOf (refuses k vs))
 
 abbrev pub onward : Turns → (Region → Told Placed) → Told Placed
@@ -61,11 +63,13 @@ onward (stops a) next = a
 unfoldable pub partsFrom : List ℕ → List ℕ → Sector → Region → List (List ℕ) → Told Placed
 partsFrom absent w first t [] = refuses 28 []
 partsFrom absent w first t (p ∷ []) = lastOf (lookupBy absent w first t p)
-partsFrom absent w first t (p ∷ q ∷ ps) = onward (turnOf (lookupBy absent w first t p)) (λ u. partsFrom absent w first u (q ∷ ps))
+partsFrom absent w first t (p ∷ q ∷ ps) =
+    onward (turnOf (lookupBy absent w first t p)) (λ u. partsFrom absent w first u (q ∷ ps))
 
 -- the answer of a path: 2, then the parts
 unfoldable pub pathBy : List ℕ → List ℕ → Sector → Region → List ℕ → Told Placed
-pathBy absent w first t path = pick (anyHigh path) (refuses 2 []) (partsFrom absent w first t (unended (split (trim path))))
+pathBy absent w first t path =
+    pick (anyHigh path) (refuses 2 []) (partsFrom absent w first t (unended (split (trim path))))
 
 abbrev pub pathOf : List ℕ → Sector → Region → List ℕ → Told Placed
 pathOf = pathBy lookupAbsent

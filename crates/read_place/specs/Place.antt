@@ -1,5 +1,5 @@
--- What stands at a place of a table, an offset in it, by what reading there finds: the table of a directory, where the entry's links lead, and its name.
--- Assumes nothing.
+-- What stands at a place of a table, an offset in it, by what reading there finds: the table of a directory, where
+-- the entry's links lead, and its name. Assumes nothing.
 use Prim.Native.Nat.{ℕ, _*_}
 use mathlib.Core.List.{List, [], _∷_}
 use mathlib.Core.Option.{Option, some, none}
@@ -33,7 +33,8 @@ tableAt w first t o = tableOf (readAt w first t o)
 unfoldable pub byLink : List ℕ → ℕ → Told (Option ℕ)
 byLink absent k = pick (isIn k absent) (gives none) (gives (some (4 * k)))
 
--- the left and the right link of an entry that is read, with the links that the walk takes for absent; no entry has none
+-- the left and the right link of an entry that is read, with the links that the walk takes for absent; no entry has
+-- none
 abbrev pub leftOf : Told (Option Placed) → Told (Option ℕ)
 leftOf (gives (some x)) = byLink walkAbsent (x .header .left .0)
 leftOf (gives none) = gives none

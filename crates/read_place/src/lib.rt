@@ -1,4 +1,5 @@
-// What stands at a place of a table, an offset in it: the entry's name, the table of a directory, and the entries to the left and to the right.
+// What stands at a place of a table, an offset in it: the entry's name, the table of a directory, and the entries
+// to the left and to the right.
 use layout_node::Header;
 use read_entry::Read;
 use units::Link;
@@ -8,7 +9,8 @@ use units::Sector;
 ghost use mathlib.Core.Path.{_≡_};
 ghost use Rattle.units.specs.Lent.{was};
 ghost use Rattle.read_entry.specs.Links.{walkAbsent};
-ghost use Rattle.read_place.specs.Place.{entered, headerEntered, tableAt, linked, byLink, leftAt, rightAt, nameAt};
+ghost use Rattle.read_place.specs.Place.{entered, headerEntered, tableAt, linked, byLink, leftAt, rightAt};
+ghost use Rattle.read_place.specs.Place.{nameAt};
 
 // What going into the entry at a place answers.
 pub enum Entered {

@@ -1,6 +1,6 @@
--- What a walk of a table lists: preorder, left before right, by a stack of offsets. Assumes nothing.
--- It needs no bound on its steps: each entry takes a place of the list, of which there are `room`, and between two entries the stack only
--- shrinks, so the definition recurses on the places, and within them on the stack.
+-- What a walk of a table lists: preorder, left before right, by a stack of offsets. Assumes nothing. It needs no
+-- bound on its steps: each entry takes a place of the list, of which there are `room`, and between two entries the
+-- stack only shrinks, so the definition recurses on the places, and within them on the stack.
 use Prim.Native.Nat.{ℕ, zero, suc, _-_, _*_}
 use mathlib.Core.List.{List, [], _∷_, _++_}
 use mathlib.Core.Option.{Option, some, none}
@@ -35,12 +35,14 @@ unfoldable pub toEntry : (ℕ → Told (Option Placed)) → (ℕ → Header → 
 toEntry f enter [] = gives []
 toEntry f enter (o ∷ stack) = byRead (f o) (λ h. enter o h stack) (toEntry f enter stack)
 
--- the walk of a stack of offsets, with `room` places left in the list: an entry with no place left is 26; else it is listed, and its right and then its left
--- link put on the stack. `f o` is what is read at offset o
+-- the walk of a stack of offsets, with `room` places left in the list: an entry with no place left is 26; else it
+-- is listed, and its right and then its left link put on the stack. `f o` is what is read at offset o
 unfoldable pub walkFrom : List ℕ → (ℕ → Told (Option Placed)) → ℕ → List ℕ → Told (List ℕ)
 walkFrom absent f zero stack = toEntry f (λ o h rest. refuses 26 []) stack
 walkFrom absent f (suc room) stack =
-    toEntry f (λ o h rest. before (o ∷ []) (walkFrom absent f room (push absent (h .left .0) (push absent (h .right .0) rest)))) stack
+    toEntry f
+    (λ o h rest. before (o ∷ []) (walkFrom absent f room (push absent (h .left .0) (push absent (h .right .0) rest))))
+    stack
 
 -- the walk of a table from offset 0, into a list of `room` places: a table of size 0 lists nothing
 unfoldable pub walkOf : List ℕ → Sector → Region → ℕ → Told (List ℕ)
@@ -56,7 +58,8 @@ abbrev pub listed : Told (List ℕ) → ℕ → List ℕ
 listed (gives xs) n = xs ++ replicate (n - length xs) 0
 listed (refuses k vs) n = replicate n 0
 
--- THE ANSWER: 6 where the scratch is not longer than the list; else what the walk gives. n and m are the lengths of the list and of the scratch
+-- THE ANSWER: 6 where the scratch is not longer than the list; else what the walk gives. n and m are the lengths of
+-- the list and of the scratch
 unfoldable pub walkAnswer : List ℕ → Sector → Region → ℕ → ℕ → Told ℕ
 walkAnswer w first t n m = pick (leb m n) (refuses 6 []) (counted (walkOf w first t n))
 

@@ -49,7 +49,8 @@ fn push_link(scratch: &mut [u32], top: usize, l: Link) -> usize
 // The walk itself. What it leaves in the list past its count, and in the scratch, is cleared by the caller.
 fn run(w: &[u8], first: Sector, table: Region, list: &mut [u32], scratch: &mut [u32]) -> Walked
     requires { ⌜ length (now list) < length (now scratch) ⌝ }
-    ensures { λ r. ⌜ Runs (walkFrom walkAbsent (readAt (was w) first table) (length (was list)) (0 ∷ [])) r (is list) ⌝ }
+    ensures { λ r. ⌜ Runs (walkFrom walkAbsent (readAt (was w) first table) (length (was list)) (0 ∷ [])) r
+        (is list) ⌝ }
 {
     scratch[0] = 0;
     let mut top: usize = 1;
@@ -88,8 +89,9 @@ fn kept(r: Walked) -> usize
     }
 }
 
-// The walk of a table: the offsets of its entries in the list, and zeros past them; or a refusal, and a list of zeros. The scratch is all
-// zero after it. Where the scratch is not longer than the list, all is unchanged. The table is read in its own part of the window, which starts with the table.
+// The walk of a table: the offsets of its entries in the list, and zeros past them; or a refusal, and a list of
+// zeros. The scratch is all zero after it. Where the scratch is not longer than the list, all is unchanged. The
+// table is read in its own part of the window, which starts with the table.
 pub fn walk(w: &[u8], first: Sector, table: Region, list: &mut [u32], scratch: &mut [u32]) -> Walked
     ensures answer { λ r. ⌜ told r ≡ walkAnswer (was w) first table (length (was list)) (length (was scratch)) ⌝ }
     ensures list { λ _. ⌜ is list ≡ listAfter (was w) first table (was list) (length (was scratch)) ⌝ }

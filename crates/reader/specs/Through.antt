@@ -1,4 +1,5 @@
--- What is said of going through a table with a reader: by its links and a stack of offsets to come, and by a next place. Assumes nothing.
+-- What is said of going through a table with a reader: by its links and a stack of offsets to come, and by a next
+-- place. Assumes nothing.
 use Prim.Native.Nat.{ℕ, zero, suc}
 use mathlib.Core.Path.{_≡_}
 use mathlib.Core.List.{List, [], _∷_}
@@ -16,12 +17,16 @@ onto (gives (some o)) stack = o ∷ stack
 onto (gives none) stack = stack
 onto (refuses k vs) stack = stack
 
--- the offsets that a loader lists with a stack of its own: it takes one off; no entry there is passed over, a refusal ends it, and an entry is listed, and what `right` and then
--- `left` of a reader placed there lead to is put on. `room` is how many it may list; one more is 26
+-- the offsets that a loader lists with a stack of its own: it takes one off; no entry there is passed over, a
+-- refusal ends it, and an entry is listed, and what `right` and then `left` of a reader placed there lead to is put
+-- on. `room` is how many it may list; one more is 26
 unfoldable pub byLinks : List ℕ → Sector → Region → ℕ → List ℕ → Told (List ℕ)
 byLinks w first t zero stack = toEntry (readAt w first t) (λ o h rest. refuses 26 []) stack
 byLinks w first t (suc room) stack =
-    toEntry (readAt w first t) (λ o h rest. before (o ∷ []) (byLinks w first t room (onto (leftAt w first t o) (onto (rightAt w first t o) rest)))) stack
+    toEntry (readAt w first t)
+    (λ o h rest.
+    before (o ∷ []) (byLinks w first t room (onto (leftAt w first t o) (onto (rightAt w first t o) rest))))
+    stack
 
 -- a function says of each offset of a list which is next, and of the last that none is
 abbrev pub Follows : (ℕ → Option ℕ) → List ℕ → Type 0

@@ -1,21 +1,29 @@
-// A small reader for a loader: it holds a window of image bytes, the number of the window's first sector, a directory table, and a position, which is an
-// offset in the table. It is plain data with a borrowed slice and is passed by value; a copy of it keeps its own position. No function asks anything of its caller.
+// A small reader for a loader: it holds a window of image bytes, the number of the window's first sector, a
+// directory table, and a position, which is an offset in the table. It is plain data with a borrowed slice and is
+// passed by value; a copy of it keeps its own position. No function asks anything of its caller.
 //
-// To load `media/default.xbe` out of a window w that starts with sector 32, where `root` is the region that `xdvdfs::read_descriptor` gives:
+// To load `media/default.xbe` out of a window w that starts with sector 32, where `root` is the region that
+// `xdvdfs::read_descriptor` gives:
 //
 //     let r = Reader::new(w, Sector::new(32), root);
 //     r.look_up(b"media")                          answers Looked::Found(_, _, at, _)
 //     r.placed(at).enter()                         answers Entered::Into(table)
-//     r.within(table).look_up(b"default.xbe")      answers Looked::Found(h, _, _, _), of which h.sector and h.size say where the bytes stand
+//     r.within(table).look_up(b"default.xbe")      answers Looked::Found(h, _, _, _)
 //
-// An answer holds no reader, since an enum holds no reference: `look_up`, `left` and `right` answer an offset, for `placed`, and `enter` a table, for `within`.
+// and h.sector and h.size say where the bytes stand.
 //
-// To go through a table of a size other than 0, keep the offsets to come on a stack of your own, 0 at first: take one off, ask the reader placed there for `entry` and
-// `name`, and put on what `right` and then `left` lead to. That lists what the walk lists (specs/Through.antt, and `walks-by-links` in proofs/Walk.antt). The position
-// alone does not say what is next in a walk: where two links name one entry, the walk lists it twice, and what follows differs (there, `no-next`).
+// An answer holds no reader, since an enum holds no reference: `look_up`, `left` and `right` answer an offset, for
+// `placed`, and `enter` a table, for `within`.
 //
-// A function that takes, makes or holds a reader is proved by hand, and without a branch in it. So each function here takes the reader apart and calls one that is not;
-// crate reader_cases shows how a program that uses a reader is cut.
+// To go through a table of a size other than 0, keep the offsets to come on a stack of your own, 0 at first: take
+// one off, ask the reader placed there for `entry` and `name`, and put on what `right` and then `left` lead to.
+// That lists what the walk lists (specs/Through.antt, and `walks-by-links` in proofs/Walk.antt). The position alone
+// does not say what is next in a walk: where two links name one entry, the walk lists it twice, and what follows
+// differs (there, `no-next`).
+//
+// A function that takes, makes or holds a reader is proved by hand, and without a branch in it. So each function
+// here takes the reader apart and calls one that is not; crate reader_cases shows how a program that uses a reader
+// is cut.
 pub use layout_node::Header;
 pub use read_entry::Read;
 pub use read_lookup::Looked;
@@ -31,7 +39,8 @@ ghost use Rattle.read_lookup.specs.Lookup as lookup;
 ghost use Rattle.read_place.specs.Place as place;
 ghost use Rattle.reader.specs.Reader.{opened, placedAt};
 
-// The window, its first sector, the table and the offset in it. The fields stand in the order in which the readers take them.
+// The window, its first sector, the table and the offset in it. The fields stand in the order in which the readers
+// take them.
 pub struct Reader<'a> {
     window: &'a [u8],
     first: Sector,
@@ -52,7 +61,8 @@ impl<'a> Reader<'a> {
         }
     }
 
-    // The same reader at another offset of the table: any offset; `entry` answers 23 at one that is not below the table's size.
+    // The same reader at another offset of the table: any offset; `entry` answers 23 at one that is not below the
+    // table's size.
     pub fn placed(self, at: Offset) -> Reader<'a>
         ensures { λ r. ⌜ r ≡ placedAt (self .entry) at ⌝ }
     {
@@ -71,44 +81,53 @@ impl<'a> Reader<'a> {
         Reader::new(self.window, self.first, table)
     }
 
-    // Looks a name up in the table, from offset 0 on, wherever the position is. 2, 21, then 22 with the number of headers read, 23, 24, 25.
+    // Looks a name up in the table, from offset 0 on, wherever the position is. 2, 21, then 22 with the number of
+    // headers read, 23, 24, 25.
     pub fn look_up(self, name: &[u8]) -> Looked
-        ensures { λ r. ⌜ lookup.told r ≡ lookup.lookupOf (now (self .entry .window)) (self .entry .first) (self .entry .table) (was name) ⌝ }
+        ensures { λ r. let s = self .entry in
+            ⌜ lookup.told r ≡ lookup.lookupOf (now (s .window)) (s .first) (s .table) (was name) ⌝ }
     {
         xdvdfs::look_up(self.window, self.first, self.table, name)
     }
 
     // The entry at the position: its header and place in the window, or that there is none. 23, 24 with the offset.
     pub fn entry(self) -> Read
-        ensures { λ r. ⌜ reading.told r ≡ reading.readAt (now (self .entry .window)) (self .entry .first) (self .entry .table) (self .entry .at .0) ⌝ }
+        ensures { λ r. let s = self .entry in
+            ⌜ reading.told r ≡ reading.readAt (now (s .window)) (s .first) (s .table) (s .at .0) ⌝ }
     {
         xdvdfs::read_entry(self.window, self.first, self.table, self.at)
     }
 
     // The name of the entry at the position, as that part of the window itself; an empty part where there is no entry.
     pub fn name(self) -> &'a [u8]
-        ensures { λ r. ⌜ now r ≡ place.nameAt (now (self .entry .window)) (self .entry .first) (self .entry .table) (self .entry .at .0) ⌝ }
+        ensures { λ r. let s = self .entry in
+            ⌜ now r ≡ place.nameAt (now (s .window)) (s .first) (s .table) (s .at .0) ⌝ }
     {
         read_place::name_at(self.window, self.first, self.table, self.at)
     }
 
-    // The table of the directory at the position. 22 where there is no entry, 23, 24 with the offset, 27 where the entry is no directory.
+    // The table of the directory at the position. 22 where there is no entry, 23, 24 with the offset, 27 where the
+    // entry is no directory.
     pub fn enter(self) -> Entered
-        ensures { λ r. ⌜ place.entered r ≡ place.tableAt (now (self .entry .window)) (self .entry .first) (self .entry .table) (self .entry .at .0) ⌝ }
+        ensures { λ r. let s = self .entry in
+            ⌜ place.entered r ≡ place.tableAt (now (s .window)) (s .first) (s .table) (s .at .0) ⌝ }
     {
         read_place::table_at(self.window, self.first, self.table, self.at)
     }
 
-    // Where the left link of the entry at the position leads, or that it is absent: 0 and 0xffff are, as for the walk. 23, 24 with the position.
+    // Where the left link of the entry at the position leads, or that it is absent: 0 and 0xffff are, as for the
+    // walk. 23, 24 with the position.
     pub fn left(self) -> Linked
-        ensures { λ r. ⌜ place.linked r ≡ place.leftAt (now (self .entry .window)) (self .entry .first) (self .entry .table) (self .entry .at .0) ⌝ }
+        ensures { λ r. let s = self .entry in
+            ⌜ place.linked r ≡ place.leftAt (now (s .window)) (s .first) (s .table) (s .at .0) ⌝ }
     {
         read_place::left_at(self.window, self.first, self.table, self.at)
     }
 
     // The same of the right link.
     pub fn right(self) -> Linked
-        ensures { λ r. ⌜ place.linked r ≡ place.rightAt (now (self .entry .window)) (self .entry .first) (self .entry .table) (self .entry .at .0) ⌝ }
+        ensures { λ r. let s = self .entry in
+            ⌜ place.linked r ≡ place.rightAt (now (s .window)) (s .first) (s .table) (s .at .0) ⌝ }
     {
         read_place::right_at(self.window, self.first, self.table, self.at)
     }

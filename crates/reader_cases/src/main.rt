@@ -1,7 +1,7 @@
 // What a reader answers over an image of data/, of which a file holds the bytes from sector 32 on.
 //
-// A function that has a reader in a local is proved by hand, and has no branch in it: each of the first seven opens a reader, moves it and asks it one thing. What
-// stands after them has no reader, and goes by their answers.
+// A function that has a reader in a local is proved by hand, and has no branch in it: each of the first seven opens
+// a reader, moves it and asks it one thing. What stands after them has no reader, and goes by their answers.
 use layout_volume::DescriptorRead;
 use read_entry::Read;
 use read_lookup::Looked;

@@ -1,21 +1,32 @@
-// Replays answers that the Rust original gave, with no Rust at hand: each record of data/answers is a request and the Rust's answer to it, and the front door is asked the same.
-// Prints how many records there were of each kind, and how many of them were answered otherwise.
+// Replays answers that the Rust original gave, with no Rust at hand: each record of data/answers is a request and
+// the Rust's answer to it, and the front door is asked the same. Prints how many records there were of each kind,
+// and how many of them were answered otherwise.
 //
-// The file is made by oracle/record. It is a row of blocks of 65,536 bytes, the last one shorter; a block is a row of records, and zeros fill it where no record fits. A record is its
-// length in two bytes and then so many bytes, of which the first is its kind. Numbers are little-endian, of four bytes where nothing else is said; what an answer has no value for is 0.
+// The file is made by oracle/record. It is a row of blocks of 65,536 bytes, the last one shorter; a block is a row
+// of records, and zeros fill it where no record fits. A record is its length in two bytes and then so many bytes,
+// of which the first is its kind. Numbers are little-endian, of four bytes where nothing else is said; what an
+// answer has no value for is 0.
 //
-//   l, p  a lookup, a path:   1 first sector of the window, 5 and 9 sector and size of the table, 13 length of what is sought (two bytes), 15 number of the answer, then of the entry
-//                             19 left, 23 right, 27 sector, 31 size, 35 attributes, 39 length of the name, 43 place in the window; 47 offset, 51 headers read; 55 what is
-//                             sought, and after it the window. A path's answer has no headers, and an offset only with 23 and 24.
-//   w     a walk:             1 first sector, 5 and 9 sector and size of the table, 13 how many are listed (two bytes), 15 number, 19 offset of a fault; 23 the offsets listed, and after
-//                             them the window. The list has 256 places.
-//   t     a table:            1 first sector, 5 number, 9 number of the refused entry, 13 size, 17 next free sector, 21 count (two bytes), 23 bytes of names (two bytes);
-//                             25 for each entry the start of its name, then for each its length, then for each its size, then for each its kind in one byte, then the names, then
-//                             the table's bytes up to its size. There are at most 64 entries, and the output has 16,384 bytes.
-//   i     an image's plan:    1 number, 5 count of directories (two bytes), 7 count of entries (two bytes), 9 bytes of names (two bytes); 11 for each directory the place of its first
-//                             entry, then for each how many it has, then for each entry the start of its name, for each the length, for each its value in eight bytes, for each its
-//                             kind in one byte, then the names; then, where it is planned, for each directory its size, for each its table's sector, and for each entry its sector.
-//                             There are at most 16 directories and 2,112 entries. Which entry or directory is refused and the next free sector are not in it: the Rust does not tell.
+//   l, p  a lookup, a path:
+//         1 first sector of the window, 5 and 9 sector and size of the table, 13 length of what is sought (two
+//         bytes), 15 number of the answer, then of the entry 19 left, 23 right, 27 sector, 31 size, 35 attributes,
+//         39 length of the name, 43 place in the window; 47 offset, 51 headers read; 55 what is sought, and after
+//         it the window. A path's answer has no headers, and an offset only with 23 and 24.
+//   w     a walk:
+//         1 first sector, 5 and 9 sector and size of the table, 13 how many are listed (two bytes), 15 number, 19
+//         offset of a fault; 23 the offsets listed, and after them the window. The list has 256 places.
+//   t     a table:
+//         1 first sector, 5 number, 9 number of the refused entry, 13 size, 17 next free sector, 21 count (two
+//         bytes), 23 bytes of names (two bytes); 25 for each entry the start of its name, then for each its length,
+//         then for each its size, then for each its kind in one byte, then the names, then the table's bytes up to
+//         its size. There are at most 64 entries, and the output has 16,384 bytes.
+//   i     an image's plan:
+//         1 number, 5 count of directories (two bytes), 7 count of entries (two bytes), 9 bytes of names (two
+//         bytes); 11 for each directory the place of its first entry, then for each how many it has, then for each
+//         entry the start of its name, for each the length, for each its value in eight bytes, for each its kind in
+//         one byte, then the names; then, where it is planned, for each directory its size, for each its table's
+//         sector, and for each entry its sector. There are at most 16 directories and 2,112 entries. Which entry or
+//         directory is refused and the next free sector are not in it: the Rust does not tell.
 use replay_record::part;
 use replay_record::short_at;
 

@@ -1,4 +1,5 @@
-// Recorded plans: the front door plans the same directories, and the answer's number and all that is lent are compared. crates/replay/src/main.rt describes the records.
+// Recorded plans: the front door plans the same directories, and the answer's number and all that is lent are
+// compared. crates/replay/src/main.rt describes the records.
 use replay_record::fill;
 use replay_record::fill_long;
 use replay_record::is;
@@ -68,7 +69,8 @@ fn is_clear(
         && are_zero(order)
 }
 
-// Plans the recorded directories and entries, whose kinds and names stand apart: whether the number is the recorded one, and the scratch clear afterwards.
+// Plans the recorded directories and entries, whose kinds and names stand apart: whether the number is the recorded
+// one, and the scratch clear afterwards.
 fn plan_recorded(
     s: &[u8],
     first: &[u32],
@@ -136,7 +138,8 @@ fn is_planned(
     tables: &[u32],
     sectors: &[u32],
 ) -> bool
-    requires { ⌜ (at < 2000000) × (d < 65536) × (length (now sizes) ≤ 65536) × (length (now tables) ≤ 65536) × (length (now sectors) ≤ 65536) ⌝ }
+    requires { ⌜ (at < 2000000) × (d < 65536) × (length (now sizes) ≤ 65536) × (length (now tables) ≤ 65536)
+        × (length (now sectors) ≤ 65536) ⌝ }
 {
     is_row(s, at, sizes, d, 7)
         && is_row(s, at + 4 * d, tables, d, 7)

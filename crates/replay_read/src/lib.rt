@@ -1,4 +1,5 @@
-// Recorded lookups, paths and walks: the front door is asked the same, and its whole answer compared. crates/replay/src/main.rt describes the records.
+// Recorded lookups, paths and walks: the front door is asked the same, and its whole answer compared.
+// crates/replay/src/main.rt describes the records.
 use replay_record::is;
 use replay_record::is_row;
 use replay_record::number_at;

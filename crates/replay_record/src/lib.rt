@@ -1,5 +1,5 @@
-// What a recorded answer holds: numbers, parts and rows of numbers at places of a record. The record is any bytes; what is not there reads as 0, or as nothing. crates/replay/src/main.rt describes the
-// records.
+// What a recorded answer holds: numbers, parts and rows of numbers at places of a record. The record is any bytes;
+// what is not there reads as 0, or as nothing. crates/replay/src/main.rt describes the records.
 ghost use mathlib.Core.Path.{_≡_};
 ghost use Prim.Native.Nat.{_<_, _≤_};
 ghost use lib.ListN.{length};

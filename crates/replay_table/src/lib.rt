@@ -1,4 +1,5 @@
-// Recorded tables: the front door writes the same list, and its whole answer and the bytes are compared. crates/replay/src/main.rt describes the records.
+// Recorded tables: the front door writes the same list, and its whole answer and the bytes are compared.
+// crates/replay/src/main.rt describes the records.
 use replay_record::fill;
 use replay_record::is;
 use replay_record::number_at;
@@ -9,7 +10,8 @@ use xdvdfs::Sector;
 ghost use Prim.Native.Nat.{_<_};
 ghost use lib.ListN.{length};
 
-// What the output holds at a place past the size: 0xff up to the next sector line, and what it held before, 0, after it.
+// What the output holds at a place past the size: 0xff up to the next sector line, and what it held before, 0,
+// after it.
 fn filling(size: usize, i: usize) -> u8
     requires { ⌜ size < 1000000 ⌝ }
 {

@@ -1,5 +1,6 @@
--- Which tables the strict check is meant to accept, in document 01's words: the walk ends, no entry is reached twice, entries are disjoint, inside the table
--- size and cross no sector line, and each left child's name is less than its parent's, each right child's greater. Assumes nothing.
+-- Which tables the strict check is meant to accept, in document 01's words: the walk ends, no entry is reached
+-- twice, entries are disjoint, inside the table size and cross no sector line, and each left child's name is less
+-- than its parent's, each right child's greater. Assumes nothing.
 use Prim.Native.Nat.{ℕ, _-_, _*_, _/_, _≤_, _<_}
 use mathlib.Core.Path.{_≡_}
 use mathlib.Core.Bool.{false}
@@ -32,8 +33,10 @@ module _ (w : List ℕ) (first : Sector) (t : Region) where
 
   -- the children's names, where the links are followed and lead to entries
   pub record InOrder (x : Placed) : Type 0 where
-    pub left : (y : Placed) → isIn (x .header .left .0) walkAbsent ≡ false → EntryAt (4 * x .header .left .0) y → nameOrder (nameIn y) (nameIn x) ≡ Less
-    pub right : (y : Placed) → isIn (x .header .right .0) walkAbsent ≡ false → EntryAt (4 * x .header .right .0) y → nameOrder (nameIn y) (nameIn x) ≡ Greater
+    pub left : (y : Placed) → isIn (x .header .left .0) walkAbsent ≡ false → EntryAt (4 * x .header .left .0) y
+        → nameOrder (nameIn y) (nameIn x) ≡ Less
+    pub right : (y : Placed) → isIn (x .header .right .0) walkAbsent ≡ false → EntryAt (4 * x .header .right .0) y
+        → nameOrder (nameIn y) (nameIn x) ≡ Greater
 
   -- THE RULE, of a table whose walk lists xs
   pub record Accepts (xs : List ℕ) : Type 0 where

@@ -21,9 +21,15 @@ use Rattle.strict.specs.Strict.{Visit, visitLeft, visitRight, push, apar
 abbrev pub boundOf : ℕ → Option ℕ
 boundOf k = pick (eqb k 65535) none (some (4 * k))
 
--- a place to visit as a number of the scratch: its link, 65536 times the link of `under`, and 65536 × 65536 times the link of `over`
+-- a place to visit as a number of the scratch: its link, 65536 times the link of `under`, and 65536 × 65536 times
+-- the link of `over`
 abbrev pub visitOf : ℕ → Visit
-visitOf c = record { offset = 4 * (c % 65536); under = boundOf (c / 65536 % 65536); over = boundOf (c / 4294967296 % 65536) }
+visitOf c = record {
+  offset = 4 * (c % 65536);
+  under = boundOf (c / 65536 % 65536);
+  over =
+      boundOf (c / 4294967296 % 65536);
+}
 
 -- the visits that the first places of the scratch hold, the last of them on top
 abbrev pub visitsOf : List ℕ → ℕ → List Visit
@@ -38,7 +44,8 @@ pub record Pushed (k rest : ℕ) (s : List ℕ) (top : ℕ) (after : List ℕ) (
 -- the two children of the entry v put on the stack, the left one on top
 pub record Entered (v : Visit) (h : Header) (s : List ℕ) (top : ℕ) (after : List ℕ) (height-after : ℕ) : Type 0 where
   pub stack : visitsOf after height-after
-      ≡ push (h .left .0) (visitLeft (h .left .0) v (v .offset)) (push (h .right .0) (visitRight (h .right .0) v (v .offset)) (visitsOf s top))
+      ≡ push (h .left .0) (visitLeft (h .left .0) v (v .offset))
+      (push (h .right .0) (visitRight (h .right .0) v (v .offset)) (visitsOf s top))
   pub height : height-after ≤ top + 2
   pub kept : length after ≡ length s
 

@@ -57,15 +57,16 @@ isLess Less = true
 isLess Equal = false
 isLess Greater = false
 
--- a place to visit: its offset, and the offsets of the entries, if any, than whose names its own must be less and greater
+-- a place to visit: its offset, and the offsets of the entries, if any, than whose names its own must be less and
+-- greater
 pub record Visit : Type 0 where
   pub offset : ℕ
   pub under : Option ℕ
   pub over : Option ℕ
 
--- THE ORDER RULE: a left child's name is less than its parent's, a right child's greater (`visitLeft` and `visitRight` say which bounds a child gets).
--- It does not give that a name in a left subtree is less than the subtree's parent: the root m, its left child c and c's right child z pass, and no lookup
--- finds z
+-- THE ORDER RULE: a left child's name is less than its parent's, a right child's greater (`visitLeft` and
+-- `visitRight` say which bounds a child gets). It does not give that a name in a left subtree is less than the
+-- subtree's parent: the root m, its left child c and c's right child z pass, and no lookup finds z
 abbrev pub lessThan : List ℕ → Option (List ℕ) → Bool
 lessThan name none = true
 lessThan name (some other) = isLess (nameOrder name other)
@@ -119,13 +120,16 @@ byRead (gives none) enter rest = rest
 byRead (refuses k vs) enter rest = refuses k vs
 
 -- down the stack to the next entry; `enter` says what an entry leads to
-unfoldable pub toEntry : (ℕ → Told (Option Placed)) → (Visit → Placed → List Visit → Told (List ℕ)) → List Visit → Told (List ℕ)
+unfoldable pub toEntry : (ℕ → Told (Option Placed)) → (Visit → Placed → List Visit → Told (List ℕ)) → List Visit
+    → Told (List ℕ)
 toEntry f enter [] = gives []
 toEntry f enter (v ∷ stack) = byRead (f (v .offset)) (λ x. enter v x stack) (toEntry f enter stack)
 
--- the check of a stack of visits, with `room` places left in the list, after those listed. `f o` is what is read at offset o
+-- the check of a stack of visits, with `room` places left in the list, after those listed. `f o` is what is read at
+-- offset o
 unfoldable pub strictFrom : List ℕ → (ℕ → Told (Option Placed)) → ℕ → ℕ → List ℕ → List Visit → Told (List ℕ)
-strictFrom w f size zero seen stack = toEntry f (λ v x rest. ifGood (verdictAt w f size seen true v x) (refuses 26 [])) stack
+strictFrom w f size zero seen stack =
+    toEntry f (λ v x rest. ifGood (verdictAt w f size seen true v x) (refuses 26 [])) stack
 strictFrom w f size (suc room) seen stack =
     toEntry f (λ v x rest.
     ifGood (verdictAt w f size seen false v x)
@@ -136,9 +140,11 @@ strictFrom w f size (suc room) seen stack =
 
 -- the strict check of a table from offset 0, into a list of `room` places: a table of size 0 lists nothing
 unfoldable pub strictOf : List ℕ → Sector → Region → ℕ → Told (List ℕ)
-strictOf w first t room = pick (eqb (t .size) 0) (gives []) (strictFrom w (readAt w first t) (t .size) room [] (root ∷ []))
+strictOf w first t room =
+    pick (eqb (t .size) 0) (gives []) (strictFrom w (readAt w first t) (t .size) room [] (root ∷ []))
 
--- THE ANSWER, THE LIST AND THE SCRATCH AFTERWARDS, as the walk has them: 6 where the scratch is not longer than the list, and then all is unchanged
+-- THE ANSWER, THE LIST AND THE SCRATCH AFTERWARDS, as the walk has them: 6 where the scratch is not longer than the
+-- list, and then all is unchanged
 unfoldable pub strictAnswer : List ℕ → Sector → Region → ℕ → ℕ → Told ℕ
 strictAnswer w first t n m = pick (leb m n) (refuses 6 []) (counted (strictOf w first t n))
 

@@ -1,5 +1,5 @@
-// The strict check: a walk that stops at the first fault. A map of units tells in one step whether an entry was listed before, and in a few whether it
-// stands on one that was.
+// The strict check: a walk that stops at the first fault. A map of units tells in one step whether an entry was
+// listed before, and in a few whether it stands on one that was.
 use layout_name::Order;
 use layout_node::Header;
 use read_entry::Read;
@@ -21,7 +21,9 @@ ghost use Rattle.units.specs.Lent.{was, is};
 ghost use Rattle.layout_name.specs.Order.{nameOrder};
 ghost use Rattle.read_entry.specs.Entry.{Placed, readAt};
 ghost use Rattle.strict_map.specs.Map.{Marked};
-ghost use Rattle.strict.specs.Strict.{endOf, nameBy, placed, isLess, lessThan, moreThan, nameAt, ordered, verdictAt, root, strictFrom, told, strictAnswer, listAfter, scratchAfter};
+ghost use Rattle.strict.specs.Strict.{endOf, nameBy, placed, isLess, lessThan, moreThan, nameAt, ordered};
+ghost use Rattle.strict.specs.Strict.{verdictAt, root, strictFrom, told, strictAnswer, listAfter};
+ghost use Rattle.strict.specs.Strict.{scratchAfter};
 ghost use Rattle.strict.specs.Run.{boundOf, visitOf, Pushed, Entered, Mapped, Judged, keptOf, Runs};
 
 // What the strict check answers.
@@ -107,7 +109,8 @@ fn is_ordered(w: &[u8], first: Sector, table: Region, c: u64, name: &[u8]) -> bo
 
 // An entry at a link is inside the table, over no sector line, and over no entry that is marked on the map.
 fn is_placed(table: Region, map: &[u8; 65604], l: Link, h: Header) -> bool
-    ensures { λ r. ⌜ ((f : ℕ → Told (Option Placed)) (seen : List ℕ) → Mapped f seen (was map) → r ≡ placed f (table .size) (4 * l .0) (endOf h (4 * l .0)) seen) ⌝ }
+    ensures { λ r. ⌜ ((f : ℕ → Told (Option Placed)) (seen : List ℕ) → Mapped f seen (was map) →
+        r ≡ placed f (table .size) (4 * l .0) (endOf h (4 * l .0)) seen) ⌝ }
 {
     let from = l.offset();
     let o = from.number();
@@ -144,7 +147,9 @@ fn judge(
     h: Header,
     at: usize,
 ) -> Verdict
-    ensures { λ r. ⌜ ((seen : List ℕ) → Mapped (readAt (was w) first table) seen (was map) → Judged r (verdictAt (was w) (readAt (was w) first table) (table .size) seen (eqb left 0) (visitOf c) (record { header = h; place = at }))) ⌝ }
+    ensures { λ r. ⌜ ((seen : List ℕ) → Mapped (readAt (was w) first table) seen (was map) →
+        Judged r (verdictAt (was w) (readAt (was w) first table) (table .size) seen (eqb left 0) (visitOf c)
+        (record { header = h; place = at }))) ⌝ }
 {
     let l = Link::new((c % 65536) as u16);
     let o = l.offset();
@@ -179,7 +184,8 @@ fn push_link(scratch: &mut [u64], top: usize, l: Link, rest: u64) -> usize
     top + 1
 }
 
-// The children of the entry at a visit on the stack, the left one on top: its name must be less than the entry's, the right one's greater.
+// The children of the entry at a visit on the stack, the left one on top: its name must be less than the entry's,
+// the right one's greater.
 fn push_links(scratch: &mut [u64], top: usize, c: u64, h: Header) -> usize
     requires { ⌜ (top + 1 < length (now scratch)) × (c % 65536 < 65535) ⌝ }
     ensures { λ r. ⌜ Entered (visitOf c) h (was scratch) top (is scratch) r ⌝ }
@@ -194,7 +200,8 @@ fn push_links(scratch: &mut [u64], top: usize, c: u64, h: Header) -> usize
 // The check itself. What it leaves in the list past its count, and in the scratch, is cleared by the caller.
 fn run(w: &[u8], first: Sector, table: Region, list: &mut [u32], scratch: &mut [u64]) -> Checked
     requires { ⌜ length (now list) < length (now scratch) ⌝ }
-    ensures { λ r. ⌜ Runs (strictFrom (was w) (readAt (was w) first table) (table .size) (length (was list)) [] (root ∷ [])) r (is list) ⌝ }
+    ensures { λ r. ⌜ Runs (strictFrom (was w) (readAt (was w) first table) (table .size) (length (was list)) []
+        (root ∷ [])) r (is list) ⌝ }
 {
     let mut map = [0u8; 65604];
     // The root: link 0, and 0xffff twice.
@@ -240,8 +247,9 @@ fn kept(r: Checked) -> usize
     }
 }
 
-// The strict check of a table: where it finds no fault, the offsets of its entries in walk order in the list, and zeros past them; else the first fault, and a
-// list of zeros. The scratch is all zero after it. Where the scratch is not longer than the list, all is unchanged. The table is read in its own part of the window.
+// The strict check of a table: where it finds no fault, the offsets of its entries in walk order in the list, and
+// zeros past them; else the first fault, and a list of zeros. The scratch is all zero after it. Where the scratch
+// is not longer than the list, all is unchanged. The table is read in its own part of the window.
 pub fn check_table(
     w: &[u8],
     first: Sector,

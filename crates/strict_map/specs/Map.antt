@@ -1,4 +1,5 @@
--- A map of units, as a list of marks: what the test of a run of units says, and what marking a run leaves. Assumes nothing.
+-- A map of units, as a list of marks: what the test of a run of units says, and what marking a run leaves. Assumes
+-- nothing.
 use Prim.Native.Nat.{ℕ, _-_, _%_, _≤_, _<_}
 use mathlib.Core.Path.{_≡_}
 use mathlib.Core.Bool.{Bool, true, false}
@@ -13,7 +14,8 @@ pub record Taken (m : List ℕ) (from to : ℕ) : Type 0 where
   pub inside : unit < to
   pub marked : getD m unit 0 ≡ 0 → ⊥
 
--- the test of the units from `from` to before `to`: where it says yes, every fourth from the first and the last one are free; where it says no, one is marked
+-- the test of the units from `from` to before `to`: where it says yes, every fourth from the first and the last one
+-- are free; where it says no, one is marked
 pub record Tested (m : List ℕ) (from to : ℕ) (r : Bool) : Type 0 where
   pub fourth : r ≡ true → (u : ℕ) → from ≤ u → u < to → (u - from) % 4 ≡ 0 → getD m u 0 ≡ 0
   pub last : r ≡ true → getD m (to - 1) 0 ≡ 0

@@ -1,5 +1,6 @@
-// A map of four-byte units, for the strict check: a mark for each unit, 1 where an entry starts, 2 on its other units, 0 where none stands.
-// A link reaches unit 65,535 and an entry has at most 68 units, so 65,604 units are enough.
+// A map of four-byte units, for the strict check: a mark for each unit, 1 where an entry starts, 2 on its other
+// units, 0 where none stands. A link reaches unit 65,535 and an entry has at most 68 units, so 65,604 units are
+// enough.
 ghost use mathlib.Core.Path.{_≡_};
 ghost use Prim.Native.Nat.{_≤_, _<_};
 ghost use lib.Dec.{eqb};

@@ -1,4 +1,5 @@
--- An entry of a table, and its bytes: the fourteen of the header, the name, then 0xff up to a multiple of 4. Assumes nothing.
+-- An entry of a table, and its bytes: the fourteen of the header, the name, then 0xff up to a multiple of 4.
+-- Assumes nothing.
 use Prim.Native.Nat.{ℕ, _+_, _-_}
 use mathlib.Core.List.{List, _++_}
 use lib.ListN.{length, replicate}
@@ -43,4 +44,5 @@ lengthOf e = entryLength (length (e .name))
 
 -- the bytes of an item
 unfoldable pub entryBytes : Item → List ℕ
-entryBytes x = headerBytes (headerFor x) ++ (x .entry .name ++ replicate (lengthOf (x .entry) - (14 + length (x .entry .name))) 255)
+entryBytes x = headerBytes (headerFor x)
+    ++ (x .entry .name ++ replicate (lengthOf (x .entry) - (14 + length (x .entry .name))) 255)

@@ -47,7 +47,8 @@ module _ (entry : ℕ → Entry) where
     freeOf s leaf = s
     freeOf s (node l i r) = freeOf (freeOf (freeAfter s i) l) r
 
-    -- a node as it is written, after what ends at e, with sectors from s on: its left tree comes after it, its right tree after that
+    -- a node as it is written, after what ends at e, with sectors from s on: its left tree comes after it, its
+    -- right tree after that
     abbrev pub itemOf : ℕ → ℕ → Tree → ℕ → Tree → Item
     itemOf e s l i r = record {
       entry = entry i;

@@ -1,4 +1,5 @@
--- What is said of the items of a table: they are inside, cross no sector line and do not overlap, nor do their sectors. Assumes nothing.
+-- What is said of the items of a table: they are inside, cross no sector line and do not overlap, nor do their
+-- sectors. Assumes nothing.
 use Prim.Native.Nat.{ℕ, _+_, _-_, _/_, _%_, _≤_}
 use mathlib.Core.Path.{_≡_}
 use mathlib.Core.List.{List, [], _∷_}
@@ -22,7 +23,8 @@ abbrev pub AllIn : (Item → Type 0) → List Item → Type 0
 AllIn P [] = Unit {0}
 AllIn P (x ∷ xs) = P x × AllIn P xs
 
--- an item stands from byte a on and ends by byte b, its first and last byte are in one sector, and its offset is a multiple of 4
+-- an item stands from byte a on and ends by byte b, its first and last byte are in one sector, and its offset is a
+-- multiple of 4
 pub record Stands (a b : ℕ) (x : Item) : Type 0 where
   pub from : a ≤ x .offset
   pub to : stop x ≤ b

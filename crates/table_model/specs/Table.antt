@@ -40,7 +40,8 @@ module _ (entry : ℕ → Entry) where
     unfoldable pub tableBytes : ℕ → Tree → List ℕ
     tableBytes s t = bytesFrom 0 (items entry align 0 s t) ++ replicate (rounded (sizeOf t) - endOf entry 0 t) 255
 
-    -- placing from a sector on: 7 where an offset over 4 exceeds 65,535, then 8 where the next free sector would exceed 4,294,967,295
+    -- placing from a sector on: 7 where an offset over 4 exceeds 65,535, then 8 where the next free sector would
+    -- exceed 4,294,967,295
     unfoldable pub placeOf : ℕ → Tree → Told Placing
     placeOf s t =
         pick (anyFar (items entry align 0 s t)) (refuses 7 [])

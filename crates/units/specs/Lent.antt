@@ -1,4 +1,5 @@
--- How a contract names what its function is lent: `was x` is the value of the parameter x at the call, `is x` its value at the return. Assumes nothing.
+-- How a contract names what its function is lent: `was x` is the value of the parameter x at the call, `is x` its
+-- value at the return. Assumes nothing.
 use Prim.Native.Nat.{ℕ}
 use mathlib.Core.List.{List}
 use denote.Ref.{RefT, now}

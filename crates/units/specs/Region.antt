@@ -1,4 +1,5 @@
--- Where an offset of a region stands on the image: it must be below the region's size (else refusal 23, with the offset). Assumes nothing.
+-- Where an offset of a region stands on the image: it must be below the region's size (else refusal 23, with the
+-- offset). Assumes nothing.
 use Prim.Native.Nat.{ℕ, _+_, _*_}
 use mathlib.Core.List.{[], _∷_}
 use lib.Dec.{leb}

@@ -1,5 +1,6 @@
-// The three kinds of count, each a tuple struct with a private field: code that takes one refuses to compile with another, and no other crate
-// can rewrap one as another. They are changed into each other only by the conversions below: times 2,048 and times 4.
+// The three kinds of count, each a tuple struct with a private field: code that takes one refuses to compile with
+// another, and no other crate can rewrap one as another. They are changed into each other only by the conversions
+// below: times 2,048 and times 4.
 ghost use mathlib.Core.Path.{_≡_};
 ghost use Prim.Native.Nat.{_*_, _/_, _≤_};
 ghost use Rattle.units.specs.Region.{told, locateOf};

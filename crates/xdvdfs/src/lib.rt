@@ -1,11 +1,13 @@
-// The front door: every public operation, each with its whole contract. No operation asks anything of its caller: all bytes and numbers are accepted, every
-// call ends and stays in bounds, and bad input gets one of document 01's numbers.
+// The front door: every public operation, each with its whole contract. No operation asks anything of its caller:
+// all bytes and numbers are accepted, every call ends and stays in bounds, and bad input gets one of document 01's
+// numbers.
 //
-// A contract `told r ≡ D` says that the answer r stands for what the definition D gives: `gives X`, or `refuses NUMBER VALUES`. The definitions are in the
-// specs/ of the crate that is named in each `ghost use`.
+// A contract `told r ≡ D` says that the answer r stands for what the definition D gives: `gives X`, or `refuses
+// NUMBER VALUES`. The definitions are in the specs/ of the crate that is named in each `ghost use`.
 //
-// `was x` is what the parameter x holds at the call, `is x` what it holds at the return. Where many columns are lent, a
-// contract names them as one value: `let m = memory ..`, of which `m .entry` is all of it at the call, `m .exit` at the return.
+// `was x` is what the parameter x holds at the call, `is x` what it holds at the return. Where many columns are
+// lent, a contract names them as one value: `let m = memory ..`, of which `m .entry` is all of it at the call, `m
+// .exit` at the return.
 pub use dirtab::Serialised;
 pub use dirtab_add::Added;
 pub use dirtab_arena::Held;
@@ -47,16 +49,19 @@ ghost use Rattle.read_path.specs.Path as following;
 ghost use Rattle.read_walk.specs.Walk as walking;
 ghost use Rattle.strict.specs.Strict as checking;
 
-// READING. A window is a slice of image bytes and the number of the sector that it starts with; a table is its region, first sector and size.
+// READING. A window is a slice of image bytes and the number of the sector that it starts with; a table is its
+// region, first sector and size.
 
-// Reads the volume descriptor that the bytes start with: where the root table stands. 20 where a mark differs or is cut.
+// Reads the volume descriptor that the bytes start with: where the root table stands. 20 where a mark differs or is
+// cut.
 pub fn read_descriptor(s: &[u8]) -> DescriptorRead
     ensures { λ r. ⌜ volume.readTold r ≡ volume.readOf (was s) ⌝ }
 {
     layout_volume::read_descriptor(s)
 }
 
-// Reads the entry at an offset of a table: its header and place in the window, or that there is none. 23, 24 with the offset.
+// Reads the entry at an offset of a table: its header and place in the window, or that there is none. 23, 24 with
+// the offset.
 pub fn read_entry(w: &[u8], first: Sector, table: Region, offset: Offset) -> Read
     ensures { λ r. ⌜ entry.told r ≡ entry.readAt (was w) first table (offset .0) ⌝ }
 {
@@ -77,7 +82,8 @@ pub fn look_up(w: &[u8], first: Sector, table: Region, name: &[u8]) -> Looked
     read_lookup::look_up(w, first, table, name)
 }
 
-// Follows a path from a table. 2, 28, then for each part what its lookup gives, and 27 where a part but the last is no directory.
+// Follows a path from a table. 2, 28, then for each part what its lookup gives, and 27 where a part but the last is
+// no directory.
 pub fn find_path(w: &[u8], first: Sector, table: Region, path: &[u8]) -> PathFound
     ensures { λ r. ⌜ following.told r ≡ following.pathOf (was w) first table (was path) ⌝ }
 {
@@ -94,7 +100,8 @@ pub fn walk(w: &[u8], first: Sector, table: Region, list: &mut [u32], scratch: &
     read_walk::walk(w, first, table, list, scratch)
 }
 
-// Checks that a table is of the form on which the readers agree, and lists it. 6, then the first fault in walk order: 23, 24, 30, 26, 32, 31.
+// Checks that a table is of the form on which the readers agree, and lists it. 6, then the first fault in walk
+// order: 23, 24, 30, 26, 32, 31.
 pub fn check_table(
     w: &[u8],
     first: Sector,
@@ -112,9 +119,10 @@ pub fn check_table(
 
 // WRITING
 //
-// Sectors are handed out by a counter: `SectorCounter::new()` stands at the first, 33 (`SectorCounter::FIRST`), `SectorCounter::starting_at` at a given one. `take` gives the first
-// of the sectors that a length takes (`required_sectors`) and the counter past the last of them, or 8 (`Taken`); `next_free` is where it stands. Their contracts are in
-// `layout_sector`.
+// Sectors are handed out by a counter: `SectorCounter::new()` stands at the first, 33 (`SectorCounter::FIRST`),
+// `SectorCounter::starting_at` at a given one. `take` gives the first of the sectors that a length takes
+// (`required_sectors`) and the counter past the last of them, or 8 (`Taken`); `next_free` is where it stands. Their
+// contracts are in `layout_sector`.
 
 // Writes a volume descriptor into the first 2,048 bytes of the output. 9 where it is shorter.
 pub fn write_descriptor(out: &mut [u8], d: Descriptor) -> DescriptorWritten
@@ -124,8 +132,9 @@ pub fn write_descriptor(out: &mut [u8], d: Descriptor) -> DescriptorWritten
     layout_volume::write_descriptor(out, d)
 }
 
-// Adds an entry to the table that an arena holds: columns by node, of which the first `tree.count` places are held, and bytes lent for names. The columns are the tree's
-// (left, right, parent, height) and the entries' (place and length of the name, size, kind: 1 is a directory). 12, then 1, 2, 3, 5, 4, 6; all unchanged on a refusal.
+// Adds an entry to the table that an arena holds: columns by node, of which the first `tree.count` places are held,
+// and bytes lent for names. The columns are the tree's (left, right, parent, height) and the entries' (place and
+// length of the name, size, kind: 1 is a directory). 12, then 1, 2, 3, 5, 4, 6; all unchanged on a refusal.
 pub fn add(
     tree: Held,
     left: &mut [u16],
@@ -160,8 +169,9 @@ pub fn add(
     )
 }
 
-// Writes the table that an arena holds, with sectors from `first` on: the reported size and the next free sector. `order` and `place` are scratch, zero afterwards.
-// 12, then 6, 7, 8, 9, all before any write; the output past the rounded size is unchanged.
+// Writes the table that an arena holds, with sectors from `first` on: the reported size and the next free sector.
+// `order` and `place` are scratch, zero afterwards. 12, then 6, 7, 8, 9, all before any write; the output past the
+// rounded size is unchanged.
 pub fn serialise(
     tree: Held,
     left: &[u16],
@@ -202,9 +212,11 @@ pub fn serialise(
     )
 }
 
-// Writes the table of the first `count` entries of a list in one call, with sectors from `first` on: the bytes and the numbers that adding each entry in turn and serialising
-// give. The list's columns are as those of an arena (place and length of the name, size, kind); the columns from `left` to `place` are scratch, zero afterwards.
-// 6 where any column is shorter than the count, and then all is unchanged; then for the first entry that adding refuses 1, 2, 3, 5, 4, 6 with its number; then 7, 8, 9.
+// Writes the table of the first `count` entries of a list in one call, with sectors from `first` on: the bytes and
+// the numbers that adding each entry in turn and serialising give. The list's columns are as those of an arena
+// (place and length of the name, size, kind); the columns from `left` to `place` are scratch, zero afterwards. 6
+// where any column is shorter than the count, and then all is unchanged; then for the first entry that adding
+// refuses 1, 2, 3, 5, 4, 6 with its number; then 7, 8, 9.
 pub fn write_list(
     count: u32,
     start: &[u32],
@@ -247,11 +259,15 @@ pub fn write_list(
     )
 }
 
-// Plans an image: the reported size and the sector of each directory's table, and the sector of each entry; the answer is the next free sector. A directory is a share of one list of entries (the place of
-// its first entry, how many), the root first. An entry has its name's place and length, its kind (1 is a directory), and its value: a file's length, or the place of its directory in the list of
-// directories, a later one than its own. The root table stands at sector 33. 6 where a column is too short: for the directories, for the entries, or the six of the tree for the largest share. Then 11; 6 where
-// `order` is shorter than all shares together; from the last directory back 10, 1, 2, 3, 5, 4, 6 with the entry's place in the list; forward 7 and 8 with the directory's number. After a refusal `sizes`,
-// `tables` and `sectors` are unchanged. The columns from `sized` on are scratch: all zero after the call, and unchanged after the first 6.
+// Plans an image: the reported size and the sector of each directory's table, and the sector of each entry; the
+// answer is the next free sector. A directory is a share of one list of entries (the place of its first entry, how
+// many), the root first. An entry has its name's place and length, its kind (1 is a directory), and its value: a
+// file's length, or the place of its directory in the list of directories, a later one than its own. The root table
+// stands at sector 33. 6 where a column is too short: for the directories, for the entries, or the six of the tree
+// for the largest share. Then 11; 6 where `order` is shorter than all shares together; from the last directory back
+// 10, 1, 2, 3, 5, 4, 6 with the entry's place in the list; forward 7 and 8 with the directory's number. After a
+// refusal `sizes`, `tables` and `sectors` are unchanged. The columns from `sized` on are scratch: all zero after
+// the call, and unchanged after the first 6.
 pub fn plan(
     directories: u32,
     entries: u32,
