@@ -13,7 +13,8 @@ use Rattle.units.specs.declared.Sector.{Sector}
 use Rattle.units.specs.declared.Region.{Region}
 use Rattle.layout_name.specs.declared.Order.{Order}
 use Rattle.layout_name.specs.declared.Order.the-variants.{Less, Equal, Greater}
-use Rattle.layout_name.specs.Order.{nameOrder, opposite}
+use Rattle.layout_name.specs.Order.{nameOrder}
+use Rattle.layout_name.specs.inner.Order.{opposite}
 use Rattle.layout_name.proofs.Laws.{name-opposite, name-trans, name-equal→}
 use Rattle.dirtab_entry.specs.declared.Kind.{Kind}
 use Rattle.dirtab_entry.specs.declared.Kind.the-variants.{File, Directory}
@@ -23,7 +24,7 @@ use Rattle.read_lookup.specs.Lookup.{anyHigh}
 use Rattle.avl_model.specs.Tree.{Tree, leaf, node, δ, cnt, ins}
 use Rattle.avl_model.specs.Laws.{Avl, All, Ordered, size}
 use Rattle.avl_model.specs.Names.{Names, nameAt, toName, isLess}
-use Rattle.avl_model.specs.Names as names
+use Rattle.avl_model.specs.inner.Names as names
 use Rattle.avl_model.specs.Order.{order}
 use Rattle.avl_model.proofs.Avl.{ins-avl, ins-ordered, all-ins, all-map, tally, size-tally}
 use Rattle.avl_model.proofs.Bal.{ins-cnt}

@@ -10,7 +10,8 @@ use borrow.Author.Tests.{ne-eqb}
 use Rattle.units.specs.Told.{Told, gives, refuses, pick}
 use Rattle.layout_name.specs.declared.Order.{Order}
 use Rattle.layout_name.specs.declared.Order.the-variants.{Less, Equal, Greater}
-use Rattle.layout_name.specs.Order.{nameOrder, opposite}
+use Rattle.layout_name.specs.Order.{nameOrder}
+use Rattle.layout_name.specs.inner.Order.{opposite}
 use Rattle.layout_name.proofs.Laws.{name-opposite, name-same-left, name-equal, name-equal→}
 use Rattle.read_entry.specs.Entry.{Placed}
 use Rattle.read_entry.specs.Links.{isIn}

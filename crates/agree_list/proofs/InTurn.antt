@@ -17,7 +17,7 @@ use Rattle.avl_model.specs.declared.Place.the-variants.{Root}
 use Rattle.avl_model.specs.declared.Spot.{Spot}
 use Rattle.avl_model.specs.declared.Spot.the-variants.{Same, Free}
 use Rattle.avl_model.specs.Columns.{written}
-use Rattle.avl_model.specs.Held.{arrOf}
+use Rattle.avl_model.specs.Rep.{arrOf}
 use Rattle.avl_model.specs.Laws.{All}
 use Rattle.avl_model.specs.Names.{toName, isLess}
 use Rattle.avl_model.specs.Seek.{spotIn}

@@ -8,7 +8,7 @@ use mathlib.Core.List.{List, []}
 use lib.ListN.{length}
 use borrow.Author.Tests.{le-leb}
 use Rattle.units.specs.Told.{Told, gives, refuses, pick}
-use Rattle.avl_model.specs.Held.{arrOf}
+use Rattle.avl_model.specs.Rep.{arrOf}
 use Rattle.avl_model.specs.Laws.{All}
 use Rattle.avl_model.specs.Tree.{Tree, none}
 use Rattle.avl_model.proofs.Avl.{all-map}

@@ -11,7 +11,7 @@ use Rattle.units.specs.declared.Region.{Region}
 use Rattle.dirtab_entry.specs.declared.Kind.the-variants.{File, Directory}
 use Rattle.dirtab_entry.specs.Entry.{rounded, storedSize}
 use Rattle.read_entry.specs.Links.{lookupAbsent}
-use Rattle.strict.specs.Strict.{strictOf}
+use Rattle.strict_rule.specs.Strict.{strictOf}
 use Rattle.table_model.specs.Entry.{Entry, Item, attributes}
 use Rattle.img_model.specs.Shares.{Request, shareOf, directoriesOf, countOf, isDirectory, valueOf}
 use Rattle.img_model.specs.Plan.{tableIn, entriesAt, Plan}

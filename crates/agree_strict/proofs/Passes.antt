@@ -21,10 +21,10 @@ use Rattle.read_entry.specs.Entry.{Placed, readAt, nameOf}
 use Rattle.read_entry.specs.Links.{isIn, walkAbsent}
 use Rattle.read_walk.specs.Walk.{before}
 use Rattle.read_walk.proofs.Steps.{before-none, before-before}
-use Rattle.strict.specs.Strict as strict
-use Rattle.strict.specs.Strict.{endBy, nameBy, inSector, clear, apart, placed, isLess, Visit, ordered, verdictAt, push, toEntry, strictFrom, strictOf}
-use Rattle.strict.specs.Accepts.{Accepts}
-use Rattle.strict.proofs.Accepted.{accepted}
+use Rattle.strict_rule.specs.Strict as strict
+use Rattle.strict_rule.specs.Strict.{endBy, nameBy, inSector, clear, apart, placed, isLess, Visit, ordered, verdictAt, push, toEntry, strictFrom, strictOf}
+use Rattle.strict_rule.specs.Accepts.{Accepts}
+use Rattle.strict_rule.proofs.Accepted.{accepted}
 use Rattle.avl_model.specs.Tree.{Tree, leaf, node}
 use Rattle.avl_model.specs.Laws.{All, Ordered, size}
 use Rattle.avl_model.proofs.Avl as avl

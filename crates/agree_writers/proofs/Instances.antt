@@ -19,7 +19,7 @@ use Rattle.table_model.specs.Table.{anyFar, Placing, placeOf}
 use Rattle.dirtab_arena.specs.Arena.{Arena, arena, columns, isTaken, isArena}
 use Rattle.dirtab.specs.Serialise as serialise
 use Rattle.dirtab.specs.Serialise.{serialiseOf}
-use Rattle.dirtab_list.specs.Grow.{growFrom}
+use Rattle.dirtab_grow.specs.Grow.{growFrom}
 use Rattle.dirtab_list.specs.Whole as whole
 use Rattle.dirtab_list.specs.Whole.{Listing, listing, givenIn, wholeOf}
 use Rattle.agree.specs.Agreement.{Same}

@@ -21,7 +21,7 @@ use Rattle.avl_arena.specs.Test.{every, holdsTree, decoded}
 use Rattle.avl_arena.specs.HeldTree.{HeldTree}
 use Rattle.avl_arena.proofs.Tested.{and-l, and-r, every-at}
 use Rattle.avl_arena.proofs.Sound.{sound}
-use Rattle.avl_model.specs.Held.{arrOf}
+use Rattle.avl_model.specs.Rep.{arrOf}
 use Rattle.table_model.specs.Entry.{Entry, Item}
 use Rattle.table_model.specs.Place.{items}
 use Rattle.table_model.specs.Table.{Placing, sizeOf, tableBytes, placeOf}
@@ -30,7 +30,7 @@ use Rattle.table_model.proofs.Geometry.{items-entries}
 use Rattle.table_model.proofs.Placing.{size-given}
 use Rattle.dirtab_arena.specs.Arena.{Arena, listsOf, namesOf, givenAt, entryAt, isGiven, isTaken, isArena, treeOf}
 use Rattle.dirtab.specs.Serialise.{scratchFits, ifFits, serialiseOf, ifWritten, outAfter}
-use Rattle.strict.specs.Strict.{strictOf}
+use Rattle.strict_rule.specs.Strict.{strictOf}
 use Rattle.agree.specs.Written.{Before, Written}
 use Rattle.agree.specs.Agreement.{offsets, Agreement}
 use Rattle.agree.specs.Given.{EachOnce}

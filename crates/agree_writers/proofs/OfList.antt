@@ -34,9 +34,9 @@ use Rattle.table_model.specs.Place.{items}
 use Rattle.table_model.specs.Table.{Placing, sizeOf, tableBytes, placeOf}
 use Rattle.table_model.specs.Said.{Fits}
 use Rattle.table_model.proofs.Placing.{size-given}
-use Rattle.dirtab_list.specs.Grow.{ifTaken, ifFree, growFrom, orderIn, grow}
+use Rattle.dirtab_grow.specs.Grow.{ifTaken, ifFree, growFrom, orderIn, grow}
 use Rattle.dirtab_list.specs.Whole.{Listing, givenIn, entryIn, hasPlaces, ifFits, ifGrown, wholeOf, tableFor, ifWritten, outAfter}
-use Rattle.strict.specs.Strict.{strictOf}
+use Rattle.strict_rule.specs.Strict.{strictOf}
 use Rattle.agree.specs.Written.{Before, Stand, Written}
 use Rattle.agree.specs.Agreement as agreement
 use Rattle.agree.specs.Agreement.{offsets, Agreement}

@@ -13,9 +13,10 @@ use Rattle.avl_model.specs.Lists.{Lists}
 use Rattle.avl_model.specs.Names.{Names, byName, isLess}
 use Rattle.avl_model.specs.Tree.{Tree, leaf, node, none, top, ht}
 use Rattle.avl_model.specs.Rep.{Cell, Rep}
-use Rattle.avl_model.specs.Held.{arrOf}
+use Rattle.avl_model.specs.Rep.{arrOf}
 use Rattle.avl_model.specs.Laws.{Avl, All, Ordered, size}
-use Rattle.avl_model.specs.Seek.{Links, treeAt}
+use Rattle.avl_model.specs.Seek.{treeAt}
+use Rattle.avl_model.specs.inner.Seek.{Links}
 use Rattle.avl_model.proofs.Avl.{all-map}
 use Rattle.avl_model.proofs.Seeking.{treeAt-is}
 use Rattle.avl_model.proofs.Counted.{low-22}

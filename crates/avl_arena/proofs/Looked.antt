@@ -14,7 +14,7 @@ use Rattle.avl_model.specs.Laws.{size}
 use Rattle.avl_model.specs.Seek.{treeAt}
 use Rattle.avl_arena.specs.declared.Seen.{Seen}
 use Rattle.avl_arena.specs.Test.{between, cellOk, okTree, wholeTree}
-use Rattle.avl_arena.specs.Seeing.{Judged}
+use Rattle.avl_arena.specs.inner.Seeing.{Judged}
 
 -- ---- the tree that the links hold, case by case
 

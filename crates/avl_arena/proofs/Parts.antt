@@ -10,7 +10,7 @@ use borrow.Author.Tests.{leb-true}
 use Rattle.avl_model.specs.Lists.{Lists, lists}
 use Rattle.avl_model.specs.Names.{Names, names}
 use Rattle.avl_arena.specs.Test.{places, every, inside, wholeTree, holdsTree}
-use Rattle.avl_arena.specs.Seeing.{Lent}
+use Rattle.avl_arena.specs.inner.Seeing.{Lent}
 use Rattle.avl_arena.specs.HeldTree.{Places}
 use Rattle.avl_arena.proofs.Tested.{and-l, and-r, and-first, and-second, each-inside}
 

@@ -10,9 +10,10 @@ use Rattle.avl_model.specs.Lists.{Lists}
 use Rattle.avl_model.specs.Names.{Names}
 use Rattle.avl_model.specs.Tree.{Tree, leaf, node, none, cnt}
 use Rattle.avl_model.specs.Rep.{Rep}
-use Rattle.avl_model.specs.Held.{arrOf, Arena}
+use Rattle.avl_model.specs.Rep.{arrOf}
+use Rattle.avl_model.specs.inner.Held.{Arena}
 use Rattle.avl_model.specs.Laws.{All}
-use Rattle.avl_model.specs.Order.{Listed}
+use Rattle.avl_model.specs.inner.Order.{Listed}
 use Rattle.avl_model.proofs.Counted.{all-below, rep-below}
 use Rattle.avl_arena.specs.Test.{partOf, decoded, holdsTree}
 use Rattle.avl_arena.specs.HeldTree.{Places, HeldTree}

@@ -7,7 +7,7 @@ use Rattle.avl_model.specs.Lists.{Lists}
 use Rattle.avl_model.specs.Names.{Names, byName}
 use Rattle.avl_model.specs.Tree.{Tree, none, top, cnt}
 use Rattle.avl_model.specs.Rep.{Rep}
-use Rattle.avl_model.specs.Held.{arrOf}
+use Rattle.avl_model.specs.Rep.{arrOf}
 use Rattle.avl_model.specs.Laws.{Avl, Ordered, size}
 
 -- the order of two nodes by their names

@@ -1,4 +1,4 @@
 -- What the arena test computes, and what an arena is that passes it.
 pub mod Test
-pub mod Seeing
 pub mod HeldTree
+pub mod inner

@@ -9,7 +9,7 @@ ghost use Rattle.avl_model.specs.Lists.{lists};
 ghost use Rattle.avl_model.specs.Names.{names, nameAt, byName, isLess};
 ghost use Rattle.avl_model.specs.Seek.{treeAt};
 ghost use Rattle.avl_arena.specs.Test.{places, every, inside, between, cellOk, okTree, wholeTree, holdsTree};
-ghost use Rattle.avl_arena.specs.Seeing.{Named, Lent, Judged};
+ghost use Rattle.avl_arena.specs.inner.Seeing.{Named, Lent, Judged};
 use layout_name::Order;
 use layout_name::compare;
 

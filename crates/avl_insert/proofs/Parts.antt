@@ -3,7 +3,8 @@ use Prim.Native.Nat.{ℕ, _+_, _-_, _≤_}
 use native.Mathlib.Omega.{arith}
 use mathlib.Core.Path.{_≡_, ap, _∙_}
 use lib.ListN.{length, getD, take, drop}
-use Rattle.avl_model.specs.Names.{Names, nameAt, Inside}
+use Rattle.avl_model.specs.Names.{Names, nameAt}
+use Rattle.avl_model.specs.inner.Names.{Inside}
 
 module _ (N : Names) (at : ℕ) {i from n : ℕ} where
   pub end-inside : Inside N at → i ≡ at → from ≡ getD (N .start) i 0 → n ≡ getD (N .len) i 0 → from + n ≤ length (N .bytes)

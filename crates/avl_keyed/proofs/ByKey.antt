@@ -10,9 +10,10 @@ use lib.ListN.{length, getD, replicate, List·getD-map}
 use Rattle.units.specs.Told.{pick}
 use Rattle.layout_name.specs.declared.Order.{Order}
 use Rattle.layout_name.specs.declared.Order.the-variants.{Less, Greater}
-use Rattle.layout_name.specs.Order.{raised, numberOrder, andThen, listOrder, orderBy, nameOrder, raisedCopy, opposite}
+use Rattle.layout_name.specs.Order.{raised, numberOrder, andThen, listOrder, orderBy, nameOrder}
+use Rattle.layout_name.specs.inner.Order.{raisedCopy, opposite}
 use Rattle.layout_name.proofs.Laws.{Three, less, equal, greater, three, number-less, number-equal, name-opposite}
-use Rattle.avl_keyed.specs.Key.{keyOf, keyFor}
+use Rattle.avl_keyed.specs.inner.Key.{keyOf, keyFor}
 
 -- each is a byte
 abbrev pub Bytes : List ℕ → Type 0

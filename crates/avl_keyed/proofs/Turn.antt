@@ -17,7 +17,7 @@ use Rattle.avl_model.specs.declared.Spot.{Spot}
 use Rattle.avl_model.specs.Tree.{none}
 use Rattle.avl_model.specs.Names.{Names, nameAt, toName}
 use Rattle.avl_model.proofs.Seeking.{Seeking, depth, go-left, go-right, less-left, less-right}
-use Rattle.avl_keyed.specs.Key.{keyFor, placeFrom}
+use Rattle.avl_keyed.specs.inner.Key.{keyFor, placeFrom}
 use Rattle.avl_keyed.proofs.ByKey.{Bytes, key-less, key-greater}
 
 -- no test is true and false

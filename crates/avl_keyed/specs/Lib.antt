@@ -1,2 +1,2 @@
 -- The key of a name, and what a search by keys takes.
-pub mod Key
+pub mod inner

@@ -15,12 +15,16 @@ use Rattle.avl_model.specs.declared.Place.{Place}
 use Rattle.avl_model.specs.declared.Place.the-variants.{Root, Left, Right}
 use Rattle.avl_model.specs.declared.Spot.{Spot}
 use Rattle.avl_model.specs.declared.Spot.the-variants.{Same, Free}
-use Rattle.avl_model.specs.Lists.{Lists, putLeft, putRight, aboveOf, attached}
+use Rattle.avl_model.specs.Lists.{Lists}
+use Rattle.avl_model.specs.inner.Lists.{putLeft, putRight, aboveOf, attached}
 use Rattle.avl_model.specs.Tree.{Tree, leaf, node, none, ht, δ, cnt, bal, ins, insBy}
-use Rattle.avl_model.specs.Rep.{Arr, Rep, Ctx, hole, inL, inR, over, cntK, climb, Link, RepK, At}
-use Rattle.avl_model.specs.Held.{Long, arrOf, Held, Ready, Whole, peak, Even, Arena}
-use Rattle.avl_model.specs.Insert.{Filled, Out, OutBy}
-use Rattle.avl_model.specs.Seek.{spotIn, spotBy, path, pathBy, placeIn, Links, Linked, Sought}
+use Rattle.avl_model.specs.Rep.{Arr, Rep}
+use Rattle.avl_model.specs.inner.Rep.{Ctx, hole, inL, inR, over, cntK, climb, Link, RepK, At}
+use Rattle.avl_model.specs.Rep.{arrOf}
+use Rattle.avl_model.specs.inner.Held.{Long, Held, Ready, Whole, peak, Even, Arena}
+use Rattle.avl_model.specs.inner.Insert.{Filled, Out, OutBy}
+use Rattle.avl_model.specs.Seek.{spotIn, spotBy}
+use Rattle.avl_model.specs.inner.Seek.{path, pathBy, placeIn, Links, Linked, Sought}
 use Rattle.avl_model.proofs.Frame.{δ-same, δ-apart, Agree, apart, frame, frame-link, frameK}
 use Rattle.avl_model.proofs.Stores.{put-left-length, put-right-length}
 use Rattle.avl_model.proofs.Avl.{at-most-22}

@@ -6,7 +6,8 @@ use Rattle.avl_model.specs.declared.Place.the-variants.{Root}
 use Rattle.avl_model.specs.declared.Spot.the-variants.{Same}
 use Rattle.avl_model.specs.Tree.{bal}
 use Rattle.avl_model.specs.Order.{order}
-use Rattle.avl_model.specs.Names.{Names, names, nameAt, toName, grown}
+use Rattle.avl_model.specs.Names.{Names, names, nameAt, toName}
+use Rattle.avl_model.specs.inner.Names.{grown}
 use Rattle.avl_model.specs.Seek.{spotIn}
 
 -- `a` is 97, `b` 98, `c` 99

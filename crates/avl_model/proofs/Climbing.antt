@@ -9,8 +9,10 @@ use lib.Dec.{ltb}
 use borrow.Author.Tests.{lt-ltb, le-ltb}
 use Rattle.avl_model.specs.Lists.{Lists}
 use Rattle.avl_model.specs.Tree.{Tree, leaf, node, none, top, ht, δ, cnt, bal}
-use Rattle.avl_model.specs.Rep.{Arr, Rep, Ctx, hole, inL, inR, over, plug, cntK, climb, RepK, At}
-use Rattle.avl_model.specs.Held.{Long, arrOf, Held, Ready, Up, Whole, peak, Even}
+use Rattle.avl_model.specs.Rep.{Arr, Rep}
+use Rattle.avl_model.specs.inner.Rep.{Ctx, hole, inL, inR, over, plug, cntK, climb, RepK, At}
+use Rattle.avl_model.specs.Rep.{arrOf}
+use Rattle.avl_model.specs.inner.Held.{Long, Held, Ready, Up, Whole, peak, Even}
 use Rattle.avl_model.proofs.Bal.{bal-cnt, bal-ht}
 use Rattle.avl_model.proofs.Peak.{peak-ge}
 use Rattle.avl_model.proofs.Weigh.{top-in}

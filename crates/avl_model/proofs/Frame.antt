@@ -4,7 +4,8 @@ use native.Mathlib.Omega.{arith}
 use mathlib.Core.Path.{_≡_, refl, ap, subst, _∙_}
 use borrow.Author.Tests.{eq-eqb, ne-eqb}
 use Rattle.avl_model.specs.Tree.{Tree, leaf, node, top, ht, one, δ, cnt}
-use Rattle.avl_model.specs.Rep.{Arr, Rep, Ctx, hole, inL, inR, cntK, Link, Step, RepK}
+use Rattle.avl_model.specs.Rep.{Arr, Rep}
+use Rattle.avl_model.specs.inner.Rep.{Ctx, hole, inL, inR, cntK, Link, Step, RepK}
 
 pub δ-same : (i : ℕ) → δ i i ≡ 1
 unfolding δ

@@ -8,9 +8,10 @@ use lib.Seq.{getD-set-same, getD-set-other}
 use borrow.Author.Tests.{lt-ltb, le-ltb, eq-eqb, ne-eqb}
 use Rattle.avl_model.specs.declared.Place.{Place}
 use Rattle.avl_model.specs.declared.Place.the-variants.{Root, Left, Right}
-use Rattle.avl_model.specs.Lists.{placeOf, putRoot, putLeft, putRight}
+use Rattle.avl_model.specs.inner.Lists.{placeOf, putRoot, putLeft, putRight}
 use Rattle.avl_model.specs.Tree.{Tree, leaf, node, none, top, ht, δ, cnt}
-use Rattle.avl_model.specs.Rep.{Arr, arr, Ctx, hole, inL, inR, cntK, At}
+use Rattle.avl_model.specs.Rep.{Arr, arr}
+use Rattle.avl_model.specs.inner.Rep.{Ctx, hole, inL, inR, cntK, At}
 use Rattle.avl_model.proofs.Frame.{δ-same, Agree, apart, frame, frame-link, frameK}
 
 -- a tree's root is no node that does not stand in it

@@ -5,7 +5,8 @@ use Prim.Native.Nat.{ℕ}
 use mathlib.Core.Path.{_≡_}
 use mathlib.Core.List.{List}
 use lib.ListN.{getD, set}
-use Rattle.avl_model.specs.Lists.{Lists, lists, placeOf, putRoot, putLeft, putRight, risen3, lRotated, rlRotated, aboveOf, attached}
+use Rattle.avl_model.specs.Lists.{Lists, lists}
+use Rattle.avl_model.specs.inner.Lists.{placeOf, putRoot, putLeft, putRight, risen3, lRotated, rlRotated, aboveOf, attached}
 use Rattle.avl_model.specs.declared.Place.{Place}
 
 pub l-joined : (S : Lists) (a b c : ℕ) {t1 i : ℕ} {l1 r1 p1 r2 p2 l3 p3 h4 : List ℕ}

@@ -9,10 +9,13 @@ use lib.Seq.{getD-set-other}
 use lib.Dec.{ltb}
 use borrow.Author.Tests.{lt-ltb, le-ltb, ltb-true, ltb-false}
 use Rattle.avl_model.specs.declared.Direction.the-variants.{Left as ToLeft, Leaf, Right as ToRight}
-use Rattle.avl_model.specs.Lists.{Lists, lists, risen, tiltOf, tiltBy}
+use Rattle.avl_model.specs.Lists.{Lists, lists}
+use Rattle.avl_model.specs.inner.Lists.{risen, tiltOf, tiltBy}
 use Rattle.avl_model.specs.Tree.{Tree, leaf, node, none, top, ht, δ, cnt, turnLeft, turnRight, bal}
-use Rattle.avl_model.specs.Rep.{Arr, arr, Rep, Ctx, cntK, At}
-use Rattle.avl_model.specs.Held.{Long, arrOf, Heavy, Ready, Up}
+use Rattle.avl_model.specs.Rep.{Arr, arr, Rep}
+use Rattle.avl_model.specs.inner.Rep.{Ctx, cntK, At}
+use Rattle.avl_model.specs.Rep.{arrOf}
+use Rattle.avl_model.specs.inner.Held.{Long, Heavy, Ready, Up}
 use Rattle.avl_model.proofs.Frame.{δ-same, Agree, apart, frame, frame-link, frameK}
 use Rattle.avl_model.proofs.Hung.{top-apart}
 use Rattle.avl_model.proofs.Low.{low-risen}

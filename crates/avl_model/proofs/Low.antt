@@ -6,7 +6,7 @@ use mathlib.Core.Path.{sym, subst}
 use mathlib.Core.List.{List}
 use lib.ListN.{length, getD, set}
 use lib.Seq.{getD-set-same, getD-set-other, set-out}
-use Rattle.avl_model.specs.Lists.{risen}
+use Rattle.avl_model.specs.inner.Lists.{risen}
 
 -- what is read after a store is what was stored, or what was there
 pub get-set : (P : ℕ → Type 0) (xs : List ℕ) (i v j : ℕ) → P v → P (getD xs j 0) → P (getD (set xs i v) j 0)

@@ -3,7 +3,8 @@ use Prim.Native.Nat.{ℕ, suc, max}
 use native.Mathlib.Omega.{arith}
 use mathlib.Core.Path.{_≡_, refl, sym, _∙_}
 use Rattle.avl_model.specs.Tree.{Tree, leaf, node, top, ht, cnt}
-use Rattle.avl_model.specs.Rep.{Arr, Rep, Ctx, hole, inL, inR, over, cntK, Link, Step, RepK, At}
+use Rattle.avl_model.specs.Rep.{Arr, Rep}
+use Rattle.avl_model.specs.inner.Rep.{Ctx, hole, inL, inR, over, cntK, Link, Step, RepK, At}
 use Rattle.avl_model.proofs.Rotate.{Single, single, Double, double}
 
 abbrev pub flip : Arr → Arr

@@ -7,8 +7,10 @@ use lib.ListN.{length, getD, List·getD-eq-default}
 use borrow.Author.Tests.{ne-eqb}
 use Rattle.avl_model.specs.Lists.{Lists}
 use Rattle.avl_model.specs.Tree.{Tree, leaf, node, ht, one, δ, cnt}
-use Rattle.avl_model.specs.Rep.{Arr, Rep, Ctx, hole, inL, inR, cntK, Step, RepK}
-use Rattle.avl_model.specs.Held.{arrOf, Ready, peak}
+use Rattle.avl_model.specs.Rep.{Arr, Rep}
+use Rattle.avl_model.specs.inner.Rep.{Ctx, hole, inL, inR, cntK, Step, RepK}
+use Rattle.avl_model.specs.Rep.{arrOf}
+use Rattle.avl_model.specs.inner.Held.{Ready, peak}
 
 pub δ-is : (i j : ℕ) → 1 ≤ δ i j → i ≡ j
 unfolding δ

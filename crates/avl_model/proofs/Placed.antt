@@ -2,7 +2,7 @@
 use Prim.Native.Nat.{ℕ}
 use mathlib.Core.Path.{_≡_}
 use mathlib.Core.List.{List}
-use Rattle.avl_model.specs.Lists.{putRoot, putLeft, putRight}
+use Rattle.avl_model.specs.inner.Lists.{putRoot, putLeft, putRight}
 use Rattle.avl_model.specs.declared.Place.{Place}
 
 pub at-place : {p q : Place} (to t : ℕ) (l r : List ℕ) → q ≡ p

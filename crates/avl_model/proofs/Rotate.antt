@@ -3,7 +3,8 @@ use Prim.Native.Nat.{ℕ, suc, _+_, _≤_, max}
 use native.Mathlib.Omega.{arith}
 use mathlib.Core.Path.{_≡_, _∙_}
 use Rattle.avl_model.specs.Tree.{Tree, node, top, ht, δ, cnt}
-use Rattle.avl_model.specs.Rep.{Arr, Ctx, cntK, At}
+use Rattle.avl_model.specs.Rep.{Arr}
+use Rattle.avl_model.specs.inner.Rep.{Ctx, cntK, At}
 use Rattle.avl_model.proofs.Frame.{δ-same, Agree, Moved, apart, frame, frame-link, frameK, move}
 
 -- What l_rotate changes: a's right child b comes above a, and b's left subtree y goes to a.

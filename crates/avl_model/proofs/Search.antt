@@ -6,7 +6,8 @@ use mathlib.Core.Bool.{true, false}
 use mathlib.Core.List.{List}
 use Rattle.layout_name.specs.declared.Order.{Order}
 use Rattle.layout_name.specs.declared.Order.the-variants.{Less, Equal, Greater}
-use Rattle.layout_name.specs.Order.{nameOrder, opposite}
+use Rattle.layout_name.specs.Order.{nameOrder}
+use Rattle.layout_name.specs.inner.Order.{opposite}
 use Rattle.layout_name.proofs.Laws.{name-opposite, name-trans}
 use Rattle.avl_model.specs.declared.Place.{Place}
 use Rattle.avl_model.specs.declared.Place.the-variants.{Left, Right}
@@ -14,7 +15,8 @@ use Rattle.avl_model.specs.declared.Spot.{Spot}
 use Rattle.avl_model.specs.declared.Spot.the-variants.{Same, Free}
 use Rattle.avl_model.specs.Tree.{Tree, leaf, node, δ, cnt, ins}
 use Rattle.avl_model.specs.Laws.{All, Ordered}
-use Rattle.avl_model.specs.Names.{Names, nameAt, toName, isLess, Before}
+use Rattle.avl_model.specs.Names.{Names, nameAt, toName, isLess}
+use Rattle.avl_model.specs.inner.Names.{Before}
 use Rattle.avl_model.specs.Seek.{spotIn, spotBy}
 use Rattle.avl_model.proofs.Frame.{δ-same}
 use Rattle.avl_model.proofs.Avl.{all-map, ins-ordered, two}

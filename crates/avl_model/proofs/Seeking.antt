@@ -15,7 +15,8 @@ use Rattle.avl_model.specs.Tree.{Tree, leaf, node, none, top, ht}
 use Rattle.layout_name.specs.Order.{nameOrder}
 use Rattle.avl_model.specs.Laws.{All}
 use Rattle.avl_model.specs.Names.{Names, nameAt, toName}
-use Rattle.avl_model.specs.Seek.{spotIn, Links, treeAt}
+use Rattle.avl_model.specs.Seek.{spotIn, treeAt}
+use Rattle.avl_model.specs.inner.Seek.{Links}
 
 pub treeAt-is : (L R : List ℕ) (t : Tree) (f : ℕ) → length L ≤ none → Links L R (length L) t → ht t ≤ f → treeAt f L R (top t) ≡ t
 unfolding treeAt

@@ -6,10 +6,13 @@ use mathlib.Core.Bool.{Bool, true, false}
 use lib.ListN.{getD, length-set}
 use lib.Dec.{ltb}
 use borrow.Author.Tests.{lt-ltb, le-ltb}
-use Rattle.avl_model.specs.Lists.{Lists, lRotated, rlRotated}
+use Rattle.avl_model.specs.Lists.{Lists}
+use Rattle.avl_model.specs.inner.Lists.{lRotated, rlRotated}
 use Rattle.avl_model.specs.Tree.{Tree, leaf, node, none, top, ht, turnLeft, turnLeftBy, turnRight, turnRightBy}
-use Rattle.avl_model.specs.Rep.{Arr, Ctx, over, At}
-use Rattle.avl_model.specs.Held.{Long, arrOf, Held, Up}
+use Rattle.avl_model.specs.Rep.{Arr}
+use Rattle.avl_model.specs.inner.Rep.{Ctx, over, At}
+use Rattle.avl_model.specs.Rep.{arrOf}
+use Rattle.avl_model.specs.inner.Held.{Long, Held, Up}
 use Rattle.avl_model.proofs.Stores.{Turned, l-turns, rl-turns, put-left-length, put-right-length}
 use Rattle.avl_model.proofs.Mirror.{flip, mir, mirK, mir-mir, mirK-mirK, ht-mir, top-mir, over-mir, cnt-mir, cntK-mir, rep-mir, link-mir, repK-mir}
 

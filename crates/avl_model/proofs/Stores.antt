@@ -5,12 +5,15 @@ use mathlib.Core.Path.{_≡_, refl, sym, ap, subst, _∙_}
 use mathlib.Core.List.{List}
 use lib.ListN.{length, getD, set, length-set, List·getD-eq-default}
 use lib.Seq.{getD-set-same, getD-set-other, set-out, set-getD}
-use Rattle.avl_model.specs.Lists.{risen, risen3, Lists, placeOf, putRoot, putLeft, putRight, lRotated, rlRotated}
+use Rattle.avl_model.specs.Lists.{Lists}
+use Rattle.avl_model.specs.inner.Lists.{risen, risen3, placeOf, putRoot, putLeft, putRight, lRotated, rlRotated}
 use Rattle.avl_model.specs.declared.Place.{Place}
 use Rattle.avl_model.specs.declared.Place.the-variants.{Root, Left, Right}
 use Rattle.avl_model.specs.Tree.{Tree, leaf, node, none, top, ht, δ, cnt}
-use Rattle.avl_model.specs.Rep.{Arr, arr, Rep, Ctx, cntK, At}
-use Rattle.avl_model.specs.Held.{Long, arrOf}
+use Rattle.avl_model.specs.Rep.{Arr, arr, Rep}
+use Rattle.avl_model.specs.inner.Rep.{Ctx, cntK, At}
+use Rattle.avl_model.specs.Rep.{arrOf}
+use Rattle.avl_model.specs.inner.Held.{Long}
 use Rattle.avl_model.proofs.Frame.{δ-same, apart}
 use Rattle.avl_model.proofs.Rotate.{Single, single, Double, double}
 use Rattle.avl_model.proofs.Hung.{top-apart, hung}

@@ -3,10 +3,12 @@ use Prim.Native.Nat.{ℕ, _≤_, _<_}
 use native.Mathlib.Omega.{arith}
 use mathlib.Core.Path.{_≡_, refl, sym, ap, subst, _∙_}
 use lib.ListN.{length, getD}
-use Rattle.avl_model.specs.Lists.{Lists, Three, lRotated, rlRotated}
+use Rattle.avl_model.specs.Lists.{Lists}
+use Rattle.avl_model.specs.inner.Lists.{Three, lRotated, rlRotated}
 use Rattle.avl_model.specs.Tree.{Tree, leaf, node, top, ht, turnLeft}
 use Rattle.avl_model.specs.Rep.{Arr, Rep}
-use Rattle.avl_model.specs.Held.{arrOf, Heavy, Up}
+use Rattle.avl_model.specs.Rep.{arrOf}
+use Rattle.avl_model.specs.inner.Held.{Heavy, Up}
 use Rattle.avl_model.proofs.Stores.{height-read}
 use Rattle.avl_model.proofs.Sides.{by-double, by-single}
 

@@ -8,7 +8,7 @@ use lib.Seq.{getD-set-same, getD-set-other, set-append-left, length-take-le}
 use Rattle.avl_model.specs.Lists.{Lists, lists}
 use Rattle.avl_model.specs.Tree.{Tree, leaf, node, none, top, ht, δ, cnt}
 use Rattle.avl_model.specs.Rep.{Rep}
-use Rattle.avl_model.specs.Held.{arrOf}
+use Rattle.avl_model.specs.Rep.{arrOf}
 use Rattle.avl_model.specs.Laws.{All}
 use Rattle.avl_model.specs.Columns.{write, written}
 use Rattle.avl_model.proofs.Frame.{δ-same, Agree, apart, frame}

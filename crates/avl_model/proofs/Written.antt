@@ -14,11 +14,13 @@ use Rattle.avl_model.specs.declared.Spot.the-variants.{Same, Free}
 use Rattle.avl_model.specs.declared.Place.the-variants.{Root}
 use Rattle.avl_model.specs.Tree.{Tree, leaf, node, none, top, ht, δ, cnt, ins}
 use Rattle.avl_model.specs.Rep.{Arr, Cell, Rep}
-use Rattle.avl_model.specs.Held.{Long, arrOf, Whole, Arena}
-use Rattle.avl_model.specs.Insert.{Out, OutBy}
+use Rattle.avl_model.specs.Rep.{arrOf}
+use Rattle.avl_model.specs.inner.Held.{Long, Whole, Arena}
+use Rattle.avl_model.specs.inner.Insert.{Out, OutBy}
 use Rattle.avl_model.specs.Names.{isLess}
 use Rattle.avl_model.specs.Seek.{spotIn}
-use Rattle.avl_model.specs.Columns.{write, written, answered, listsBy, after}
+use Rattle.avl_model.specs.Columns.{write, written}
+use Rattle.avl_model.specs.inner.Columns.{answered, listsBy, after}
 use Rattle.avl_model.proofs.Frame.{δ-same, δ-apart}
 use Rattle.avl_model.proofs.Bal.{ins-cnt}
 

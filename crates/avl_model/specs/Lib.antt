@@ -4,9 +4,8 @@ pub mod Laws
 pub mod Names
 pub mod Rep
 pub mod Lists
-pub mod Held
 pub mod Seek
-pub mod Insert
 pub mod Columns
 pub mod Rust
 pub mod Order
+pub mod inner

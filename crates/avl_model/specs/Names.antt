@@ -1,13 +1,11 @@
 -- The names of nodes: each by its place in lent bytes, and how two of them stand. Assumes nothing.
-use Prim.Native.Nat.{ℕ, zero, suc, _+_, _≤_, _<_}
-use mathlib.Core.Path.{_≡_}
+use Prim.Native.Nat.{ℕ}
 use mathlib.Core.Bool.{Bool, true, false}
 use mathlib.Core.List.{List}
-use lib.ListN.{length, getD, take, drop}
+use lib.ListN.{getD, take, drop}
 use Rattle.layout_name.specs.declared.Order.{Order}
 use Rattle.layout_name.specs.declared.Order.the-variants.{Less, Equal, Greater}
 use Rattle.layout_name.specs.Order.{nameOrder}
-use Rattle.avl_model.specs.Tree.{Tree, leaf, ins}
 
 -- lent bytes, and for each node where its name starts in them and how long it is
 pub record Names : Type 0 where
@@ -23,12 +21,6 @@ names b s n = record { bytes = b; start = s; len = n }
 abbrev pub nameAt : Names → ℕ → List ℕ
 nameAt N i = take (getD (N .len) i 0) (drop (getD (N .start) i 0) (N .bytes))
 
--- the name of a node stands inside the bytes, and its number inside both columns
-pub record Inside (N : Names) (i : ℕ) : Type 0 where
-  pub starts : i < length (N .start)
-  pub ends : i < length (N .len)
-  pub fits : getD (N .start) i 0 + getD (N .len) i 0 ≤ length (N .bytes)
-
 -- the order of a name to that of a node
 unfoldable pub toName : Names → List ℕ → ℕ → Order
 toName N a i = nameOrder a (nameAt N i)
@@ -42,12 +34,3 @@ abbrev pub isLess : Order → Bool
 isLess Less = true
 isLess Equal = false
 isLess Greater = false
-
--- the name of node i is before that of node j
-abbrev pub Before : Names → ℕ → ℕ → Type 0
-Before N i j = byName N i j ≡ Less
-
--- the tree of the first n nodes, put in one after the other; no two of their names are equal
-abbrev pub grown : Names → ℕ → Tree
-grown N zero = leaf
-grown N (suc n) = ins (λ i. isLess (byName N n i)) n (grown N n)

@@ -1,24 +1,9 @@
 -- The numbers of a tree in preorder, and what listing them takes.
-use Prim.Native.Nat.{ℕ, _≤_}
-use mathlib.Core.Path.{_≡_}
+use Prim.Native.Nat.{ℕ}
 use mathlib.Core.List.{List, [], _∷_, _++_}
-use lib.ListN.{length}
-use Rattle.avl_model.specs.Tree.{Tree, leaf, node, none, top, ht}
-use Rattle.avl_model.specs.Laws.{size}
-use Rattle.avl_model.specs.Seek.{Links}
+use Rattle.avl_model.specs.Tree.{Tree, leaf, node}
 
 -- a node's number, then those left of it, then those right of it
 abbrev pub order : Tree → List ℕ
 order leaf = []
 order (node l i r) = i ∷ (order l ++ order r)
-
--- the links hold the tree t below the root, no higher than balanced trees of 65,535 nodes are, and a list of so
--- many places has one for each node
-pub record Listed (L R : List ℕ) (root places : ℕ) : Type 0 where
-  pub t : Tree
-  pub n-is : length R ≡ length L
-  pub small : length L ≤ none
-  pub links : Links L R (length L) t
-  pub root-is : root ≡ top t
-  pub low : ht t ≤ 22
-  pub room : size t ≤ places

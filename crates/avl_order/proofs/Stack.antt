@@ -9,10 +9,11 @@ use lib.Seq.{getD-set-same, getD-set-other, drop-cons, set-at}
 use borrow.Author.Tests.{eq-eqb, ne-eqb}
 use Rattle.avl_model.specs.Tree.{Tree, leaf, node, none, top, ht}
 use Rattle.avl_model.specs.Laws.{size}
-use Rattle.avl_model.specs.Seek.{Links}
-use Rattle.avl_model.specs.Order.{order, Listed}
+use Rattle.avl_model.specs.inner.Seek.{Links}
+use Rattle.avl_model.specs.Order.{order}
+use Rattle.avl_model.specs.inner.Order.{Listed}
 use Rattle.avl_model.proofs.Order.{order-length}
-use Rattle.avl_order.specs.Held.{heldIf, heldBy}
+use Rattle.avl_order.specs.inner.Held.{heldIf, heldBy}
 
 pub held-none : (x : ℕ) → x ≡ none → heldBy x ≡ 0
 unfolding heldBy

@@ -5,8 +5,9 @@ ghost use mathlib.Core.List.{_++_};
 ghost use lib.ListN.{length, drop};
 ghost use Rattle.units.specs.Lent.{was, is};
 ghost use Rattle.avl_model.specs.Laws.{size};
-ghost use Rattle.avl_model.specs.Order.{order, Listed};
-ghost use Rattle.avl_order.specs.Held.{heldBy};
+ghost use Rattle.avl_model.specs.Order.{order};
+ghost use Rattle.avl_model.specs.inner.Order.{Listed};
+ghost use Rattle.avl_order.specs.inner.Held.{heldBy};
 
 // The number that stands for no node.
 const NONE: u16 = 65535;

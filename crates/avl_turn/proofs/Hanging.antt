@@ -5,7 +5,7 @@ use mathlib.Core.List.{List}
 use lib.ListN.{length, getD}
 use borrow.Author.Tests.{lt-ltb, le-ltb, eq-eqb, ne-eqb}
 use Rattle.avl_model.specs.declared.Place.the-variants.{Root, Left, Right}
-use Rattle.avl_model.specs.Lists.{placeOf}
+use Rattle.avl_model.specs.inner.Lists.{placeOf}
 
 module _ (l p : List ℕ) {i at j : ℕ} (is : i ≡ at) (js : j ≡ getD p i 0) where
   up : getD p at 0 ≡ j

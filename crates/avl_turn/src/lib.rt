@@ -6,9 +6,10 @@ ghost use Prim.Native.Nat.{ℕ, _<_, max};
 ghost use lib.ListN.{length, getD, set};
 ghost use Rattle.units.specs.Lent.{was, is};
 ghost use Rattle.avl_model.specs.Tree.{node, turnLeft, bal};
-ghost use Rattle.avl_model.specs.Held.{Heavy, Ready, Up};
-ghost use Rattle.avl_model.specs.Lists.{risen, tiltOf, placeOf, putRoot, putLeft, putRight, lists, lentLists};
-ghost use Rattle.avl_model.specs.Lists.{lRotated, rlRotated, risen3, Three};
+ghost use Rattle.avl_model.specs.inner.Held.{Heavy, Ready, Up};
+ghost use Rattle.avl_model.specs.Lists.{lists};
+ghost use Rattle.avl_model.specs.inner.Lists.{risen, tiltOf, placeOf, putRoot, putLeft, putRight, lentLists};
+ghost use Rattle.avl_model.specs.inner.Lists.{lRotated, rlRotated, risen3, Three};
 use avl_model::Direction;
 use avl_model::Place;
 

@@ -45,7 +45,7 @@ ghost use Rattle.read_entry.specs.Entry as entry;
 ghost use Rattle.read_lookup.specs.Lookup as lookup;
 ghost use Rattle.read_path.specs.Path as following;
 ghost use Rattle.read_walk.specs.Walk as walking;
-ghost use Rattle.strict.specs.Strict as checking;
+ghost use Rattle.strict_rule.specs.Strict as checking;
 ghost use Rattle.capi_cells.specs.Cells.{ofGiven, ofSome, isSome, ofRefusal, atOffset, atFault, afterHeaders};
 ghost use Rattle.capi_cells.specs.Cells.{ofEntry, ofPlanned, ofDirectory};
 ghost use Rattle.capi_cells.specs.Parts.{placedFields, placedAt, foundFields, foundPlace, foundOffset};
@@ -457,7 +457,7 @@ pub extern "C" fn xdvdfs_write_list(
 pub extern "C" fn xdvdfs_plan(
     directories: u32,
     entries: u32,
-    first: &[u32],
+    from: &[u32],
     share: &[u32],
     start: &[u32],
     len: &[u32],
@@ -480,7 +480,7 @@ pub extern "C" fn xdvdfs_plan(
     directory: &mut u32,
 ) -> u32
     ensures { λ n.
-        let a = image.asking directories entries first share start len kind value names in
+        let a = image.asking directories entries from share start len kind value names in
         let m = image.memory sizes tables sectors sized left right parent height key size order in
         let answer = image.answerIn a (m .entry) in
         ⌜ n ≡ numberOf answer ⌝
@@ -492,7 +492,7 @@ pub extern "C" fn xdvdfs_plan(
     let r = xdvdfs::plan(
         directories,
         entries,
-        first,
+        from,
         share,
         start,
         len,

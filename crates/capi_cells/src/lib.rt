@@ -27,7 +27,7 @@ ghost use Rattle.read_entry.specs.Entry as entry;
 ghost use Rattle.read_lookup.specs.Lookup as lookup;
 ghost use Rattle.read_path.specs.Path as following;
 ghost use Rattle.read_walk.specs.Walk as walking;
-ghost use Rattle.strict.specs.Strict as checking;
+ghost use Rattle.strict_rule.specs.Strict as checking;
 ghost use Rattle.capi_cells.specs.Cells.{ofGiven, ofSome, isSome, ofRefusal, atOffset, atFault, afterHeaders};
 ghost use Rattle.capi_cells.specs.Cells.{ofEntry, ofPlanned, ofDirectory};
 ghost use Rattle.capi_cells.specs.Parts.{fieldsOf, placedFields, placedAt, foundFields, foundPlace};

@@ -14,8 +14,8 @@ use Rattle.avl_model.specs.Lists.{Lists}
 use Rattle.avl_model.specs.Names.{Names}
 use Rattle.avl_model.specs.Tree.{Tree, leaf, node, none, cnt}
 use Rattle.avl_model.specs.Rep.{Rep}
-use Rattle.avl_model.specs.Held.{arrOf}
-use Rattle.avl_model.specs.Seek.{Links}
+use Rattle.avl_model.specs.Rep.{arrOf}
+use Rattle.avl_model.specs.inner.Seek.{Links}
 use Rattle.avl_model.proofs.Counted.{all-below, rep-below}
 use Rattle.avl_arena.specs.Test.{every, holdsTree}
 use Rattle.avl_arena.specs.HeldTree.{Places, HeldTree}
@@ -23,7 +23,7 @@ use Rattle.avl_arena.proofs.Tested.{and-l, and-r, every-at}
 use Rattle.avl_arena.proofs.Sound.{sound}
 use Rattle.avl_arena.proofs.Complete.{held-low}
 use Rattle.dirtab_arena.specs.Arena.{Arena, Columns, listsOf, namesOf, givenAt, isGiven, isTaken, isArena, treeOf}
-use Rattle.dirtab.specs.Steps.{Rooted}
+use Rattle.dirtab.specs.inner.Steps.{Rooted}
 
 -- an entry that adding takes passed each test
 taken-tests : (a b d e f : Bool)

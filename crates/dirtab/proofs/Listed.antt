@@ -16,17 +16,17 @@ use Rattle.avl_model.specs.Order.{order}
 use Rattle.table_model.specs.Entry.{Entry, lengthOf}
 use Rattle.table_model.specs.Place.{startOf, stopOf, endOf, freeOf, items}
 use Rattle.table_model.specs.Table.{anyFar, Placing, sizeOf, tableBytes, placeOf}
-use Rattle.table_model.specs.Writing.{writtenOver}
+use Rattle.table_model.specs.inner.Writing.{writtenOver}
 use Rattle.table_model.proofs.Places.{FitsAt, end-after}
 use Rattle.dirtab_place.specs.declared.Ends.{Ends}
 use Rattle.dirtab_place.specs.declared.Ends.the-variants as ends
 use Rattle.dirtab_place.specs.declared.Counted.{Counted}
 use Rattle.dirtab_place.specs.declared.Counted.the-variants as counted
-use Rattle.dirtab_place.specs.Places.{endsOver, placesOver, freeOver, Placeable, Countable, toldEnd, toldFree}
-use Rattle.dirtab_write.specs.Columns.{Cols, cols, itemsBy, Spaces}
+use Rattle.dirtab_place.specs.inner.Places.{endsOver, placesOver, freeOver, Placeable, Countable, toldEnd, toldFree}
+use Rattle.dirtab_write.specs.inner.Columns.{Cols, cols, itemsBy, Spaces}
 use Rattle.dirtab_write.proofs.Bridge as bridge
 use Rattle.dirtab.specs.Serialise.{ifFits, ifWritten}
-use Rattle.dirtab.specs.Steps.{entriesIn, sizeFrom, writingOf, writingOut, Listing}
+use Rattle.dirtab.specs.inner.Steps.{entriesIn, sizeFrom, writingOf, writingOut, Listing}
 
 pub empty-size : (e : ℕ) → e ≡ 0 → 2048 ≡ sizeFrom e
 unfolding sizeFrom

@@ -7,11 +7,12 @@ use lib.ListN.{length, getD, take, drop}
 use lib.Seq.{getD-take, length-take-le, take-at}
 use Rattle.avl_model.specs.Tree.{Tree, leaf, node, none, top, ht}
 use Rattle.avl_model.specs.Laws as laws
-use Rattle.avl_model.specs.Order.{order, Listed}
-use Rattle.avl_model.specs.Seek.{Links}
+use Rattle.avl_model.specs.Order.{order}
+use Rattle.avl_model.specs.inner.Order.{Listed}
+use Rattle.avl_model.specs.inner.Seek.{Links}
 use Rattle.avl_model.proofs.Order.{order-length}
-use Rattle.dirtab_write.specs.Holds.{Holds}
-use Rattle.dirtab.specs.Steps.{Listing, Rooted}
+use Rattle.dirtab_write.specs.inner.Holds.{Holds}
+use Rattle.dirtab.specs.inner.Steps.{Listing, Rooted}
 
 links-part : (L R : List ℕ) (n m : ℕ) (t : Tree) → m ≡ n → Links L R n t → Links (take n L) (take n R) m t
 links-part L R n m leaf e g = tt

@@ -13,7 +13,7 @@ use Rattle.avl_arena.proofs.Tested.{and-l, and-r}
 use Rattle.dirtab_arena.specs.Arena.{Arena, entryAt, isArena, treeOf}
 use Rattle.dirtab.specs.declared.Serialised.{Serialised}
 use Rattle.dirtab.specs.Serialise.{scratchFits, ifFits, ifWritten, serialiseOf, outAfter, scratchAfter, lent, told}
-use Rattle.dirtab.specs.Steps.{writingOf, writingOut}
+use Rattle.dirtab.specs.inner.Steps.{writingOf, writingOut}
 
 -- all that was lent, from each part
 pub join : {a b c x y z : List ℕ} → a ≡ x → b ≡ y → c ≡ z → lent a b c ≡ lent x y z

@@ -1,3 +1,3 @@
 -- What writing a table answers, and the bytes that it leaves.
 pub mod Serialise
-pub mod Steps
+pub mod inner

@@ -21,8 +21,8 @@ ghost use Rattle.dirtab_entry.specs.Entry.{rounded};
 ghost use Rattle.avl_model.specs.Tree.{Tree};
 ghost use Rattle.dirtab_arena.specs.Arena.{arenaIn};
 ghost use Rattle.dirtab.specs.Serialise.{told, memory, answerIn, lentAfter};
-ghost use Rattle.dirtab.specs.Steps.{lentEntries, sizeFrom, writingOf, writingOut, Listing, Listed, Rooted};
-ghost use Rattle.dirtab.specs.Steps.{RootedIn};
+ghost use Rattle.dirtab.specs.inner.Steps.{lentEntries, sizeFrom, writingOf, writingOut, Listing, Listed, Rooted};
+ghost use Rattle.dirtab.specs.inner.Steps.{RootedIn};
 
 // What serialising answers.
 pub enum Serialised {

@@ -18,7 +18,7 @@ use Rattle.avl_model.specs.declared.Place.the-variants.{Root}
 use Rattle.avl_model.specs.Names.{nameAt, toName, isLess}
 use Rattle.avl_model.specs.Tree.{Tree, none, top, δ, cnt}
 use Rattle.avl_model.specs.Rep.{Rep}
-use Rattle.avl_model.specs.Held.{arrOf}
+use Rattle.avl_model.specs.Rep.{arrOf}
 use Rattle.avl_model.specs.Laws.{All, Ordered, size}
 use Rattle.avl_model.specs.Columns.{written}
 use Rattle.avl_model.proofs.Frame.{δ-same, δ-apart}
@@ -35,7 +35,7 @@ use Rattle.avl_arena.proofs.Complete.{complete, decoded-is}
 use Rattle.table_model.specs.Entry.{Entry}
 use Rattle.dirtab_arena.specs.Arena.{Arena, arena, listsOf, namesOf, givenAt, entryAt, isGiven, isTaken, isArena, treeOf}
 use Rattle.dirtab_add.specs.Add.{Grown, orderTo, grownTree, addOf, kindNumber, columnsWith, ifGiven, columnsAfter}
-use Rattle.dirtab_add.specs.Judging.{Taking}
+use Rattle.dirtab_add.specs.inner.Judging.{Taking}
 use Rattle.dirtab_add.proofs.Room.{Roomy}
 use Rattle.dirtab_arena.proofs.Fine.{Fine, fine-taken}
 use Rattle.dirtab_arena.proofs.Passed.{held, entries-passed}

@@ -18,7 +18,7 @@ use Rattle.avl_model.specs.declared.Spot.the-variants.{Same, Free}
 use Rattle.avl_model.specs.Names.{toName}
 use Rattle.avl_model.specs.Seek.{spotIn, treeAt}
 use Rattle.avl_model.specs.Tree.{top}
-use Rattle.avl_model.specs.Held.{arrOf}
+use Rattle.avl_model.specs.Rep.{arrOf}
 use Rattle.avl_model.specs.Columns.{written}
 use Rattle.avl_model.proofs.Search.{same-found}
 use Rattle.avl_model.proofs.Counted.{all-at, rep-below}
@@ -26,7 +26,7 @@ use Rattle.avl_arena.specs.Test.{places, inside, between, cellOk, decoded, whol
 use Rattle.table_model.specs.Entry.{Entry}
 use Rattle.dirtab_arena.specs.Arena.{columns, Arena, arena, listsOf, isTaken, isArena, treeOf}
 use Rattle.dirtab_add.specs.Add.{Grown, orderTo, grownTree, hasRoom, addOf, columnsWith, columnsAfter}
-use Rattle.dirtab_add.specs.Judging.{Checked}
+use Rattle.dirtab_add.specs.inner.Judging.{Checked}
 use Rattle.dirtab_arena.proofs.Passed.{held}
 use Rattle.dirtab_add.proofs.Ways.{no-room, refused, answers}
 use Rattle.dirtab_add.proofs.Given.{duplicate}

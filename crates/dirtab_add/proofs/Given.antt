@@ -16,7 +16,7 @@ use Rattle.avl_model.specs.Seek.{spotIn}
 use Rattle.avl_model.proofs.Search.{equal-found}
 use Rattle.dirtab_arena.specs.Arena.{Arena, namesOf, isArena, treeOf}
 use Rattle.dirtab_add.specs.Add.{Grown, orderTo, hasRoom, ifTaken, ifFree, addOf, columnsAfter}
-use Rattle.dirtab_add.specs.Judging.{Checked, Taking}
+use Rattle.dirtab_add.specs.inner.Judging.{Checked, Taking}
 use Rattle.dirtab_arena.proofs.Passed.{held}
 use Rattle.dirtab_add.proofs.Ways.{same-name, refused}
 

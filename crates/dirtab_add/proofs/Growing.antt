@@ -14,11 +14,13 @@ use Rattle.avl_model.specs.declared.Spot.the-variants.{Free}
 use Rattle.avl_model.specs.Lists.{Lists, lists}
 use Rattle.avl_model.specs.Names.{Names, isLess}
 use Rattle.avl_model.specs.Tree.{Tree, none, top, ht, ins}
-use Rattle.avl_model.specs.Held.{arrOf, Whole}
+use Rattle.avl_model.specs.Rep.{arrOf}
+use Rattle.avl_model.specs.inner.Held.{Whole}
 use Rattle.avl_model.specs.Laws.{All}
-use Rattle.avl_model.specs.Insert.{OutBy, Placed}
+use Rattle.avl_model.specs.inner.Insert.{OutBy, Placed}
 use Rattle.avl_model.specs.Seek.{spotIn}
-use Rattle.avl_model.specs.Columns.{written, listsBy, after}
+use Rattle.avl_model.specs.Columns.{written}
+use Rattle.avl_model.specs.inner.Columns.{listsBy, after}
 use Rattle.avl_model.proofs.Counted.{rep-below}
 use Rattle.avl_model.proofs.Written.{out-after}
 use Rattle.avl_model.proofs.Writing.{write-part, Wide}

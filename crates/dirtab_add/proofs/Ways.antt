@@ -16,9 +16,10 @@ use Rattle.avl_model.specs.declared.Spot.{Spot}
 use Rattle.avl_model.specs.declared.Spot.the-variants.{Same, Free}
 use Rattle.avl_model.specs.Lists.{Lists}
 use Rattle.avl_model.specs.Names.{Names, toName, isLess}
-use Rattle.avl_model.specs.Seek.{spotIn, Sought}
+use Rattle.avl_model.specs.Seek.{spotIn}
+use Rattle.avl_model.specs.inner.Seek.{Sought}
 use Rattle.avl_model.specs.Tree.{top, ins}
-use Rattle.avl_model.specs.Insert.{Placed}
+use Rattle.avl_model.specs.inner.Insert.{Placed}
 use Rattle.avl_model.specs.Columns.{written}
 use Rattle.avl_arena.specs.Test.{partOf}
 use Rattle.avl_arena.specs.HeldTree.{Places}
@@ -28,7 +29,7 @@ use Rattle.dirtab_add.specs.declared.Added.the-variants as added
 use Rattle.dirtab_add.specs.Add.{Grown, orderTo, grownTree, hasRoom, ifTaken, ifFree, addOf, kindNumber, columnsWith, ifGiven, columnsAfter, told}
 use Rattle.dirtab_add.specs.declared.Verdict.{Verdict}
 use Rattle.dirtab_add.specs.declared.Verdict.the-variants.{Refuse, Take}
-use Rattle.dirtab_add.specs.Judging.{Checked, Taking, Refusing, Judged}
+use Rattle.dirtab_add.specs.inner.Judging.{Checked, Taking, Refusing, Judged}
 use Rattle.dirtab_add.proofs.Room.{Roomy, room-of}
 use Rattle.dirtab_arena.proofs.Fine.{Fine, fine-of}
 use Rattle.dirtab_arena.proofs.Passed.{tree-passed}

@@ -1,3 +1,3 @@
 -- What adding answers, and what it leaves in the columns.
 pub mod Add
-pub mod Judging
+pub mod inner

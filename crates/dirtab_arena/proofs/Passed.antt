@@ -13,10 +13,11 @@ use Rattle.dirtab_entry.specs.declared.Entry as given
 use Rattle.dirtab_entry.specs.Entry.{checkOf}
 use Rattle.avl_model.specs.declared.Place.the-variants.{Root}
 use Rattle.avl_model.specs.declared.Spot.{Spot}
-use Rattle.avl_model.specs.Names.{Inside}
+use Rattle.avl_model.specs.inner.Names.{Inside}
 use Rattle.avl_model.specs.Tree.{none}
-use Rattle.avl_model.specs.Seek.{spotIn, Sought}
-use Rattle.avl_model.specs.Held.{arrOf}
+use Rattle.avl_model.specs.Seek.{spotIn}
+use Rattle.avl_model.specs.inner.Seek.{Sought}
+use Rattle.avl_model.specs.Rep.{arrOf}
 use Rattle.avl_model.proofs.Avl.{all-map}
 use Rattle.avl_model.proofs.Counted.{rep-below}
 use Rattle.avl_arena.specs.Test.{every, holdsTree}

@@ -19,14 +19,14 @@ use Rattle.avl_model.specs.declared.Spot.the-variants.{Same, Free}
 use Rattle.avl_model.specs.Tree.{Tree, leaf}
 use Rattle.avl_model.specs.Names.{Names, nameAt, toName, byName}
 use Rattle.avl_model.specs.Seek.{spotIn}
-use Rattle.layout_name.specs.Order.{raisedCopy}
-use Rattle.avl_keyed.specs.Key.{keyOf, keyFor}
+use Rattle.layout_name.specs.inner.Order.{raisedCopy}
+use Rattle.avl_keyed.specs.inner.Key.{keyOf, keyFor}
 use Rattle.dirtab_grow.specs.declared.Step.{Step}
 use Rattle.dirtab_grow.specs.declared.Step.the-variants as step
 use Rattle.dirtab_grow.specs.declared.Cause.{Cause}
 use Rattle.dirtab_grow.specs.Listing.{Listing, givenIn}
 use Rattle.dirtab_grow.specs.Grow.{ifTaken, ifFree}
-use Rattle.dirtab_grow.specs.Growing.{numberOf, goOn, stepOf}
+use Rattle.dirtab_grow.specs.inner.Growing.{numberOf, goOn, stepOf}
 
 -- the entry i as the code makes it of its columns; `at` is i, as it is read as an index
 module _ (L : Listing) {at i : ℕ} {k : Kind} (is : at ≡ i) (kind-is : k ≡ kindFor (getD (L .kind) at 0)) where

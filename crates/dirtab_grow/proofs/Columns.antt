@@ -10,16 +10,19 @@ use lib.Seq.{getD-set-same, getD-set-other}
 use Rattle.avl_model.specs.Tree.{Tree, leaf, node, none, ht, δ, ins}
 use Rattle.avl_model.specs.Laws.{All}
 use Rattle.avl_model.specs.Lists.{Lists}
-use Rattle.avl_model.specs.Names.{Names, nameAt, Inside}
-use Rattle.avl_model.specs.Rep.{Arr, Rep, hole}
-use Rattle.avl_model.specs.Held.{Long, arrOf, Held, Arena, Whole}
-use Rattle.avl_keyed.specs.Key.{Keyed, KeySought, keyFor}
+use Rattle.avl_model.specs.Names.{Names, nameAt}
+use Rattle.avl_model.specs.inner.Names.{Inside}
+use Rattle.avl_model.specs.Rep.{Arr, Rep}
+use Rattle.avl_model.specs.inner.Rep.{hole}
+use Rattle.avl_model.specs.Rep.{arrOf}
+use Rattle.avl_model.specs.inner.Held.{Long, Held, Arena, Whole}
+use Rattle.avl_keyed.specs.inner.Key.{Keyed, KeySought, keyFor}
 use Rattle.avl_model.proofs.Adding.{links-of, below}
 use Rattle.avl_model.proofs.Avl.{at-most-22, ins-avl, all-ins}
 use Rattle.avl_model.proofs.Bal.{ins-cnt}
 use Rattle.avl_model.proofs.Counted.{all-below}
 use Rattle.avl_model.proofs.Frame.{δ-same}
-use Rattle.dirtab_grow.specs.Growing.{Grown, Growing}
+use Rattle.dirtab_grow.specs.inner.Growing.{Grown, Growing}
 
 -- a key that is stored at a number that the tree does not have leaves the others
 key-kept : (K : List ℕ) (N : Names) (new k : ℕ) (t : Tree) → All (λ j. j < new) t → All (Keyed K N) t → All (Keyed (set K new k) N) t

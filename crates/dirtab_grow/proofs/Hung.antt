@@ -11,16 +11,17 @@ use Rattle.avl_model.specs.declared.Spot.{Spot}
 use Rattle.avl_model.specs.Tree.{Tree, ins}
 use Rattle.avl_model.specs.Laws.{All}
 use Rattle.avl_model.specs.Lists.{Lists}
-use Rattle.avl_model.specs.Names.{Names, byName, isLess, Inside}
-use Rattle.avl_model.specs.Held.{Long, Whole}
+use Rattle.avl_model.specs.Names.{Names, byName, isLess}
+use Rattle.avl_model.specs.inner.Names.{Inside}
+use Rattle.avl_model.specs.inner.Held.{Long, Whole}
 use Rattle.avl_model.specs.Seek.{spotIn}
-use Rattle.avl_keyed.specs.Key.{Keyed, KeySought}
-use Rattle.avl_model.specs.Insert.{Placed}
+use Rattle.avl_keyed.specs.inner.Key.{Keyed, KeySought}
+use Rattle.avl_model.specs.inner.Insert.{Placed}
 use Rattle.dirtab_grow.specs.declared.Cause.{Cause}
 use Rattle.dirtab_grow.specs.declared.Seat.{Seat}
 use Rattle.dirtab_grow.specs.declared.Seat.the-variants as seat
 use Rattle.dirtab_grow.specs.declared.Step.the-variants as step
-use Rattle.dirtab_grow.specs.Growing.{numberOf, stepOf, Growing, Seated, Stepped}
+use Rattle.dirtab_grow.specs.inner.Growing.{numberOf, stepOf, Growing, Seated, Stepped}
 use Rattle.dirtab_grow.proofs.Checked.{seat-free}
 use Rattle.dirtab_grow.proofs.Columns.{sought-in, arena-in, grown-more, keyed-more}
 

@@ -14,7 +14,8 @@ use Rattle.avl_model.specs.declared.Spot.the-variants.{Free}
 use Rattle.avl_model.specs.Tree.{Tree, none, ins}
 use Rattle.avl_model.specs.Lists.{Lists, lists}
 use Rattle.avl_model.specs.Names.{Names, names, byName, isLess}
-use Rattle.avl_model.specs.Held.{Long, arrOf}
+use Rattle.avl_model.specs.Rep.{arrOf}
+use Rattle.avl_model.specs.inner.Held.{Long}
 use Rattle.avl_model.specs.Seek.{spotIn, treeAt}
 use Rattle.dirtab_arena.proofs.Fine.{fine-of}
 use Rattle.avl_model.proofs.Adding.{below}
@@ -24,7 +25,7 @@ use Rattle.dirtab_grow.specs.declared.Step.{Step}
 use Rattle.dirtab_grow.proofs.Columns.{sought-in}
 use Rattle.dirtab_grow.proofs.Rightmost.{links-tree}
 use Rattle.dirtab_grow.specs.Listing.{Listing, givenIn}
-use Rattle.dirtab_grow.specs.Growing.{stepOf, After, Grown, Growing, Hangable, Lent, Wide, Stepped}
+use Rattle.dirtab_grow.specs.inner.Growing.{stepOf, After, Grown, Growing, Hangable, Lent, Wide, Stepped}
 
 -- columns that agree on the first n places hold the same tree of n numbers
 pub frame-grown : (S T : Lists) (N : Names) (n : ℕ) (t : Tree) → T .root ≡ S .root → ((j : ℕ) → j < n → Agree (arrOf S) (arrOf T) j) → Grown S N n t → Grown T N n t

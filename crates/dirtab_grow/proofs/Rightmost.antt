@@ -9,7 +9,8 @@ use lib.ListN.{length, getD}
 use borrow.Author.Tests.{leb-true}
 use Rattle.layout_name.specs.declared.Order.{Order}
 use Rattle.layout_name.specs.declared.Order.the-variants.{Less, Greater}
-use Rattle.layout_name.specs.Order.{nameOrder, opposite}
+use Rattle.layout_name.specs.Order.{nameOrder}
+use Rattle.layout_name.specs.inner.Order.{opposite}
 use Rattle.layout_name.proofs.Laws.{name-opposite, name-trans}
 use Rattle.avl_model.specs.declared.Place.{Place}
 use Rattle.avl_model.specs.declared.Place.the-variants.{Root, Left, Right}
@@ -17,14 +18,15 @@ use Rattle.avl_model.specs.declared.Spot.{Spot}
 use Rattle.avl_model.specs.declared.Spot.the-variants.{Same, Free}
 use Rattle.avl_model.specs.Tree.{Tree, leaf, node, none, ht, turnLeft, turnLeftBy, turnRight, turnRightBy, bal, balBy, ins, insBy}
 use Rattle.avl_model.specs.Laws.{All, Ordered}
-use Rattle.avl_model.specs.Names.{Names, names, nameAt, toName, byName, isLess, Before, Inside}
+use Rattle.avl_model.specs.Names.{Names, names, nameAt, toName, byName, isLess}
+use Rattle.avl_model.specs.inner.Names.{Before, Inside}
 use Rattle.avl_model.specs.Rep.{Arr, Rep}
 use Rattle.avl_model.specs.Seek.{spotIn, spotBy, treeAt}
 use Rattle.avl_model.proofs.Avl.{all-map}
 use Rattle.avl_model.proofs.Search.{ins-names}
 use Rattle.avl_model.proofs.Seeking.{treeAt-is}
-use Rattle.avl_keyed.specs.Key.{KeySought}
-use Rattle.dirtab_grow.specs.Growing.{After}
+use Rattle.avl_keyed.specs.inner.Key.{KeySought}
+use Rattle.dirtab_grow.specs.inner.Growing.{After}
 
 -- the last node of a tree, and d where there is none
 abbrev pub lastFrom : ℕ → Tree → ℕ

@@ -1,4 +1,4 @@
 -- A list of entries, the tree that it grows into, and what columns hold on the way.
 pub mod Listing
 pub mod Grow
-pub mod Growing
+pub mod inner

@@ -13,17 +13,17 @@ use Rattle.table_model.specs.Entry.{Entry}
 use Rattle.table_model.specs.Place.{freeOf, items}
 use Rattle.table_model.specs.Table.{Placing, anyFar, sizeOf, placeOf, tableBytes}
 use Rattle.dirtab.specs.Serialise.{ifFits, ifWritten}
-use Rattle.dirtab.specs.Steps.{Rooted, writingOf, writingOut}
+use Rattle.dirtab.specs.inner.Steps.{Rooted, writingOf, writingOut}
 use Rattle.dirtab_grow.specs.declared.Cause.{Cause}
 use Rattle.dirtab_grow.specs.declared.Built.{Built}
 use Rattle.dirtab_grow.specs.declared.Built.the-variants as built
 use Rattle.dirtab_grow.specs.Listing.{Listing, givenIn}
 use Rattle.dirtab_grow.specs.Grow.{grow}
-use Rattle.dirtab_grow.specs.Growing.{numberOf, Outcome, Holding}
+use Rattle.dirtab_grow.specs.inner.Growing.{numberOf, Outcome, Holding}
 use Rattle.avl_model.specs.Lists.{Lists}
 use Rattle.avl_model.specs.Names.{Names}
 use Rattle.dirtab_list.specs.Whole.{entryIn, ifGrown, tableFor}
-use Rattle.dirtab_list.specs.Steps.{answerOf, outputOf}
+use Rattle.dirtab_list.specs.inner.Steps.{answerOf, outputOf}
 
 -- writing never answers 12
 abbrev No12 : Told Placing → Type 0

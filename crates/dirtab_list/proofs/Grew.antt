@@ -5,16 +5,16 @@ use lib.ListN.{length, getD}
 use Rattle.dirtab_entry.specs.Entry.{checkOf}
 use Rattle.avl_model.specs.Names.{names}
 use Rattle.avl_model.specs.Lists.{Lists}
-use Rattle.avl_model.specs.Held.{arrOf}
+use Rattle.avl_model.specs.Rep.{arrOf}
 use Rattle.avl_model.specs.Tree.{none}
 use Rattle.avl_model.proofs.Adding.{links-of, below}
 use Rattle.avl_model.proofs.Avl.{at-most-22}
 use Rattle.avl_model.proofs.Counted.{all-at, each-size}
 use Rattle.dirtab_arena.proofs.Fine.{Fine, fine-of}
-use Rattle.dirtab.specs.Steps.{Rooted}
+use Rattle.dirtab.specs.inner.Steps.{Rooted}
 use Rattle.dirtab_grow.specs.Listing.{Listing, givenIn}
 use Rattle.dirtab_grow.specs.Grow.{orderIn, grow}
-use Rattle.dirtab_grow.specs.Growing.{Holding}
+use Rattle.dirtab_grow.specs.inner.Growing.{Holding}
 use Rattle.dirtab_grow.proofs.Growth.{all-passed}
 
 -- the columns after building, as writing takes them

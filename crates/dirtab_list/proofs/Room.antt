@@ -14,9 +14,9 @@ use Rattle.table_model.specs.Table.{Placing, placeOf, tableBytes}
 use Rattle.dirtab.specs.Serialise.{ifFits, ifWritten}
 use Rattle.dirtab_grow.specs.Listing.{Listing, givenIn}
 use Rattle.dirtab_grow.specs.Grow.{grow}
-use Rattle.dirtab_grow.specs.Growing.{Roomy}
+use Rattle.dirtab_grow.specs.inner.Growing.{Roomy}
 use Rattle.dirtab_list.specs.Whole.{entryIn, ifGrown, tableFor, shortest, hasPlaces, wholeOf, outAfter, scratchAfter, Lent, lent, placesIn, lentAfter}
-use Rattle.dirtab_list.specs.Steps.{answerOf, outputOf}
+use Rattle.dirtab_list.specs.inner.Steps.{answerOf, outputOf}
 
 min-le : (n a b : ℕ) → n ≤ min a b → (n ≤ a) × (n ≤ b)
 min-le n a b h = (omega arith, omega arith)

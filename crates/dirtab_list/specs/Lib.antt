@@ -1,4 +1,3 @@
 -- What writing a whole list answers.
-pub mod Grow
 pub mod Whole
-pub mod Steps
+pub mod inner

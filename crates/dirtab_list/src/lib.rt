@@ -20,11 +20,11 @@ ghost use Rattle.units.specs.Lent.{was, is};
 ghost use Rattle.avl_model.specs.Tree.{Tree};
 ghost use Rattle.avl_model.specs.Lists.{lists};
 ghost use Rattle.dirtab.specs.Serialise as serialise;
-ghost use Rattle.dirtab.specs.Steps.{Rooted, RootedIn, writingOf, writingOut};
+ghost use Rattle.dirtab.specs.inner.Steps.{Rooted, RootedIn, writingOf, writingOut};
 ghost use Rattle.dirtab_grow.specs.Listing.{listing, listed};
-ghost use Rattle.dirtab_grow.specs.Growing.{numberOf, Roomy};
+ghost use Rattle.dirtab_grow.specs.inner.Growing.{numberOf, Roomy};
 ghost use Rattle.dirtab_list.specs.Whole.{told, entryIn, shortest, memory, answerIn, lentAfter};
-ghost use Rattle.dirtab_list.specs.Steps.{answerOf, outputOf};
+ghost use Rattle.dirtab_list.specs.inner.Steps.{answerOf, outputOf};
 
 // What writing a list answers.
 pub enum ListWritten {

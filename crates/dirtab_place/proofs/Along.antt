@@ -24,7 +24,7 @@ use Rattle.table_model.specs.Entry.{Entry, Item, lengthOf}
 use Rattle.table_model.specs.Place.{startAfter, startOf, stopOf, endOf, freeAfter, freeOf, items}
 use Rattle.table_model.specs.Table.{anyFar}
 use Rattle.table_model.proofs.Places.{free-next, free-after}
-use Rattle.dirtab_place.specs.Places.{startIn, stopIn, isFar, endsOver, placesOver, sizeIn, freeIn, freeOver}
+use Rattle.dirtab_place.specs.inner.Places.{startIn, stopIn, isFar, endsOver, placesOver, sizeIn, freeIn, freeOver}
 
 pub far-append : (xs ys : List Item) → anyFar (xs ++ ys) ≡ pick (anyFar xs) true (anyFar ys)
 unfolding anyFar

@@ -6,7 +6,7 @@ use Rattle.dirtab_place.specs.declared.Ends.{Ends}
 use Rattle.dirtab_place.specs.declared.Ends.the-variants as ends
 use Rattle.dirtab_place.specs.declared.Counted.{Counted}
 use Rattle.dirtab_place.specs.declared.Counted.the-variants as counted
-use Rattle.dirtab_place.specs.Places.{toldEnd, toldFree}
+use Rattle.dirtab_place.specs.inner.Places.{toldEnd, toldFree}
 
 -- the answers again from what is told of them
 end-back : Told ℕ → Ends

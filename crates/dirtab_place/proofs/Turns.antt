@@ -21,7 +21,7 @@ use Rattle.dirtab_entry.specs.declared.Kind.{Kind}
 use Rattle.dirtab_entry.specs.Entry.{rounded, kindFor, isDirectory, storedSize}
 use Rattle.table_model.specs.Place.{startAfter}
 use Rattle.table_model.proofs.Places.{Starts, starts}
-use Rattle.dirtab_place.specs.Places.{startIn, stopIn, isFar, endsOver, placesOver, Sized, Countable, sizeIn, freeIn, freeOver}
+use Rattle.dirtab_place.specs.inner.Places.{startIn, stopIn, isFar, endsOver, placesOver, Sized, Countable, sizeIn, freeIn, freeOver}
 
 pub stays : (e n : ℕ) → e % 2048 + n ≤ 2048 → e ≡ startAfter e n
 unfolding startAfter

@@ -1,2 +1,2 @@
 -- What placing along an order of numbers leaves and answers.
-pub mod Places
+pub mod inner

@@ -12,8 +12,8 @@ ghost use lib.ListN.{length};
 ghost use Rattle.units.specs.Lent.{was, is};
 ghost use Rattle.layout_node.specs.Header.{entryLength};
 ghost use Rattle.table_model.specs.Place.{startAfter};
-ghost use Rattle.dirtab_place.specs.Places.{Placeable, Countable, Sized, sizeIn, toldEnd, endsOver};
-ghost use Rattle.dirtab_place.specs.Places.{placesOver, toldFree, freeOver};
+ghost use Rattle.dirtab_place.specs.inner.Places.{Placeable, Countable, Sized, sizeIn, toldEnd, endsOver};
+ghost use Rattle.dirtab_place.specs.inner.Places.{placesOver, toldFree, freeOver};
 
 // What placing answers.
 pub enum Ends {

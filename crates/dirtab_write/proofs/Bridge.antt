@@ -19,24 +19,25 @@ use Rattle.dirtab_entry.specs.declared.Kind.{Kind}
 use Rattle.dirtab_entry.specs.declared.Kind.the-variants.{File, Directory}
 use Rattle.dirtab_entry.specs.Entry.{kindFor, isDirectory, rounded, storedSize}
 use Rattle.avl_model.specs.Tree.{Tree, leaf, node, none, top, cnt}
-use Rattle.avl_model.specs.Names.{names, Inside}
+use Rattle.avl_model.specs.Names.{names}
+use Rattle.avl_model.specs.inner.Names.{Inside}
 use Rattle.avl_model.specs.Laws.{All}
 use Rattle.avl_model.specs.Order.{order}
-use Rattle.avl_model.specs.Seek.{Links}
+use Rattle.avl_model.specs.inner.Seek.{Links}
 use Rattle.avl_model.proofs.Avl.{all-map}
 use Rattle.table_model.specs.Entry.{Entry, Item, lengthOf}
 use Rattle.table_model.specs.Place.{startOf, stopOf, endOf, freeAfter, freeOf, linkTo, itemOf, items}
 use Rattle.table_model.specs.Table.{anyFar, sizeOf, tableBytes}
 use Rattle.table_model.specs.Said.{Fits}
-use Rattle.table_model.specs.Writing.{Spaced, writtenOver}
+use Rattle.table_model.specs.inner.Writing.{Spaced, writtenOver}
 use Rattle.table_model.proofs.Places.{Starts, FitsAt, start-at, stop-four, end-four, end-after}
 use Rattle.table_model.proofs.Bytes.{end-size}
 use Rattle.table_model.proofs.Geometry.{items-spaced}
 use Rattle.table_model.proofs.Writing.{written-table}
-use Rattle.dirtab_place.specs.Places.{endsOver, placesOver, sizeIn, freeIn, freeOver, Placeable, Sized, Countable}
+use Rattle.dirtab_place.specs.inner.Places.{endsOver, placesOver, sizeIn, freeIn, freeOver, Placeable, Sized, Countable}
 use Rattle.dirtab_place.proofs.Along.{SameLength, Kept, ends-are, places-are, places-length, SameSize, free-are}
-use Rattle.dirtab_write.specs.Columns.{Cols, cols, entryBy, linkBy, itemBy, itemsBy, Headed, Numbered, Writes, Spaces}
-use Rattle.dirtab_write.specs.Holds.{Holds}
+use Rattle.dirtab_write.specs.inner.Columns.{Cols, cols, entryBy, linkBy, itemBy, itemsBy, Headed, Numbered, Writes, Spaces}
+use Rattle.dirtab_write.specs.inner.Holds.{Holds}
 use Rattle.dirtab_write.proofs.Steps.{name-length}
 
 -- what holds of each node holds of each number of the preorder

@@ -5,21 +5,22 @@ use mathlib.Core.List.{List, [], _∷_, _++_}
 use native.Mathlib.Omega.{arith}
 use lib.ListN.{length, getD, take, drop, length-take, length-drop}
 use borrow.Author.Tests.{eq-eqb, ne-eqb}
-use Rattle.layout_bytes.specs.Bytes.{putAt}
+use Rattle.layout_bytes.specs.inner.Bytes.{putAt}
 use Rattle.layout_bytes.proofs.Put.{put-then}
 use Rattle.layout_node.specs.declared.Header.{Header}
 use Rattle.layout_node.specs.Header.{headerBytes}
 use Rattle.layout_node.proofs.RoundTrip.{header-length}
 use Rattle.avl_model.specs.Tree.{none}
-use Rattle.avl_model.specs.Names.{names, nameAt, Inside}
+use Rattle.avl_model.specs.Names.{names, nameAt}
+use Rattle.avl_model.specs.inner.Names.{Inside}
 use Rattle.table_model.specs.Entry.{headerFor, attributes}
-use Rattle.table_model.specs.Writing.{stored}
+use Rattle.table_model.specs.inner.Writing.{stored}
 use Rattle.units.specs.declared.Link.{Link}
 use Rattle.units.specs.declared.Sector.{Sector}
 use Rattle.dirtab_entry.specs.declared.Kind.{Kind}
 use Rattle.dirtab_entry.specs.Entry.{kindFor}
-use Rattle.dirtab_place.specs.Places.{sizeIn}
-use Rattle.dirtab_write.specs.Columns.{Cols, entryBy, LinkIn, linkBy, Headed, headerBy, itemBy, Numbered}
+use Rattle.dirtab_place.specs.inner.Places.{sizeIn}
+use Rattle.dirtab_write.specs.inner.Columns.{Cols, entryBy, LinkIn, linkBy, Headed, headerBy, itemBy, Numbered}
 
 pub link-none : (p : List ℕ) (j : ℕ) → j ≡ 65535 → 0 ≡ linkBy p j
 unfolding linkBy

@@ -11,17 +11,17 @@ use lib.Seq.{drop-cons}
 use borrow.Author.Tests.{le-ltb, ltb-false}
 use Rattle.units.specs.Told.{Told, gives, refuses, pick}
 use Rattle.units.specs.declared.Sector.{Sector}
-use Rattle.layout_bytes.specs.Bytes.{putAt}
+use Rattle.layout_bytes.specs.inner.Bytes.{putAt}
 use Rattle.layout_sector.specs.declared.SectorCounter.{SectorCounter}
 use Rattle.layout_sector.specs.declared.Taken.{Taken}
 use Rattle.layout_sector.specs.declared.Taken.the-variants.{Start, SectorOverflow}
 use Rattle.layout_sector.specs.Counter.{Run, sectorsFor, alignedUp, told, takeOf}
 use Rattle.layout_sector.proofs.Laws.{given-start, given-free, overflow-where-8}
 use Rattle.table_model.specs.Entry.{Item}
-use Rattle.table_model.specs.Writing.{stored, Spaced, writtenOver}
+use Rattle.table_model.specs.inner.Writing.{stored, Spaced, writtenOver}
 use Rattle.table_model.proofs.Writing.{written-none, written-next}
-use Rattle.dirtab_place.specs.Places.{sizeIn, freeIn, freeOver}
-use Rattle.dirtab_write.specs.Columns.{Cols, itemBy, itemsBy, putAll, Numbered, Writes}
+use Rattle.dirtab_place.specs.inner.Places.{sizeIn, freeIn, freeOver}
+use Rattle.dirtab_write.specs.inner.Columns.{Cols, itemBy, itemsBy, putAll, Numbered, Writes}
 
 -- taking what an entry's size takes; j is its number as an index
 module _ (size kind : List ℕ) (s i j n : ℕ) (r : Taken) (ej : j ≡ i) (en : n ≡ sizeIn size kind j) (taken : told r ≡ takeOf 1 s n) where

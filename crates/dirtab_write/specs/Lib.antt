@@ -1,3 +1,2 @@
 -- Entries in columns, and what writing them leaves.
-pub mod Columns
-pub mod Holds
+pub mod inner

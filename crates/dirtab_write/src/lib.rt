@@ -17,14 +17,14 @@ ghost use mathlib.Core.List.{_++_};
 ghost use Prim.Native.Nat.{_+_, _*_, _≤_, _<_};
 ghost use lib.ListN.{length, getD};
 ghost use Rattle.units.specs.Lent.{was, is};
-ghost use Rattle.layout_bytes.specs.Bytes.{putAt};
+ghost use Rattle.layout_bytes.specs.inner.Bytes.{putAt};
 ghost use Rattle.layout_node.specs.Header.{headerBytes};
 ghost use Rattle.layout_sector.specs.Counter.{alignedUp};
-ghost use Rattle.dirtab_place.specs.Places.{freeIn};
+ghost use Rattle.dirtab_place.specs.inner.Places.{freeIn};
 ghost use Rattle.table_model.specs.Entry.{attributes};
-ghost use Rattle.table_model.specs.Writing.{stored, writtenOver};
-ghost use Rattle.dirtab_write.specs.Columns.{cols, LinkIn, linkBy, Headed, headerBy, itemBy, itemsBy};
-ghost use Rattle.dirtab_write.specs.Columns.{Numbered, Writes, Spaces, putAll};
+ghost use Rattle.table_model.specs.inner.Writing.{stored, writtenOver};
+ghost use Rattle.dirtab_write.specs.inner.Columns.{cols, LinkIn, linkBy, Headed, headerBy, itemBy, itemsBy};
+ghost use Rattle.dirtab_write.specs.inner.Columns.{Numbered, Writes, Spaces, putAll};
 
 // The number that stands for no node.
 const NONE: u16 = 65535;

@@ -14,7 +14,7 @@ use Rattle.img_model.specs.Shares.{countOf}
 use Rattle.img_model.specs.declared.Planned.{Planned}
 use Rattle.img_model.specs.Plan.{Plan, planOf}
 use Rattle.img.specs.Image.{Asked, Lent, byDirectory, byEntry, byNode, fits, hasRoom, requestIn, columnAfter}
-use Rattle.img.specs.Steps.{Holds, Exact, Wide, after, PlannedBy, Cut, planIn, PlannedIn}
+use Rattle.img.specs.inner.Steps.{Holds, Exact, Wide, after, PlannedBy, Cut, planIn, PlannedIn}
 
 -- the least of five numbers, and of six, is none the greater
 least-five : (n a b c d e : ℕ) → n ≤ min a (min b (min c (min d e))) → (n ≤ a) × ((n ≤ b) × ((n ≤ c) × ((n ≤ d) × (n ≤ e))))
@@ -52,7 +52,7 @@ module _ (A : Asked) (L : Lent) (k : Cut A L) where
   enough-nodes = and-r (leb (A .entries) (byEntry A L)) _ after-directories
 
   -- every column is long enough
-  pub in-first : A .directories ≤ length (A .first)
+  pub in-first : A .directories ≤ length (A .from)
   in-first = least-five _ _ _ _ _ _ enough-directories .0
 
   pub in-share : A .directories ≤ length (A .share)
@@ -85,7 +85,7 @@ module _ (A : Asked) (L : Lent) (k : Cut A L) where
   -- so what is cut is just as long as it is counted
   pub exact-cut : Exact (requestIn A) (length (take (A .directories) (L .sized))) (length (take (A .directories) (L .sizes))) (length (take (A .directories) (L .tables))) (length (take (A .entries) (L .sectors)))
   exact-cut =
-      let d : length (take (A .directories) (A .first)) ≡ A .directories = length-take-le _ _ in-first in
+      let d : length (take (A .directories) (A .from)) ≡ A .directories = length-take-le _ _ in-first in
       let e : length (take (A .entries) (A .kind)) ≡ A .entries = length-take-le _ _ in-kind in
       record {
         shared = length-take-le _ _ in-share ∙ sym d;
@@ -104,7 +104,7 @@ module _ (A : Asked) (L : Lent) (k : Cut A L) where
   held : (n : ℕ) → byNode L ≤ n → Holds (requestIn A) n
   held n l d h c =
       let e : length (take (A .entries) (A .kind)) ≡ A .entries = length-take-le _ _ in-kind in
-      let s : length (take (A .directories) (A .share)) ≡ length (take (A .directories) (A .first)) = exact-cut .shared in
+      let s : length (take (A .directories) (A .share)) ≡ length (take (A .directories) (A .from)) = exact-cut .shared in
       let q : countOf (requestIn A) d ≤ byNode L =
       fits-each (byNode L) (A .entries) (take (A .directories) (A .share)) enough-nodes d (subst (λ (m : ℕ). d < m) (sym s) h) (subst (λ (m : ℕ). countOf (requestIn A) d ≤ m) e c) in
       leq q l

@@ -11,11 +11,11 @@ use Rattle.img_model.specs.declared.Planned.the-variants as planned
 use Rattle.img_model.specs.Plan.{Taking, told}
 use Rattle.img_take.specs.declared.Fitting.{Fitting}
 use Rattle.img_take.specs.declared.Fitting.the-variants as fitting
-use Rattle.img_take.specs.Forward.{Sized, freeTold, toldFitting}
-use Rattle.img.specs.Steps.{after, HandedOut}
+use Rattle.img_take.specs.inner.Forward.{Sized, freeTold, toldFitting}
+use Rattle.img.specs.inner.Steps.{after, HandedOut}
 
 -- the same with a column of as many places
-abbrev pub widened : {first share kind value sizes orders : List ℕ} {n m : ℕ} → Sized first share kind value sizes orders n → m ≡ n → Sized first share kind value sizes orders m
+abbrev pub widened : {from share kind value sizes orders : List ℕ} {n m : ℕ} → Sized from share kind value sizes orders n → m ≡ n → Sized from share kind value sizes orders m
 widened {share = share} w e = record {
   start = w .start;
   len = w .len;

@@ -9,7 +9,7 @@ use Rattle.img_model.specs.declared.Planned.{Planned}
 use Rattle.img_model.specs.declared.Planned.the-variants as planned
 use Rattle.img_model.specs.Plan.{Plan, told, planOf}
 use Rattle.img.specs.Image.{Asked, Lent, asked, lent, hasRoom, requestIn, imageOf, answerOf, columnAfter, scratchAfter, lentAfter}
-use Rattle.img.specs.Steps.{planIn, PlannedIn}
+use Rattle.img.specs.inner.Steps.{planIn, PlannedIn}
 
 -- what is left, where it is known whether there is room and what is told
 abbrev leftBy : Bool → Told Plan → Asked → Lent → Lent
@@ -83,8 +83,8 @@ cleared y z e l = e ∙ ap (λ (n : ℕ). replicate n 0) l
 
 -- ---- the counts as they are asked
 
-pub as-asked : {d e d' e' : ℕ} (first share start len kind value bytes : List ℕ) (r : Planned) (L L' : Lent) → d ≡ d' → e ≡ e' →
-    (told r ≡ answerOf (imageOf (asked d e first share start len kind value bytes) L)) × (L' ≡ lentAfter (asked d e first share start len kind value bytes) L) →
-    (told r ≡ answerOf (imageOf (asked d' e' first share start len kind value bytes) L)) × (L' ≡ lentAfter (asked d' e' first share start len kind value bytes) L)
-as-asked first share start len kind value bytes r L L' p q h =
-    subst (λ (A : Asked). (told r ≡ answerOf (imageOf A L)) × (L' ≡ lentAfter A L)) (ap₂ (λ (d e : ℕ). asked d e first share start len kind value bytes) p q) h
+pub as-asked : {d e d' e' : ℕ} (from share start len kind value bytes : List ℕ) (r : Planned) (L L' : Lent) → d ≡ d' → e ≡ e' →
+    (told r ≡ answerOf (imageOf (asked d e from share start len kind value bytes) L)) × (L' ≡ lentAfter (asked d e from share start len kind value bytes) L) →
+    (told r ≡ answerOf (imageOf (asked d' e' from share start len kind value bytes) L)) × (L' ≡ lentAfter (asked d' e' from share start len kind value bytes) L)
+as-asked from share start len kind value bytes r L L' p q h =
+    subst (λ (A : Asked). (told r ≡ answerOf (imageOf A L)) × (L' ≡ lentAfter A L)) (ap₂ (λ (d e : ℕ). asked d e from share start len kind value bytes) p q) h

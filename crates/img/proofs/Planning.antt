@@ -9,7 +9,7 @@ use lib.Dec.{leb}
 use lib.ListN.{length, replicate, length-replicate}
 use Rattle.units.specs.Told.{Told, gives, refuses, pick}
 use Rattle.dirtab_grow.specs.declared.Cause.{Cause}
-use Rattle.dirtab_grow.specs.Growing.{numberOf}
+use Rattle.dirtab_grow.specs.inner.Growing.{numberOf}
 use Rattle.img_model.specs.Shares.{Request, columns, directoriesOf, countOf, isTree}
 use Rattle.img_model.specs.declared.Planned.{Planned}
 use Rattle.img_model.specs.declared.Planned.the-variants as planned
@@ -17,11 +17,11 @@ use Rattle.img_model.specs.Plan.{Plan, Taking, told, total, planOf, sizesDown, 
 use Rattle.img_model.proofs.Rule.{some-directory, share-inside}
 use Rattle.img_table.specs.declared.Arranged.{Arranged}
 use Rattle.img_table.specs.declared.Arranged.the-variants as arranged
-use Rattle.img_size.specs.Sizing.{Sizeable, Roomy, TablesIn, toldSizes}
+use Rattle.img_size.specs.inner.Sizing.{Sizeable, Roomy, TablesIn, toldSizes}
 use Rattle.img_size.proofs.Asked.{tree-sizeable, sizes-any}
-use Rattle.img_take.specs.Forward.{Sized}
+use Rattle.img_take.specs.inner.Forward.{Sized}
 use Rattle.img.specs.Image.{answerOf}
-use Rattle.img.specs.Steps.{Exact, Wide, Holds, after, HandedOut, PlannedBy}
+use Rattle.img.specs.inner.Steps.{Exact, Wide, Holds, after, HandedOut, PlannedBy}
 
 -- the same with a column of as many sizes
 pub exact-kept : {R : Request} {sized sized' sizes tables sectors : ℕ} → Exact R sized sizes tables sectors → sized' ≡ sized → Exact R sized' sizes tables sectors
@@ -51,20 +51,20 @@ module _ (R : Request) (p : isTree R ≡ true) where
   }
 
 -- the columns of a tree, once its tables are sized
-abbrev pub sized-tree : (first share start len kind value bytes : List ℕ) → isTree (columns first share start len kind value bytes) ≡ true →
-    {sized sizes tables sectors left right parent height key size n : ℕ} → Exact (columns first share start len kind value bytes) sized sizes tables sectors →
-    Wide (columns first share start len kind value bytes) left right parent height key size → (zs orders : List ℕ) → TablesIn (columns first share start len kind value bytes) zs orders →
-    length zs ≡ sized → (end places : ℕ) → end ≡ total share → end ≤ places → length orders ≡ places → n ≡ size → Sized first share kind value zs orders n
-sized-tree first share start len kind value bytes p x w zs orders t e end places all h l q = record {
+abbrev pub sized-tree : (from share start len kind value bytes : List ℕ) → isTree (columns from share start len kind value bytes) ≡ true →
+    {sized sizes tables sectors left right parent height key size n : ℕ} → Exact (columns from share start len kind value bytes) sized sizes tables sectors →
+    Wide (columns from share start len kind value bytes) left right parent height key size → (zs orders : List ℕ) → TablesIn (columns from share start len kind value bytes) zs orders →
+    length zs ≡ sized → (end places : ℕ) → end ≡ total share → end ≤ places → length orders ≡ places → n ≡ size → Sized from share kind value zs orders n
+sized-tree from share start len kind value bytes p x w zs orders t e end places all h l q = record {
   start = start;
   len = len;
   bytes = bytes;
-  sizeable = sizeable-tree (columns first share start len kind value bytes) p x;
-  some = some-directory (columns first share start len kind value bytes) p;
+  sizeable = sizeable-tree (columns from share start len kind value bytes) p x;
+  some = some-directory (columns from share start len kind value bytes) p;
   sized = e ∙ x .sized-is;
   tables = t;
   long = omega (arith, all, l);
-  wide = λ d k. subst (λ (m : ℕ). countOf (columns first share start len kind value bytes) d ≤ m) (sym q) (placed (columns first share start len kind value bytes) p _ (w .z) d k);
+  wide = λ d k. subst (λ (m : ℕ). countOf (columns from share start len kind value bytes) d ≤ m) (sym q) (placed (columns from share start len kind value bytes) p _ (w .z) d k);
 }
 
 -- ---- the plan, as far as it goes

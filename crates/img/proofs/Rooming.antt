@@ -7,7 +7,7 @@ use native.Mathlib.Omega.{arith}
 use lib.Dec.{leb}
 use lib.ListN.{take}
 use Rattle.img.specs.Image.{Asked, Lent, byDirectory, byEntry, byNode, fits, hasRoom}
-use Rattle.img.specs.Steps.{Cut}
+use Rattle.img.specs.inner.Steps.{Cut}
 
 module _ (directories entries d e : ℕ) (fit : Bool) where
   pub few-directories : d < directories → false ≡ leb directories d && (leb entries e && fit)

@@ -15,7 +15,7 @@ use Rattle.img_model.specs.Plan.{Plan, planOf}
 pub record Asked : Type 0 where
   pub directories : ℕ
   pub entries : ℕ
-  pub first : List ℕ
+  pub from : List ℕ
   pub share : List ℕ
   pub start : List ℕ
   pub len : List ℕ
@@ -24,10 +24,10 @@ pub record Asked : Type 0 where
   pub bytes : List ℕ
 
 abbrev pub asked : ℕ → ℕ → List ℕ → List ℕ → List ℕ → List ℕ → List ℕ → List ℕ → List ℕ → Asked
-asked directories entries first share start len kind value bytes = record {
+asked directories entries from share start len kind value bytes = record {
   directories = directories;
   entries = entries;
-  first = first;
+  from = from;
   share = share;
   start = start;
   len = len;
@@ -38,8 +38,8 @@ asked directories entries first share start len kind value bytes = record {
 
 -- the same as it is lent, at the call
 abbrev pub asking : ℕ → ℕ → Slice → Slice → Slice → Slice → Slice → Slice → Slice → Asked
-asking directories entries first share start len kind value bytes =
-    asked directories entries (was first) (was share) (was start) (was len) (was kind) (was value) (was bytes)
+asking directories entries from share start len kind value bytes =
+    asked directories entries (was from) (was share) (was start) (was len) (was kind) (was value) (was bytes)
 
 -- what is lent: the size and the sector of each table, the sector of each entry; and scratch: a size for each
 -- directory, the columns of a tree, an order
@@ -84,7 +84,7 @@ memory sizes tables sectors sized left right parent height key size order = reco
 
 -- the length of the shortest column that has a place for each directory, for each entry, and for each node of a tree
 abbrev pub byDirectory : Asked → Lent → ℕ
-byDirectory A L = min (length (A .first))
+byDirectory A L = min (length (A .from))
     (min (length (A .share)) (min (length (L .sizes)) (min (length (L .tables)) (length (L .sized)))))
 
 abbrev pub byEntry : Asked → Lent → ℕ
@@ -111,7 +111,7 @@ hasRoom A L =
 
 -- the columns as far as the counts go
 abbrev pub requestIn : Asked → Request
-requestIn A = request (A .directories) (A .entries) (A .first) (A .share) (A .start) (A .len) (A .kind) (A .value)
+requestIn A = request (A .directories) (A .entries) (A .from) (A .share) (A .start) (A .len) (A .kind) (A .value)
     (A .bytes)
 
 -- THE PLAN

@@ -1,3 +1,3 @@
 -- What planning an image answers, and leaves of what was lent.
 pub mod Image
-pub mod Steps
+pub mod inner

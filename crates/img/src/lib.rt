@@ -19,12 +19,13 @@ ghost use lib.Dec.{leb};
 ghost use lib.ListN.{length, take, replicate};
 ghost use Rattle.units.specs.Told.{refuses};
 ghost use Rattle.units.specs.Lent.{was, is};
-ghost use Rattle.dirtab_grow.specs.Growing.{numberOf};
-ghost use Rattle.img_model.specs.Shares.{columns, columnsIn, isTree};
+ghost use Rattle.dirtab_grow.specs.inner.Growing.{numberOf};
+ghost use Rattle.img_model.specs.Shares.{columns, isTree};
+ghost use Rattle.img_model.specs.inner.Shares.{columnsIn};
 ghost use Rattle.img_model.specs.Plan.{told, total, takingUp, rooted, planOf};
-ghost use Rattle.img_take.specs.Forward.{Sized, requestOf};
+ghost use Rattle.img_take.specs.inner.Forward.{Sized, requestOf};
 ghost use Rattle.img.specs.Image.{asked, asking, lent, memory, fits, answerIn, lentAfter};
-ghost use Rattle.img.specs.Steps.{Exact, Wide, HandedOut, PlannedBy, Cut, PlannedIn};
+ghost use Rattle.img.specs.inner.Steps.{Exact, Wide, HandedOut, PlannedBy, Cut, PlannedIn};
 
 // A count of four bytes as an index.
 fn widen(n: u32) -> usize
@@ -84,7 +85,7 @@ fn refuse(cause: Cause, j: u32) -> Planned
 
 // Where all tables are sized: 7 and 8, and where neither is met every size and sector is given back.
 fn hand_out(
-    first: &[u32],
+    from: &[u32],
     share: &[u32],
     kind: &[u8],
     value: &[u64],
@@ -96,24 +97,24 @@ fn hand_out(
     tables: &mut [u32],
     sectors: &mut [u32],
 ) -> Planned
-    requires { ⌜ Sized (now first) (now share) (now kind) (now value) (now sized) (now order) (length (now size))
+    requires { ⌜ Sized (now from) (now share) (now kind) (now value) (now sized) (now order) (length (now size))
         × (end ≡ total (now share)) ⌝ }
-    requires { ⌜ (length (now sizes) ≡ length (now first))
-        × ((length (now tables) ≡ length (now first)) × (length (now sectors) ≡ length (now kind))) ⌝ }
-    ensures { λ r. ⌜ ((w : Sized (was first) (was share) (was kind) (was value) (was sized) (was order)
+    requires { ⌜ (length (now sizes) ≡ length (now from))
+        × ((length (now tables) ≡ length (now from)) × (length (now sectors) ≡ length (now kind))) ⌝ }
+    ensures { λ r. ⌜ ((w : Sized (was from) (was share) (was kind) (was value) (was sized) (was order)
         (length (was size))) →
         HandedOut r (was sized)
-        (takingUp (requestOf w) (was sized) (length (was first)) 0
+        (takingUp (requestOf w) (was sized) (length (was from)) 0
         (rooted (requestOf w) (was sized) (was tables) (was sectors)))
         (was sizes) (is sizes) (was tables) (is tables) (was sectors) (is sectors)) ⌝ }
 {
-    match check_tables(first, share, kind, value, sized, order, size, end) {
+    match check_tables(from, share, kind, value, sized, order, size, end) {
         Fitting::TooManyDirectoryEntries(d) => Planned::TooManyDirectoryEntries(d),
         Fitting::SectorOverflow(d) => Planned::SectorOverflow(d),
         Fitting::Free(free) => {
             copy_words(sized, sizes);
             take_tables(
-                first,
+                from,
                 share,
                 kind,
                 value,
@@ -131,7 +132,7 @@ fn hand_out(
 
 // The plan where the directories are a tree, over columns that are just as long as they are counted.
 fn plan_tree(
-    first: &[u32],
+    from: &[u32],
     share: &[u32],
     names: &[u8],
     start: &[u32],
@@ -150,12 +151,12 @@ fn plan_tree(
     tables: &mut [u32],
     sectors: &mut [u32],
 ) -> Planned
-    requires { let R = columns (now first) (now share) (now start) (now len) (now kind) (now value) (now names) in
+    requires { let R = columns (now from) (now share) (now start) (now len) (now kind) (now value) (now names) in
         ⌜ isTree R ≡ true ⌝
         ∗ ⌜ Exact R (length (now sized)) (length (now sizes)) (length (now tables)) (length (now sectors)) ⌝
         ∗ ⌜ Wide R (length (now left)) (length (now right)) (length (now parent))
         (length (now height)) (length (now key)) (length (now size)) ⌝ }
-    ensures { λ r. let R = columnsIn first share start len kind value names in
+    ensures { λ r. let R = columnsIn from share start len kind value names in
         ⌜ PlannedBy r (planOf R (length (was order)) (was tables) (was sectors))
         (was sizes) (is sizes) (was tables) (is tables) (was sectors) (is sectors) ⌝ }
 {
@@ -164,7 +165,7 @@ fn plan_tree(
         return Planned::Room;
     }
     match size_tables(
-        first,
+        from,
         share,
         names,
         start,
@@ -183,7 +184,7 @@ fn plan_tree(
         Arranged::Refused(cause, j) => refuse(cause, j),
         Arranged::FileTooLarge(j) => Planned::FileTooLarge(j),
         Arranged::Done => hand_out(
-            first,
+            from,
             share,
             kind,
             value,
@@ -200,7 +201,7 @@ fn plan_tree(
 
 // The plan over columns that are just as long as they are counted.
 fn plan_counted(
-    first: &[u32],
+    from: &[u32],
     share: &[u32],
     names: &[u8],
     start: &[u32],
@@ -219,17 +220,17 @@ fn plan_counted(
     tables: &mut [u32],
     sectors: &mut [u32],
 ) -> Planned
-    requires { let R = columns (now first) (now share) (now start) (now len) (now kind) (now value) (now names) in
+    requires { let R = columns (now from) (now share) (now start) (now len) (now kind) (now value) (now names) in
         ⌜ Exact R (length (now sized)) (length (now sizes)) (length (now tables)) (length (now sectors)) ⌝
         ∗ ⌜ Wide R (length (now left)) (length (now right)) (length (now parent))
         (length (now height)) (length (now key)) (length (now size)) ⌝ }
-    ensures { λ r. let R = columnsIn first share start len kind value names in
+    ensures { λ r. let R = columnsIn from share start len kind value names in
         ⌜ PlannedBy r (planOf R (length (was order)) (was tables) (was sectors))
         (was sizes) (is sizes) (was tables) (is tables) (was sectors) (is sectors) ⌝ }
 {
-    if is_tree(first, share, kind, value, sized) {
+    if is_tree(from, share, kind, value, sized) {
         return plan_tree(
-            first,
+            from,
             share,
             names,
             start,
@@ -256,7 +257,7 @@ fn plan_counted(
 fn plan_cut(
     directories: usize,
     entries: usize,
-    first: &[u32],
+    from: &[u32],
     share: &[u32],
     start: &[u32],
     len: &[u32],
@@ -275,18 +276,18 @@ fn plan_cut(
     size: &mut [u32],
     order: &mut [u16],
 ) -> Planned
-    requires { let a = asked directories entries (now first) (now share) (now start) (now len) (now kind) (now value)
+    requires { let a = asked directories entries (now from) (now share) (now start) (now len) (now kind) (now value)
         (now names) in
         let m = lent (now sizes) (now tables) (now sectors) (now sized) (now left) (now right)
         (now parent) (now height) (now key) (now size) (now order) in
         ⌜ Cut a m ⌝ }
     ensures { λ r.
-        let a = asking directories entries first share start len kind value names in
+        let a = asking directories entries from share start len kind value names in
         let m = memory sizes tables sectors sized left right parent height key size order in
         ⌜ PlannedIn r a (m .entry) (is sizes) (is tables) (is sectors) ⌝ }
 {
     plan_counted(
-        &first[..directories],
+        &from[..directories],
         &share[..directories],
         names,
         &start[..entries],
@@ -331,17 +332,17 @@ fn clear_rest(sized: &mut [u32], key: &mut [u32], size: &mut [u32], order: &mut 
 
 // The length of the shortest column that has a place for each directory.
 fn measure_directories(
-    first: &[u32],
+    from: &[u32],
     share: &[u32],
     sizes: &[u32],
     tables: &[u32],
     sized: &[u32],
 ) -> usize
-    ensures { λ r. ⌜ r ≡ min (length (was first)) (min (length (was share))
+    ensures { λ r. ⌜ r ≡ min (length (was from)) (min (length (was share))
         (min (length (was sizes)) (min (length (was tables)) (length (was sized))))) ⌝ }
 {
     least(
-        first.len(),
+        from.len(),
         least(
             share.len(),
             least(sizes.len(), least(tables.len(), sized.len())),
@@ -422,7 +423,7 @@ fn have_room(
 pub fn plan(
     directories: u32,
     entries: u32,
-    first: &[u32],
+    from: &[u32],
     share: &[u32],
     start: &[u32],
     len: &[u32],
@@ -442,12 +443,12 @@ pub fn plan(
     order: &mut [u16],
 ) -> Planned
     ensures { λ r.
-        let a = asking directories entries first share start len kind value names in
+        let a = asking directories entries from share start len kind value names in
         let m = memory sizes tables sectors sized left right parent height key size order in
         ⌜ told r ≡ answerIn a (m .entry) ⌝
         ∗ ⌜ m .exit ≡ lentAfter a (m .entry) ⌝ }
 {
-    let by_directory = measure_directories(first, share, sizes, tables, sized);
+    let by_directory = measure_directories(from, share, sizes, tables, sized);
     let by_entry = measure_entries(start, len, kind, value, sectors, order);
     let by_node = measure_nodes(left, right, parent, height, key, size);
     let d = widen(directories);
@@ -456,7 +457,7 @@ pub fn plan(
         let r = plan_cut(
             d,
             e,
-            first,
+            from,
             share,
             start,
             len,

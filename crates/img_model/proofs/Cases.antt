@@ -7,7 +7,7 @@ use Rattle.img_model.specs.Shares.{Request, isTree}
 
 -- directories by first and count; entries by kind and value
 abbrev tree : List ℕ → List ℕ → List ℕ → List ℕ → Bool
-tree first share kind value = isTree (record { first = first; share = share; start = []; len = []; kind = kind; value = value; bytes = [] })
+tree from share kind value = isTree (record { from = from; share = share; start = []; len = []; kind = kind; value = value; bytes = [] })
 
 -- a root alone, without entries and with one file of 7 bytes; and with one directory, which has a file of 1 byte
 root-alone : tree (0 ∷ []) (0 ∷ []) [] [] ≡ true

@@ -1,3 +1,4 @@
 -- What planning an image answers.
 pub mod Shares
 pub mod Plan
+pub mod inner

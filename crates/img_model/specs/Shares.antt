@@ -5,14 +5,13 @@ use mathlib.Core.List.{List}
 use lib.Dec.{ltb, leb, eqb}
 use lib.ListN.{length, getD, take, drop}
 use Rattle.units.specs.Told.{pick}
-use Rattle.units.specs.Lent.{Slice, was}
 use Rattle.avl_arena.specs.Test.{every}
 
 -- what is to be planned: for each directory the place of its first entry in the list of entries and how many it
 -- has, the root first; for each entry its name's place and length in the bytes lent for names, its kind (1 is a
 -- directory), and its value: a file's length, or a directory's place in the list of directories
 pub record Request : Type 0 where
-  pub first : List ℕ
+  pub from : List ℕ
   pub share : List ℕ
   pub start : List ℕ
   pub len : List ℕ
@@ -21,30 +20,25 @@ pub record Request : Type 0 where
   pub bytes : List ℕ
 
 abbrev pub columns : List ℕ → List ℕ → List ℕ → List ℕ → List ℕ → List ℕ → List ℕ → Request
-columns first share start len kind value bytes =
-    record { first = first; share = share; start = start; len = len; kind = kind; value = value; bytes = bytes }
-
--- the same as they are lent, at the call
-abbrev pub columnsIn : Slice → Slice → Slice → Slice → Slice → Slice → Slice → Request
-columnsIn first share start len kind value bytes =
-    columns (was first) (was share) (was start) (was len) (was kind) (was value) (was bytes)
+columns from share start len kind value bytes =
+    record { from = from; share = share; start = start; len = len; kind = kind; value = value; bytes = bytes }
 
 -- the columns that are lent, as far as the two counts go
 abbrev pub request : ℕ → ℕ → List ℕ → List ℕ → List ℕ → List ℕ → List ℕ → List ℕ → List ℕ → Request
-request directories entries first share start len kind value bytes =
-    columns (take directories first) (take directories share) (take entries start) (take entries len)
+request directories entries from share start len kind value bytes =
+    columns (take directories from) (take directories share) (take entries start) (take entries len)
     (take entries kind) (take entries value) bytes
 
 -- how many directories and entries there are
 abbrev pub directoriesOf : Request → ℕ
-directoriesOf R = length (R .first)
+directoriesOf R = length (R .from)
 
 abbrev pub entriesOf : Request → ℕ
 entriesOf R = length (R .kind)
 
 -- where the share of directory d starts, and how many entries it has
 abbrev pub firstOf : Request → ℕ → ℕ
-firstOf R d = getD (R .first) d 0
+firstOf R d = getD (R .from) d 0
 
 abbrev pub countOf : Request → ℕ → ℕ
 countOf R d = getD (R .share) d 0

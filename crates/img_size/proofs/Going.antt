@@ -11,7 +11,7 @@ use Rattle.units.specs.Told.{Told, gives, refuses}
 use Rattle.avl_model.specs.Tree.{Tree}
 use Rattle.table_model.specs.Table.{sizeOf}
 use Rattle.dirtab_grow.specs.declared.Cause.{Cause}
-use Rattle.dirtab_grow.specs.Growing.{numberOf}
+use Rattle.dirtab_grow.specs.inner.Growing.{numberOf}
 use Rattle.img_model.specs.Shares.{Request, Share, shareOf, directoriesOf, firstOf, countOf, entriesOf, part, isDirectory, valueOf}
 use Rattle.img_model.specs.Plan.{tableIn, entryIn, treeIn, sizesDown, total}
 use Rattle.img_model.proofs.Trees.{refused-inside, tree-same, size-same}
@@ -20,8 +20,8 @@ use Rattle.img_table.specs.declared.Arranged.{Arranged}
 use Rattle.img_table.specs.declared.Arranged.the-variants as arranged
 use Rattle.img_table.specs.declared.TableSized.{TableSized}
 use Rattle.img_table.specs.declared.TableSized.the-variants as sized
-use Rattle.img_table.specs.Arranging.{Measured, Sizing}
-use Rattle.img_size.specs.Sizing.{orderFrom, TableIn, TablesIn, Sizeable, Roomy}
+use Rattle.img_table.specs.inner.Arranging.{Measured, Sizing}
+use Rattle.img_size.specs.inner.Sizing.{orderFrom, TableIn, TablesIn, Sizeable, Roomy}
 use Rattle.img_size.proofs.Orders.{total-step, total-none, total-down, total-all, part-kept}
 
 -- ---- what the answers of one table say
@@ -67,10 +67,10 @@ roomy-kept R a l r p h k z o a₁ l₁ r₁ p₁ h₁ k₁ z₁ o₁ y ea el er 
 -- ---- the loop
 
 -- the tables of the directories from d on stand in `sizes` and in the first `at` places of `orders`, and sizing the others makes the whole
-pub record Going (R : Request) (first sizes orders : List ℕ) (at d : ℕ) : Type 0 where
+pub record Going (R : Request) (from sizes orders : List ℕ) (at d : ℕ) : Type 0 where
   pub low : d ≤ directoriesOf R
   pub at-is : at ≡ total (drop d (R .share))
-  pub down : sizesDown R d sizes ≡ sizesDown R (directoriesOf R) first
+  pub down : sizesDown R d sizes ≡ sizesDown R (directoriesOf R) from
   pub standing : (x : ℕ) → d ≤ x → x < directoriesOf R → TableIn R sizes orders x
 
 module _ (R : Request) (s : Sizeable R) where
@@ -84,16 +84,16 @@ module _ (R : Request) (s : Sizeable R) where
   }
 
   -- all are
-  pub all-sized : (first sizes orders : List ℕ) (at d : ℕ) → Going R first sizes orders at d → d ≤ 0 → gives sizes ≡ sizesDown R (directoriesOf R) first
+  pub all-sized : (from sizes orders : List ℕ) (at d : ℕ) → Going R from sizes orders at d → d ≤ 0 → gives sizes ≡ sizesDown R (directoriesOf R) from
   unfolding sizesDown
-  all-sized first sizes orders at d g h =
+  all-sized from sizes orders at d g h =
       let z : d ≡ 0 = omega arith in
-      subst (λ (k : ℕ). sizesDown R k sizes ≡ sizesDown R (directoriesOf R) first) z (g .down)
+      subst (λ (k : ℕ). sizesDown R k sizes ≡ sizesDown R (directoriesOf R) from) z (g .down)
 
-  pub all-standing : (first sizes orders : List ℕ) (at d : ℕ) → Going R first sizes orders at d → d ≤ 0 → TablesIn R sizes orders
-  all-standing first sizes orders at d g h = λ x q. g .standing x (omega arith) q
+  pub all-standing : (from sizes orders : List ℕ) (at d : ℕ) → Going R from sizes orders at d → d ≤ 0 → TablesIn R sizes orders
+  all-standing from sizes orders at d g h = λ x q. g .standing x (omega arith) q
 
-  module _ (first sizes orders : List ℕ) (at d : ℕ) (g : Going R first sizes orders at d) (h : 0 < d) where
+  module _ (from sizes orders : List ℕ) (at d : ℕ) (g : Going R from sizes orders at d) (h : 0 < d) where
     pub below : d - 1 < directoriesOf R
     below = omega (arith, g .low)
 
@@ -114,7 +114,7 @@ module _ (R : Request) (s : Sizeable R) where
     has-room places q = omega (arith, at-more, total-all (R .share) (d - 1))
 
     -- a refusal is told with the entry's place in the list, which four bytes hold
-    pub refused-back : (k i j : ℕ) → treeIn (shareOf R (d - 1)) (tableIn sizes) ≡ refuses k (i ∷ []) → j ≡ firstOf R (d - 1) + i → refuses k (j ∷ []) ≡ sizesDown R (directoriesOf R) first
+    pub refused-back : (k i j : ℕ) → treeIn (shareOf R (d - 1)) (tableIn sizes) ≡ refuses k (i ∷ []) → j ≡ firstOf R (d - 1) + i → refuses k (j ∷ []) ≡ sizesDown R (directoriesOf R) from
     refused-back k i j e q =
         ap (λ (v : ℕ). refuses k (v ∷ [])) q ∙
         sym (down-refused R (d - 1) sizes k i e) ∙ ap (λ (n : ℕ). sizesDown R n sizes) (sym one-back) ∙ g .down
@@ -155,7 +155,7 @@ module _ (R : Request) (s : Sizeable R) where
         }
 
         pub one-sized : length sizes ≡ directoriesOf R → Measured (shareOf R (d - 1)) (tableIn sizes) (part at (countOf R (d - 1)) after) z →
-            Going R first (set sizes (d - 1) z) after (at + countOf R (d - 1)) (d - 1)
+            Going R from (set sizes (d - 1) z) after (at + countOf R (d - 1)) (d - 1)
         one-sized l m = record {
           low = omega (arith, below);
           at-is = at-more;

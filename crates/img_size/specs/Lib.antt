@@ -1,2 +1,2 @@
 -- What the steps of sizing an image's tables take of one another.
-pub mod Sizing
+pub mod inner

@@ -6,17 +6,18 @@ ghost use mathlib.Core.Path.{_≡_};
 ghost use Prim.Native.Nat.{_+_, _≤_, _<_};
 ghost use lib.ListN.{length, take};
 ghost use Rattle.units.specs.Lent.{was, is};
-ghost use Rattle.img_model.specs.Shares.{columns, columnsIn, directoriesOf, countOf, shareOf, part};
+ghost use Rattle.img_model.specs.Shares.{columns, directoriesOf, countOf, shareOf, part};
+ghost use Rattle.img_model.specs.inner.Shares.{columnsIn};
 ghost use Rattle.img_model.specs.Plan.{tableIn, sizesDown};
 ghost use Rattle.img_table.specs.declared.Arranged.the-variants.{Done};
-ghost use Rattle.img_table.specs.Arranging.{Sizing};
-ghost use Rattle.img_size.specs.Sizing.{Sizeable, Roomy, TablesIn, toldSizes};
+ghost use Rattle.img_table.specs.inner.Arranging.{Sizing};
+ghost use Rattle.img_size.specs.inner.Sizing.{Sizeable, Roomy, TablesIn, toldSizes};
 
 // The size of directory d's table, and its preorder into its places of `order`, which are those from `at` on.
 fn size_directory(
     d: usize,
     at: usize,
-    first: &[u32],
+    from: &[u32],
     share: &[u32],
     names: &[u8],
     start: &[u32],
@@ -32,17 +33,17 @@ fn size_directory(
     size: &mut [u32],
     order: &mut [u16],
 ) -> TableSized
-    requires { let R = columns (now first) (now share) (now start) (now len) (now kind) (now value) (now names) in
+    requires { let R = columns (now from) (now share) (now start) (now len) (now kind) (now value) (now names) in
         ⌜ Sizeable R ⌝
         ∗ ⌜ Roomy R (length (now sized)) (length (now left)) (length (now right)) (length (now parent))
         (length (now height)) (length (now key)) (length (now size)) (length (now order)) ⌝
         ∗ ⌜ d < directoriesOf R ⌝
         ∗ ⌜ at + countOf R d ≤ length (now order) ⌝ }
-    ensures table { λ r. let R = columnsIn first share start len kind value names in
+    ensures table { λ r. let R = columnsIn from share start len kind value names in
         ⌜ Sizing r (shareOf R d) (tableIn (was sized)) (part at (countOf R d) (is order)) ⌝ }
     ensures earlier { λ r. ⌜ take at (is order) ≡ take at (was order) ⌝ }
 {
-    let f = first[d] as usize;
+    let f = from[d] as usize;
     let n = share[d] as usize;
     let e = f + n;
     size_table(
@@ -73,7 +74,7 @@ fn place_in_list(f: u32, i: u32) -> u32
 // Every table's size into `sized`, from the last directory back; and every table's preorder into `order`, the last
 // directory's first. An entry that is refused is told by its place in the list.
 pub fn size_tables(
-    first: &[u32],
+    from: &[u32],
     share: &[u32],
     names: &[u8],
     start: &[u32],
@@ -89,23 +90,23 @@ pub fn size_tables(
     size: &mut [u32],
     order: &mut [u16],
 ) -> Arranged
-    requires { let R = columns (now first) (now share) (now start) (now len) (now kind) (now value) (now names) in
+    requires { let R = columns (now from) (now share) (now start) (now len) (now kind) (now value) (now names) in
         ⌜ Sizeable R ⌝
         ∗ ⌜ Roomy R (length (now sized)) (length (now left)) (length (now right)) (length (now parent))
         (length (now height)) (length (now key)) (length (now size)) (length (now order)) ⌝ }
     ensures { λ r.
-        let R = columnsIn first share start len kind value names in
-        ⌜ toldSizes r (is sized) ≡ sizesDown R (length (was first)) (was sized) ⌝
+        let R = columnsIn from share start len kind value names in
+        ⌜ toldSizes r (is sized) ≡ sizesDown R (length (was from)) (was sized) ⌝
         ∗ ⌜ (r ≡ Done → TablesIn R (is sized) (is order)) ⌝ }
 {
     let mut at: usize = 0;
-    let mut d = first.len();
+    let mut d = from.len();
     while 0 < d {
         d -= 1;
         match size_directory(
             d,
             at,
-            first,
+            from,
             share,
             names,
             start,
@@ -123,12 +124,9 @@ pub fn size_tables(
         ) {
             TableSized::Refused(cause, i) => return Arranged::Refused(
                 cause,
-                place_in_list(first[d], i),
+                place_in_list(from[d], i),
             ),
-            TableSized::FileTooLarge(i) => return Arranged::FileTooLarge(place_in_list(
-                first[d],
-                i,
-            )),
+            TableSized::FileTooLarge(i) => return Arranged::FileTooLarge(place_in_list(from[d], i)),
             TableSized::Done(z) => {
                 sized[d] = z;
                 at += share[d] as usize;

@@ -10,7 +10,7 @@ use lib.ListN.{length, getD, set}
 use lib.Seq.{getD-set-same, getD-set-other}
 use borrow.Author.Tests.{lt-ltb, le-ltb, ltb-true, ltb-false}
 use Rattle.units.specs.Told.{pick}
-use Rattle.img_table.specs.Arranging.{fitting}
+use Rattle.img_table.specs.inner.Arranging.{fitting}
 
 module _ (f : ℕ → ℕ) where
   turn : (n i : ℕ) → i < n → fitting f (n - i) i ≡ pick (ltb 4294967295 (f i)) i (fitting f (n - (i + 1)) (i + 1))

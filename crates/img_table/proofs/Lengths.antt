@@ -15,7 +15,7 @@ use Rattle.table_model.specs.Place.{startAfter, stopOf, endOf}
 use Rattle.table_model.specs.Table.{sizeOf}
 use Rattle.dirtab_place.proofs.Along.{SameLength}
 use Rattle.dirtab_place.proofs.Turns.{stays, moves, start-most}
-use Rattle.img_table.specs.Arranging.{endAlong, sizeAlong}
+use Rattle.img_table.specs.inner.Arranging.{endAlong, sizeAlong}
 
 -- where an entry ends
 pub stops-here : (e n r : ℕ) → e % 2048 + n ≤ 2048 → r ≡ e + n → r ≡ startAfter e n + n

@@ -11,7 +11,7 @@ use Rattle.avl_model.specs.Tree.{Tree}
 use Rattle.avl_model.specs.Order.{order}
 use Rattle.avl_model.proofs.Avl.{all-map}
 use Rattle.dirtab_grow.specs.declared.Cause.{Cause}
-use Rattle.dirtab_grow.specs.Growing.{numberOf}
+use Rattle.dirtab_grow.specs.inner.Growing.{numberOf}
 use Rattle.dirtab_place.proofs.Along.{SameLength}
 use Rattle.dirtab_write.proofs.Bridge.{in-order}
 use Rattle.img_model.specs.Shares.{Share}
@@ -19,7 +19,7 @@ use Rattle.img_model.specs.Plan.{entryIn, treeIn}
 use Rattle.img_model.proofs.Passed.{fine, count-few, numbers}
 use Rattle.img_table.specs.declared.Arranged.{Arranged}
 use Rattle.img_table.specs.declared.Arranged.the-variants as arranged
-use Rattle.img_table.specs.Arranging.{sizeAlong, Measurable, Ordered, Arrangement, Measured}
+use Rattle.img_table.specs.inner.Arranging.{sizeAlong, Measurable, Ordered, Arrangement, Measured}
 use Rattle.img_table.proofs.Lengths.{size-along}
 
 -- what was arranged

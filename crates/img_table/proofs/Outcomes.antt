@@ -10,9 +10,10 @@ use Rattle.avl_model.specs.Tree.{Tree, none}
 use Rattle.avl_model.specs.Laws as laws
 use Rattle.avl_model.specs.Lists.{Lists, lists}
 use Rattle.avl_model.specs.Names.{Names, names}
-use Rattle.avl_model.specs.Held.{arrOf}
-use Rattle.avl_model.specs.Seek.{Links}
-use Rattle.avl_model.specs.Order.{order, Listed}
+use Rattle.avl_model.specs.Rep.{arrOf}
+use Rattle.avl_model.specs.inner.Seek.{Links}
+use Rattle.avl_model.specs.Order.{order}
+use Rattle.avl_model.specs.inner.Order.{Listed}
 use Rattle.avl_model.proofs.Adding.{links-of, below}
 use Rattle.avl_model.proofs.Avl.{at-most-22}
 use Rattle.avl_model.proofs.Counted.{each-size}
@@ -20,11 +21,11 @@ use Rattle.dirtab_grow.specs.declared.Cause.{Cause}
 use Rattle.dirtab_grow.specs.declared.Built.{Built}
 use Rattle.dirtab_grow.specs.declared.Built.the-variants as built
 use Rattle.dirtab_grow.specs.Listing.{listing}
-use Rattle.dirtab_grow.specs.Growing.{numberOf, Grown, Holding, Outcome, Roomy}
+use Rattle.dirtab_grow.specs.inner.Growing.{numberOf, Grown, Holding, Outcome, Roomy}
 use Rattle.dirtab_grow.proofs.Prefix.{frame-grown}
 use Rattle.img_model.specs.Shares.{Share}
 use Rattle.img_model.specs.Plan.{sizeAt, treeIn}
-use Rattle.img_table.specs.Arranging.{fitting, Arrangeable, Ordered}
+use Rattle.img_table.specs.inner.Arranging.{fitting, Arrangeable, Ordered}
 use Rattle.img_table.proofs.Treed.{front, to-count, tree-refused, tree-large, tree-whole}
 
 -- the first n places of columns that hold a tree of n numbers are what listing takes

@@ -14,7 +14,7 @@ use Rattle.dirtab_grow.specs.Listing.{Listing, listing, givenIn}
 use Rattle.dirtab_grow.specs.Grow.{growFrom, orderIn, grow}
 use Rattle.img_model.specs.Shares.{Share}
 use Rattle.img_model.specs.Plan.{sizeAt, givenAt, checkIn, treeIn}
-use Rattle.img_table.specs.Arranging.{fitting}
+use Rattle.img_table.specs.inner.Arranging.{fitting}
 use Rattle.dirtab_grow.proofs.Growth.{andThen, same-checks, grow-then, grow-refused, grow-none}
 use Rattle.img_table.proofs.Fitting.{fit-low, fit-to, fit-large}
 

@@ -1,2 +1,2 @@
 -- What the steps of sizing one table take of one another.
-pub mod Arranging
+pub mod inner

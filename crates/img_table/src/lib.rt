@@ -15,8 +15,8 @@ ghost use Rattle.units.specs.Lent.{was, is};
 ghost use Rattle.layout_node.specs.Header.{entryLength};
 ghost use Rattle.table_model.specs.Place.{startAfter};
 ghost use Rattle.img_model.specs.Plan.{tableIn, sizeAt, treeIn};
-ghost use Rattle.img_table.specs.Arranging.{shareBy, fitting, sizeAlong, Fillable, Arrangeable, Measurable};
-ghost use Rattle.img_table.specs.Arranging.{Arrangement, Sizing};
+ghost use Rattle.img_table.specs.inner.Arranging.{shareBy, fitting, sizeAlong, Fillable, Arrangeable, Measurable};
+ghost use Rattle.img_table.specs.inner.Arranging.{Arrangement, Sizing};
 
 // What arranging a directory's entries answers: their preorder is there, or one of them is refused, by its number.
 pub enum Arranged {

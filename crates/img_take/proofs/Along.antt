@@ -12,12 +12,12 @@ use borrow.Author.Tests.{eq-eqb, ne-eqb}
 use Rattle.units.specs.Told.{pick}
 use Rattle.layout_sector.specs.Counter.{sectorsFor}
 use Rattle.layout_sector.proofs.Laws.{aligned-one}
-use Rattle.dirtab_place.specs.Places.{sizeIn}
+use Rattle.dirtab_place.specs.inner.Places.{sizeIn}
 use Rattle.dirtab_place.proofs.Along.{SameSize}
 use Rattle.img_model.specs.Shares.{Request, shareOf, firstOf}
 use Rattle.img_model.specs.Plan.{Taking, entriesAt, takingAll}
 use Rattle.img_model.specs.Plan as plan
-use Rattle.img_take.specs.Forward.{taking, takeOne, takeAlong, Enters, EntersAll}
+use Rattle.img_take.specs.inner.Forward.{taking, takeOne, takeAlong, Enters, EntersAll}
 
 -- ---- the sectors that a size of four bytes takes
 

@@ -6,12 +6,12 @@ use mathlib.Core.List.{List}
 use lib.ListN.{length, getD}
 use Rattle.units.specs.Told.{Told}
 use Rattle.table_model.specs.Place.{freeOf}
-use Rattle.dirtab_place.specs.Places.{Countable, Sized, freeOver}
+use Rattle.dirtab_place.specs.inner.Places.{Countable, Sized, freeOver}
 use Rattle.dirtab_place.proofs.Along.{free-are}
 use Rattle.img_model.specs.Shares.{Share}
 use Rattle.img_model.specs.Plan.{tableIn, sizeAt}
-use Rattle.img_table.specs.Arranging.{shareBy, fitting}
-use Rattle.img_take.specs.Forward.{Treed, entriesOf, limited}
+use Rattle.img_table.specs.inner.Arranging.{shareBy, fitting}
+use Rattle.img_take.specs.inner.Forward.{Treed, entriesOf, limited}
 use Rattle.img_table.proofs.Measuring.{listed-at}
 use Rattle.img_take.proofs.Trees.{all-filled, sized-at, same-all}
 

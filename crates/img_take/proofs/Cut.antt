@@ -6,13 +6,13 @@ use mathlib.Core.List.{List}
 use lib.ListN.{length, getD, take, drop}
 use Rattle.img_model.specs.Shares.{Request, Share, shareOf, firstOf, countOf, part}
 use Rattle.img_model.specs.Plan.{total}
-use Rattle.img_table.specs.Arranging.{shareBy}
+use Rattle.img_table.specs.inner.Arranging.{shareBy}
 use Rattle.img_size.proofs.Cut.{length-part}
 use Rattle.img_size.proofs.Orders.{total-step, total-all}
-use Rattle.img_take.specs.Forward.{Sized, requestOf, Turn}
+use Rattle.img_take.specs.inner.Forward.{Sized, requestOf, Turn}
 
 -- the same tables, with a column of as many places for sizes
-abbrev pub re-place : {first share kind value sizes orders : List ℕ} {a b : ℕ} → Sized first share kind value sizes orders a → a ≡ b → Sized first share kind value sizes orders b
+abbrev pub re-place : {from share kind value sizes orders : List ℕ} {a b : ℕ} → Sized from share kind value sizes orders a → a ≡ b → Sized from share kind value sizes orders b
 re-place w e = record {
   start = w .start;
   len = w .len;
@@ -25,9 +25,9 @@ re-place w e = record {
   wide = λ d h. omega (arith, w .wide d h, e);
 }
 
-module _ {first share kind value sizes orders : List ℕ} {places d to f n : ℕ} (T : Turn first share kind value sizes orders places d to)
-    (f-is : f ≡ getD first d 0) (n-is : n ≡ getD share d 0) where
-  abbrev w : Sized first share kind value sizes orders places
+module _ {from share kind value sizes orders : List ℕ} {places d to f n : ℕ} (T : Turn from share kind value sizes orders places d to)
+    (f-is : f ≡ getD from d 0) (n-is : n ≡ getD share d 0) where
+  abbrev w : Sized from share kind value sizes orders places
   w = T .sized
 
   in-share : d < length share
@@ -50,7 +50,7 @@ module _ {first share kind value sizes orders : List ℕ} {places d to f n : ℕ
   cut-orders = omega (arith, T .to-is, total-all share d, w .long)
 
   -- and are the parts that the definitions take
-  pub part-is : (xs : List ℕ) → take (f + n - f) (drop f xs) ≡ part (getD first d 0) (getD share d 0) xs
+  pub part-is : (xs : List ℕ) → take (f + n - f) (drop f xs) ≡ part (getD from d 0) (getD share d 0) xs
   part-is xs = let a : f + n - f ≡ getD share d 0 = omega arith in ap₂ (λ (a b : ℕ). take a (drop b xs)) a f-is
 
   pub order-is : take (to - (to - n)) (drop (to - n) orders) ≡ part (total (drop (suc d) share)) (getD share d 0) orders
@@ -60,7 +60,7 @@ module _ {first share kind value sizes orders : List ℕ} {places d to f n : ℕ
       ap₂ (λ (a b : ℕ). take a (drop b orders)) a b
 
 -- the share of directory d, of slices of the columns
-module _ {first share kind value sizes orders : List ℕ} {places d : ℕ} (w : Sized first share kind value sizes orders places) (h : d < length first) where
+module _ {from share kind value sizes orders : List ℕ} {places d : ℕ} (w : Sized from share kind value sizes orders places) (h : d < length from) where
   abbrev R : Request
   R = requestOf w
 

@@ -15,7 +15,7 @@ use Rattle.img_model.specs.Shares.{Request, shareOf}
 use Rattle.img_model.specs.Plan.{tableIn, treeIn, ifGrown, Taking, entriesAt, takingAll, ifPlaced, takingUp}
 use Rattle.img_model.proofs.Passed.{all-fit}
 use Rattle.img_model.proofs.Takings.{free-taken}
-use Rattle.img_take.specs.Forward.{taking, freeTold, limited}
+use Rattle.img_take.specs.inner.Forward.{taking, freeTold, limited}
 use Rattle.img_take.proofs.Far.{far-is}
 
 -- go on with what is given

@@ -6,7 +6,7 @@ use lib.ListN.{getD}
 use Rattle.units.specs.Told.{Told, gives, refuses, pick}
 use Rattle.img_take.specs.declared.Fitting.{Fitting}
 use Rattle.img_take.specs.declared.Fitting.the-variants as fitting
-use Rattle.img_take.specs.Forward.{toldFitting}
+use Rattle.img_take.specs.inner.Forward.{toldFitting}
 
 -- the answer again from what is told of it
 fitting-back : Told ℕ → Fitting

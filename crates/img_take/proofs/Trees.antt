@@ -11,12 +11,12 @@ use Rattle.dirtab_entry.specs.Entry as entries
 use Rattle.avl_model.specs.Tree.{Tree}
 use Rattle.avl_model.specs.Laws.{All}
 use Rattle.avl_model.proofs.Avl.{all-map}
-use Rattle.dirtab_place.specs.Places.{Sized}
+use Rattle.dirtab_place.specs.inner.Places.{Sized}
 use Rattle.dirtab_place.proofs.Along.{SameSize}
 use Rattle.img_model.specs.Shares.{Share}
 use Rattle.img_model.specs.Plan.{sizeAt, entryIn, treeIn}
 use Rattle.img_model.proofs.Passed.{passed, fine, numbers}
-use Rattle.img_table.specs.Arranging.{fitting}
+use Rattle.img_table.specs.inner.Arranging.{fitting}
 
 -- where every size fits, there is none that does not
 fit-all : (f : ℕ → ℕ) (k i : ℕ) → ((j : ℕ) → i ≤ j → j < i + k → f j ≤ 4294967295) → fitting f k i ≡ i + k

@@ -1,2 +1,2 @@
 -- What the steps of taking sectors take of one another.
-pub mod Forward
+pub mod inner

@@ -17,10 +17,10 @@ ghost use Rattle.units.specs.Told.{gives, pick};
 ghost use Rattle.units.specs.Lent.{was, is};
 ghost use Rattle.layout_sector.specs.Counter.{sectorsFor};
 ghost use Rattle.table_model.specs.Place.{freeOf};
-ghost use Rattle.dirtab_place.specs.Places.{toldFree};
+ghost use Rattle.dirtab_place.specs.inner.Places.{toldFree};
 ghost use Rattle.img_model.specs.Plan.{Taking, total, takingUp, rooted};
-ghost use Rattle.img_take.specs.Forward.{Sized, requestOf, taking, freeTold, toldFitting, Turn, Treed};
-ghost use Rattle.img_take.specs.Forward.{entriesOf, limited, takeOne, takeAlong, Enters, EntersAll};
+ghost use Rattle.img_take.specs.inner.Forward.{Sized, requestOf, taking, freeTold, toldFitting, Turn, Treed};
+ghost use Rattle.img_take.specs.inner.Forward.{entriesOf, limited, takeOne, takeAlong, Enters, EntersAll};
 
 // What going over the tables answers.
 pub enum Fitting {
@@ -102,7 +102,7 @@ fn count_table(
 fn check_table(
     d: usize,
     to: usize,
-    first: &[u32],
+    from: &[u32],
     share: &[u32],
     kind: &[u8],
     value: &[u64],
@@ -111,16 +111,16 @@ fn check_table(
     size: &mut [u32],
     free: Sector,
 ) -> Fitting
-    requires { ⌜ Turn (now first) (now share) (now kind) (now value) (now sized) (now order) (length (now size)) d
+    requires { ⌜ Turn (now from) (now share) (now kind) (now value) (now sized) (now order) (length (now size)) d
         to ⌝ }
-    ensures { λ r. ⌜ ((w : Sized (was first) (was share) (was kind) (was value) (was sized) (was order)
+    ensures { λ r. ⌜ ((w : Sized (was from) (was share) (was kind) (was value) (was sized) (was order)
         (length (was size))) → toldFitting r
         ≡ freeTold (takingUp (requestOf w) (was sized) 1 d (taking [] [] (free .0)))) ⌝ }
 {
     if 262144 < sized[d] {
         return Fitting::TooManyDirectoryEntries(d as u32);
     }
-    let f = widen(first[d]);
+    let f = widen(from[d]);
     let n = widen(share[d]);
     match count_table(
         &order[to - n..to],
@@ -138,7 +138,7 @@ fn check_table(
 // Whether every table can be placed, in turn from the root on. `end` is where the root's order ends: the last
 // directory's is the first.
 pub fn check_tables(
-    first: &[u32],
+    from: &[u32],
     share: &[u32],
     kind: &[u8],
     value: &[u64],
@@ -147,18 +147,18 @@ pub fn check_tables(
     size: &mut [u32],
     end: usize,
 ) -> Fitting
-    requires { ⌜ Sized (now first) (now share) (now kind) (now value) (now sized) (now order) (length (now size))
+    requires { ⌜ Sized (now from) (now share) (now kind) (now value) (now sized) (now order) (length (now size))
         × (end ≡ total (now share)) ⌝ }
-    ensures { λ r. ⌜ ((w : Sized (was first) (was share) (was kind) (was value) (was sized) (was order)
+    ensures { λ r. ⌜ ((w : Sized (was from) (was share) (was kind) (was value) (was sized) (was order)
         (length (was size))) (tables sectors : List ℕ) →
-        toldFitting r ≡ freeTold (takingUp (requestOf w) (was sized) (length (was first)) 0
+        toldFitting r ≡ freeTold (takingUp (requestOf w) (was sized) (length (was from)) 0
         (rooted (requestOf w) (was sized) tables sectors))) ⌝ }
 {
     let mut free = free_after_root(sized[0]);
     let mut to = end;
     let mut d = 0;
-    while d < first.len() {
-        match check_table(d, to, first, share, kind, value, sized, order, size, free) {
+    while d < from.len() {
+        match check_table(d, to, from, share, kind, value, sized, order, size, free) {
             Fitting::TooManyDirectoryEntries(x) => return Fitting::TooManyDirectoryEntries(x),
             Fitting::SectorOverflow(x) => return Fitting::SectorOverflow(x),
             Fitting::Free(next) => {
@@ -244,7 +244,7 @@ fn take_entries(
 fn take_table(
     d: usize,
     to: usize,
-    first: &[u32],
+    from: &[u32],
     share: &[u32],
     kind: &[u8],
     value: &[u64],
@@ -255,17 +255,17 @@ fn take_table(
     tables: &mut [u32],
     sectors: &mut [u32],
 ) -> u32
-    requires { ⌜ Turn (now first) (now share) (now kind) (now value) (now sized) (now order) (length (now size)) d to
-        × ((length (now tables) ≡ length (now first)) × (length (now sectors) ≡ length (now kind))) ⌝ }
-    requires { ⌜ ((w : Sized (now first) (now share) (now kind) (now value) (now sized) (now order)
+    requires { ⌜ Turn (now from) (now share) (now kind) (now value) (now sized) (now order) (length (now size)) d to
+        × ((length (now tables) ≡ length (now from)) × (length (now sectors) ≡ length (now kind))) ⌝ }
+    requires { ⌜ ((w : Sized (now from) (now share) (now kind) (now value) (now sized) (now order)
         (length (now size))) × ((p : Taking)
         × (takingUp (requestOf w) (now sized) 1 d (taking (now tables) (now sectors) free) ≡ gives p))) ⌝ }
-    ensures { λ r. ⌜ ((w : Sized (was first) (was share) (was kind) (was value) (was sized) (was order)
+    ensures { λ r. ⌜ ((w : Sized (was from) (was share) (was kind) (was value) (was sized) (was order)
         (length (was size))) (p : Taking) →
         takingUp (requestOf w) (was sized) 1 d (taking (was tables) (was sectors) free) ≡ gives p →
         taking (is tables) (is sectors) r ≡ p) ⌝ }
 {
-    let f = widen(first[d]);
+    let f = widen(from[d]);
     let n = widen(share[d]);
     fill_sizes(&kind[f..f + n], &value[f..f + n], sized, size);
     take_entries(
@@ -282,7 +282,7 @@ fn take_table(
 
 // Every table and entry gets its sector, where every table can be placed. `end` is where the root's order ends.
 pub fn take_tables(
-    first: &[u32],
+    from: &[u32],
     share: &[u32],
     kind: &[u8],
     value: &[u64],
@@ -293,15 +293,15 @@ pub fn take_tables(
     tables: &mut [u32],
     sectors: &mut [u32],
 )
-    requires { ⌜ ((w : Sized (now first) (now share) (now kind) (now value) (now sized) (now order)
+    requires { ⌜ ((w : Sized (now from) (now share) (now kind) (now value) (now sized) (now order)
         (length (now size))) × ((p : Taking)
-        × (takingUp (requestOf w) (now sized) (length (now first)) 0
+        × (takingUp (requestOf w) (now sized) (length (now from)) 0
         (rooted (requestOf w) (now sized) (now tables) (now sectors)) ≡ gives p))) ⌝ }
     requires { ⌜ (end ≡ total (now share))
-        × ((length (now tables) ≡ length (now first)) × (length (now sectors) ≡ length (now kind))) ⌝ }
-    ensures { λ _. ⌜ ((w : Sized (was first) (was share) (was kind) (was value) (was sized) (was order)
+        × ((length (now tables) ≡ length (now from)) × (length (now sectors) ≡ length (now kind))) ⌝ }
+    ensures { λ _. ⌜ ((w : Sized (was from) (was share) (was kind) (was value) (was sized) (was order)
         (length (was size))) (p : Taking) →
-        takingUp (requestOf w) (was sized) (length (was first)) 0
+        takingUp (requestOf w) (was sized) (length (was from)) 0
         (rooted (requestOf w) (was sized) (was tables) (was sectors)) ≡ gives p →
         (is tables ≡ p .tables) × (is sectors ≡ p .sectors)) ⌝ }
 {
@@ -309,11 +309,11 @@ pub fn take_tables(
     let mut free = free_after_root(sized[0]).number();
     let mut to = end;
     let mut d: usize = 0;
-    while d < first.len() {
+    while d < from.len() {
         free = take_table(
             d,
             to,
-            first,
+            from,
             share,
             kind,
             value,

@@ -9,21 +9,21 @@ use Rattle.units.specs.Told.{pick}
 use Rattle.avl_arena.specs.Test.{every}
 use Rattle.img_model.specs.Shares.{Request, columns, countOf, shareOf, tally, names, namings, isShare, namedOnce, isTree}
 use Rattle.img_model.proofs.Every.{every-same}
-use Rattle.img_tree.specs.Marks.{shares}
+use Rattle.img_tree.specs.inner.Marks.{shares}
 
-module _ (first share start len kind value bytes : List ℕ) where
+module _ (from share start len kind value bytes : List ℕ) where
   abbrev R : Request
-  R = columns first share start len kind value bytes
+  R = columns from share start len kind value bytes
 
   abbrev Q : Request
-  Q = shares first share kind value
+  Q = shares from share kind value
 
   namings-same : (x n : ℕ) → namings Q x n ≡ namings R x n
   namings-same x zero = refl
   namings-same x (suc n) = ap (λ (t : ℕ). t + tally (names (shareOf R n) x) (countOf R n)) (namings-same x n)
 
-  pub same-rule : isTree (shares first share kind value) ≡ isTree (columns first share start len kind value bytes)
+  pub same-rule : isTree (shares from share kind value) ≡ isTree (columns from share start len kind value bytes)
   unfolding isTree
   same-rule =
-      ap (λ (b : Bool). ltb 0 (length first) && (every (isShare R) (length first) && b))
-      (every-same (namedOnce Q) (namedOnce R) (length first) (λ x h. ap (λ (t : ℕ). pick (eqb x 0) true (eqb t 1)) (namings-same x (length first))))
+      ap (λ (b : Bool). ltb 0 (length from) && (every (isShare R) (length from) && b))
+      (every-same (namedOnce Q) (namedOnce R) (length from) (λ x h. ap (λ (t : ℕ). pick (eqb x 0) true (eqb t 1)) (namings-same x (length from))))

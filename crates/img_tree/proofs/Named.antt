@@ -10,7 +10,7 @@ use borrow.Author.Tests.{eq-eqb, ne-eqb}
 use Rattle.units.specs.Told.{pick}
 use Rattle.avl_arena.specs.Test.{every}
 use Rattle.avl_arena.proofs.Tested.{every-at, every-fails, every-from, every-more}
-use Rattle.img_tree.specs.Marks.{isNamed}
+use Rattle.img_tree.specs.inner.Marks.{isNamed}
 
 module _ (named : List ℕ) where
   -- the root needs no mark

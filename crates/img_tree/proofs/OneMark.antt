@@ -6,7 +6,7 @@ use mathlib.Core.List.{List}
 use lib.ListN.{length, getD, set}
 use borrow.Author.Tests.{lt-ltb, le-ltb, eq-eqb, ne-eqb}
 use Rattle.units.specs.Told.{pick}
-use Rattle.img_tree.specs.Marks.{isFree, markedAt, isEntryFree, entryMarked}
+use Rattle.img_tree.specs.inner.Marks.{isFree, markedAt, isEntryFree, entryMarked}
 
 module _ (named : List ℕ) (d x : ℕ) where
   -- it cannot be named, and the marks stay

@@ -8,7 +8,7 @@ use lib.ListN.{length, take, drop, length-drop}
 use lib.Seq.{length-take-le}
 use borrow.Author.Tests.{le-leb, lt-leb}
 use Rattle.img_model.specs.Shares.{Share, part}
-use Rattle.img_tree.specs.Marks.{entries, isMarkable, Marked, isPartMarkable}
+use Rattle.img_tree.specs.inner.Marks.{entries, isMarkable, Marked, isPartMarkable}
 
 module _ (named : List ℕ) (d f n : ℕ) (kind value : List ℕ) where
   -- they reach past the list

@@ -14,7 +14,7 @@ use Rattle.avl_arena.specs.Test.{every}
 use Rattle.avl_arena.proofs.Tested.{and-l, and-r, and-both, every-fails, every-from, every-more}
 use Rattle.img_model.specs.Shares.{Share, isDirectory, valueOf, tally, names, namesLater}
 use Rattle.img_model.proofs.Every.{tally-hit, tally-miss, tally-grows}
-use Rattle.img_tree.specs.Marks.{isFree, markedAt, isEntryFree, entryMarked, Marks, times, isMarkable, Marked}
+use Rattle.img_tree.specs.inner.Marks.{isFree, markedAt, isEntryFree, entryMarked, Marks, times, isMarkable, Marked}
 
 -- the loop's invariant: the first i entries of directory d are marked
 pub record Part (before : List ℕ) (S : Share) (d i : ℕ) (now : List ℕ) : Type 0 where

@@ -13,7 +13,7 @@ use Rattle.avl_arena.proofs.Tested.{and-l, and-r, and-both, every-at, every-fro
 use Rattle.img_model.specs.Shares.{Request, Share, directoriesOf, entriesOf, firstOf, countOf, shareOf, part, tally, names, namings, namesLater, isShare, namedOnce, isTree}
 use Rattle.img_model.proofs.Every.{every-same}
 use Rattle.img_model.proofs.Rule.{share-inside, all-later, named-at-most-once}
-use Rattle.img_tree.specs.Marks.{entries, Marks, times, isMarkable, Marked, isPartMarkable, isNamed}
+use Rattle.img_tree.specs.inner.Marks.{entries, Marks, times, isMarkable, Marked, isPartMarkable, isNamed}
 use Rattle.img_tree.proofs.Turn.{never}
 
 -- the loop's invariant: the entries of the directories below d are marked

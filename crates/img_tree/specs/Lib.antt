@@ -1,2 +1,2 @@
 -- What the steps of checking an image's directories take of one another.
-pub mod Marks
+pub mod inner

@@ -6,8 +6,8 @@ ghost use lib.ListN.{length};
 ghost use Rattle.units.specs.Lent.{was, is};
 ghost use Rattle.avl_arena.specs.Test.{every};
 ghost use Rattle.img_model.specs.Shares.{part, isTree};
-ghost use Rattle.img_tree.specs.Marks.{shares, Even, entries, isFree, markedAt, isEntryFree, entryMarked};
-ghost use Rattle.img_tree.specs.Marks.{Marks, isMarkable, Marked, isPartMarkable, isNamed};
+ghost use Rattle.img_tree.specs.inner.Marks.{shares, Even, entries, isFree, markedAt, isEntryFree, entryMarked};
+ghost use Rattle.img_tree.specs.inner.Marks.{Marks, isMarkable, Marked, isPartMarkable, isNamed};
 
 // Marks the directory x, which an entry of directory d names: false where it is d, an earlier one or none, or is
 // marked.
@@ -84,17 +84,17 @@ fn all_marked(named: &[u32]) -> bool
 
 // There is a directory, every share lies in the list, and every directory but the root is named exactly once, by an
 // earlier one. `named` is scratch.
-pub fn is_tree(first: &[u32], share: &[u32], kind: &[u8], value: &[u64], named: &mut [u32]) -> bool
-    requires { ⌜ Even (shares (now first) (now share) (now kind) (now value)) (length (now named)) ⌝ }
-    ensures { λ r. ⌜ r ≡ isTree (shares (was first) (was share) (was kind) (was value)) ⌝ }
+pub fn is_tree(from: &[u32], share: &[u32], kind: &[u8], value: &[u64], named: &mut [u32]) -> bool
+    requires { ⌜ Even (shares (now from) (now share) (now kind) (now value)) (length (now named)) ⌝ }
+    ensures { λ r. ⌜ r ≡ isTree (shares (was from) (was share) (was kind) (was value)) ⌝ }
 {
-    if first.len() == 0 {
+    if from.len() == 0 {
         return false;
     }
     clear_words(named);
     let mut d: usize = 0;
-    while d < first.len() {
-        if !mark_directory(d, first[d], share[d], kind, value, named) {
+    while d < from.len() {
+        if !mark_directory(d, from[d], share[d], kind, value, named) {
             return false;
         }
         d += 1;

@@ -10,7 +10,7 @@ use native.Mathlib.Omega.{arith}
 use native.Mathlib.Numerals.{add-one}
 use lib.ListN.{length, take, drop, set, length-append, length-take, length-drop, length-set}
 use lib.Seq.{take-at, drop-at, drop-drop, drop-append-add, set-split}
-use Rattle.layout_bytes.specs.Bytes.{putAt}
+use Rattle.layout_bytes.specs.inner.Bytes.{putAt}
 
 pub put-length : (d : List ℕ) (at : ℕ) (s : List ℕ) → at + length s ≤ length d → length (putAt d at s) ≡ length d
 unfolding putAt

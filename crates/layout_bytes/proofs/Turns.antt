@@ -7,7 +7,8 @@ use native.Mathlib.Numerals.{add-one}
 use borrow.Author.Tests.{eq-eqb, ne-eqb}
 use lib.ListN.{length, getD, take, drop, set, replicate, length-replicate, replicate-append-replicate, drop-of-length-le}
 use lib.Seq.{drop-cons, set-at, append-snoc, paste, paste-suc, take-length}
-use Rattle.layout_bytes.specs.Bytes.{putAt, all}
+use Rattle.layout_bytes.specs.Bytes.{all}
+use Rattle.layout_bytes.specs.inner.Bytes.{putAt}
 
 -- one more byte filled
 pub fill-turn : (d : List ℕ) (i b : ℕ) → i < length d → set (replicate i b ++ drop i d) i b ≡ replicate (i + 1) b ++ drop (i + 1) d

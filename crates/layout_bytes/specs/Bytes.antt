@@ -1,9 +1,9 @@
 -- Little-endian numbers as bytes, both ways, and bytes put over others in a list. Assumes nothing.
 use Prim.Native.Nat.{ℕ, _+_, _*_, _/_, _%_}
 use mathlib.Core.Bool.{Bool, true, false}
-use mathlib.Core.List.{List, [], _∷_, _++_}
+use mathlib.Core.List.{List, [], _∷_}
 use lib.Dec.{eqb}
-use lib.ListN.{length, getD, take, drop}
+use lib.ListN.{getD}
 
 -- the number of two bytes at a place of a list
 abbrev pub u16At : List ℕ → ℕ → ℕ
@@ -20,10 +20,6 @@ le16 x = x % 256 ∷ x / 256 % 256 ∷ []
 -- a number as four bytes
 abbrev pub le32 : ℕ → List ℕ
 le32 x = x % 256 ∷ x / 256 % 256 ∷ x / 65536 % 256 ∷ x / 16777216 % 256 ∷ []
-
--- d with s in the place of as many of its bytes, from place `at` on
-unfoldable pub putAt : List ℕ → ℕ → List ℕ → List ℕ
-putAt d at s = take at d ++ (s ++ drop (at + length s) d)
 
 -- both
 abbrev pub both : Bool → Bool → Bool

@@ -5,7 +5,8 @@ ghost use mathlib.Core.List.{[], _∷_, _++_};
 ghost use Prim.Native.Nat.{_+_, _≤_, _<_};
 ghost use lib.ListN.{length, drop, replicate};
 ghost use Rattle.units.specs.Lent.{was, is};
-ghost use Rattle.layout_bytes.specs.Bytes.{u16At, u32At, le16, le32, putAt, all};
+ghost use Rattle.layout_bytes.specs.Bytes.{u16At, u32At, le16, le32, all};
+ghost use Rattle.layout_bytes.specs.inner.Bytes.{putAt};
 
 fn wide16(x: u8) -> u16
     ensures { λ r. ⌜ (r ≡ x) × (r < 256) ⌝ }

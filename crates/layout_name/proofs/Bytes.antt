@@ -3,7 +3,8 @@ use Prim.Native.Nat.{ℕ, _≤_, _<_}
 use mathlib.Core.Path.{_≡_, sym, ap, ap₂, _∙_}
 use native.Mathlib.Omega.{arith}
 use Rattle.layout_name.specs.declared.Order.the-variants.{Less, Equal, Greater}
-use Rattle.layout_name.specs.Order.{byteOrder, numberOrder, raised}
+use Rattle.layout_name.specs.Order.{numberOrder, raised}
+use Rattle.layout_name.specs.inner.Order.{byteOrder}
 use Rattle.layout_name.proofs.Laws.{number-less, number-greater, number-equal}
 
 pub equal-bytes : (p q : ℕ) → p ≡ q → Equal ≡ byteOrder p q

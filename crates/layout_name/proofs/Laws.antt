@@ -21,7 +21,8 @@ use borrow.Author.Tests.{lt-ltb, le-ltb, le-leb, lt-leb}
 use Rattle.units.specs.Told.{pick}
 use Rattle.layout_name.specs.declared.Order.{Order}
 use Rattle.layout_name.specs.declared.Order.the-variants.{Less, Equal, Greater}
-use Rattle.layout_name.specs.Order.{raised, numberOrder, andThen, listOrder, orderBy, nameOrder, opposite}
+use Rattle.layout_name.specs.Order.{raised, numberOrder, andThen, listOrder, orderBy, nameOrder}
+use Rattle.layout_name.specs.inner.Order.{opposite}
 
 -- two numbers are in one of three orders
 pub data Three (x y : ℕ) : Type 0 where

@@ -5,7 +5,8 @@ use mathlib.Core.List.{List, [], _∷_, _++_, map}
 use native.Mathlib.Omega.{arith}
 use lib.ListN.{length, getD, set, take, replicate, length-take, length-map, List·getD-append, List·getD-map}
 use lib.Seq.{take-length}
-use Rattle.layout_name.specs.Order.{raised, raisedCopy}
+use Rattle.layout_name.specs.Order.{raised}
+use Rattle.layout_name.specs.inner.Order.{raisedCopy}
 
 -- a byte of the name, raised
 pub raised-at : (a copy : List ℕ) (i : ℕ) → copy ≡ raisedCopy a → i < length a → getD copy i 0 ≡ raised (getD a i 0)

@@ -5,7 +5,8 @@ use mathlib.Core.List.{List}
 use lib.ListN.{length, drop, getD}
 use Rattle.layout_name.specs.declared.Order.{Order}
 use Rattle.layout_name.specs.declared.Order.the-variants.{Less, Equal, Greater}
-use Rattle.layout_name.specs.Order.{nameOrder, byteOrder, andThen}
+use Rattle.layout_name.specs.Order.{nameOrder, andThen}
+use Rattle.layout_name.specs.inner.Order.{byteOrder}
 use Rattle.layout_name.proofs.Laws.{name-step, name-left-ends, name-right-ends, name-both-end}
 
 -- so far the names are alike: what is left of them decides

@@ -1,2 +1,3 @@
 -- What names and their order are.
 pub mod Order
+pub mod inner

@@ -3,9 +3,8 @@
 -- every ASCII byte. Another key (a code point) is another argument of `orderBy`; the laws, in proofs/Laws.antt,
 -- hold for every key.
 use Prim.Native.Nat.{ℕ, _-_}
-use mathlib.Core.List.{List, [], _∷_, _++_, map}
+use mathlib.Core.List.{List, [], _∷_, map}
 use lib.Dec.{ltb, leb}
-use lib.ListN.{length, replicate}
 use Rattle.units.specs.Told.{pick}
 use Rattle.layout_name.specs.declared.Order.{Order}
 use Rattle.layout_name.specs.declared.Order.the-variants.{Less, Equal, Greater}
@@ -35,20 +34,6 @@ orderBy key a b = listOrder (map key a) (map key b)
 unfoldable pub raised : ℕ → ℕ
 raised b = pick (leb 97 b) (pick (leb b 122) (b - 32) b) b
 
--- the order of two bytes, raised
-unfoldable pub byteOrder : ℕ → ℕ → Order
-byteOrder p q = numberOrder (raised p) (raised q)
-
 -- the order of two names
 unfoldable pub nameOrder : List ℕ → List ℕ → Order
 nameOrder a b = orderBy raised a b
-
--- the name raised, with zeros up to 255 bytes
-unfoldable pub raisedCopy : List ℕ → List ℕ
-raisedCopy a = map raised a ++ replicate (255 - length a) 0
-
--- the other way round
-abbrev pub opposite : Order → Order
-opposite Less = Greater
-opposite Equal = Equal
-opposite Greater = Less

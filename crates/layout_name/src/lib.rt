@@ -5,7 +5,8 @@ ghost use Prim.Native.Nat.{_+_, _≤_, min};
 ghost use lib.Dec.{eqb};
 ghost use lib.ListN.{length, drop, getD};
 ghost use Rattle.units.specs.Lent.{was};
-ghost use Rattle.layout_name.specs.Order.{raised, byteOrder, nameOrder, raisedCopy};
+ghost use Rattle.layout_name.specs.Order.{raised, nameOrder};
+ghost use Rattle.layout_name.specs.inner.Order.{byteOrder, raisedCopy};
 
 // How one name stands to another.
 pub enum Order {

@@ -5,7 +5,8 @@ ghost use mathlib.Core.Path.{_≡_};
 ghost use Prim.Native.Nat.{_+_, _≤_};
 ghost use lib.ListN.{length};
 ghost use Rattle.units.specs.Lent.{was, is};
-ghost use Rattle.layout_bytes.specs.Bytes.{putAt, all};
+ghost use Rattle.layout_bytes.specs.Bytes.{all};
+ghost use Rattle.layout_bytes.specs.inner.Bytes.{putAt};
 ghost use Rattle.layout_node.specs.Header.{headerOf, headerBytes, isBlank, isDirectory, entryLength};
 
 // The fields of an entry but its name.

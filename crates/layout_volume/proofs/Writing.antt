@@ -6,7 +6,8 @@ use native.Mathlib.Omega.{arith}
 use lib.ListN.{length, drop, replicate, length-append}
 use borrow.Author.Tests.{lt-ltb, le-ltb}
 use Rattle.units.specs.Told.{gives, refuses}
-use Rattle.layout_bytes.specs.Bytes.{le32, putAt}
+use Rattle.layout_bytes.specs.Bytes.{le32}
+use Rattle.layout_bytes.specs.inner.Bytes.{putAt}
 use Rattle.layout_bytes.proofs.Put.{put-then, put-seam}
 use Rattle.layout_volume.specs.declared.Descriptor.{Descriptor}
 use Rattle.layout_volume.specs.Descriptor.{mark, descriptorBytes, writeOf, bytesAfter}

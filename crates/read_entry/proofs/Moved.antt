@@ -18,7 +18,7 @@ use Rattle.units.specs.declared.Sector.{Sector}
 use Rattle.units.specs.declared.Region.{Region}
 use Rattle.layout_node.specs.Header.{headerOf, isBlank}
 use Rattle.read_entry.specs.Entry.{Placed, byteOf, readHere, readAt, nameOf}
-use Rattle.read_entry.specs.Part.{partOf, placedOn, moved}
+use Rattle.read_entry.specs.inner.Part.{partOf, placedOn, moved}
 
 -- two tests whose facts follow from each other
 same-by : (a b c d : ℕ) (p q : Bool) → ltb a b ≡ p → ltb c d ≡ q → (a < b → c < d) → (c < d → a < b) → p ≡ q

@@ -9,7 +9,7 @@ ghost use mathlib.Core.Path.{_≡_};
 ghost use Prim.Native.Nat.{_<_, _^_};
 ghost use Rattle.units.specs.Lent.{was};
 ghost use Rattle.read_entry.specs.Entry.{told, readHere, readAt, nameOf};
-ghost use Rattle.read_entry.specs.Part.{partOf};
+ghost use Rattle.read_entry.specs.inner.Part.{partOf};
 
 // What reading at an offset finds.
 pub enum Read {

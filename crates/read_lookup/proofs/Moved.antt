@@ -19,7 +19,7 @@ use Rattle.layout_name.specs.Order.{nameOrder}
 use Rattle.layout_node.specs.declared.Header.{Header}
 use Rattle.read_entry.specs.Entry.{Placed, readAt, nameOf}
 use Rattle.read_entry.specs.Links.{isIn, lookupAbsent}
-use Rattle.read_entry.specs.Part.{partOf, placedOn, moved}
+use Rattle.read_entry.specs.inner.Part.{partOf, placedOn, moved}
 use Rattle.read_entry.proofs.Fit.{entry-held}
 use Rattle.read_entry.proofs.Moved.{read-moved, name-moved, read-nothing, Starts, inside, outside, starts}
 use Rattle.read_lookup.specs.declared.Looked.{Looked}

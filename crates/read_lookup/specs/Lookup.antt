@@ -15,8 +15,6 @@ use Rattle.layout_name.specs.declared.Order.the-variants.{Less, Equal, Greater}
 use Rattle.layout_name.specs.Order.{nameOrder}
 use Rattle.read_entry.specs.Entry.{Placed, readAt, nameOf}
 use Rattle.read_entry.specs.Links.{isIn, lookupAbsent}
-use Rattle.read_lookup.specs.declared.Step.{Step}
-use Rattle.read_lookup.specs.declared.Step.the-variants as step
 use Rattle.read_lookup.specs.declared.Looked.{Looked}
 use Rattle.read_lookup.specs.declared.Looked.the-variants as looked
 
@@ -93,11 +91,3 @@ told (looked.DoesNotExist n) = refuses 22 (n ∷ [])
 told (looked.OutOfBounds o) = refuses 23 (o .0 ∷ [])
 told (looked.Truncated o) = refuses 24 (o .0 ∷ [])
 told looked.Looped = refuses 25 []
-
--- and of a step
-abbrev pub leading : Step → Leads
-leading (step.Found h p) = found (record { header = h; place = p })
-leading step.Absent = missing
-leading (step.OutOfBounds o) = refused 23 (o .0 ∷ [])
-leading (step.Truncated o) = refused 24 (o .0 ∷ [])
-leading (step.Next o) = onward (o .0)

@@ -9,7 +9,8 @@ use units::Sector;
 ghost use mathlib.Core.Path.{_≡_};
 ghost use Rattle.units.specs.Lent.{was};
 ghost use Rattle.read_entry.specs.Links.{lookupAbsent};
-ghost use Rattle.read_lookup.specs.Lookup.{leading, byLink, stepAt, anyHigh, told, lookupOf};
+ghost use Rattle.read_lookup.specs.Lookup.{byLink, stepAt, anyHigh, told, lookupOf};
+ghost use Rattle.read_lookup.specs.inner.Lookup.{leading};
 
 // What the header at one offset leads to.
 pub enum Step {

@@ -19,7 +19,8 @@ use Rattle.read_path.specs.declared.Turn.{Turn}
 use Rattle.read_path.specs.declared.Turn.the-variants as turn
 use Rattle.read_path.specs.declared.PathFound.{PathFound}
 use Rattle.read_path.specs.declared.PathFound.the-variants as path-found
-use Rattle.read_path.specs.Path.{grow, split, unended, lastOf, turnOf, onward, partsFrom, firstLen, told, turning}
+use Rattle.read_path.specs.Path.{grow, split, unended, lastOf, turnOf, onward, partsFrom, told}
+use Rattle.read_path.specs.inner.Path.{firstLen, turning}
 
 -- no slash: one part, the whole
 only-by : (x : ℕ) (xs : List ℕ) (b : Bool) → (firstLen xs ≡ length xs → split xs ≡ xs ∷ []) → pick b zero (suc (firstLen xs)) ≡ suc (length xs) → pick b ([] ∷ split xs) (grow x (split xs)) ≡ (x ∷ xs) ∷ []

@@ -1,2 +1,3 @@
 -- What a path leads to.
 pub mod Path
+pub mod inner

@@ -1,6 +1,6 @@
 -- What a path leads to: leading slashes go, one trailing slash goes, the rest is split at each slash, and each part
 -- is looked up in the table that the part before it names. Assumes nothing.
-use Prim.Native.Nat.{ℕ, zero, suc}
+use Prim.Native.Nat.{ℕ}
 use mathlib.Core.List.{List, [], _∷_}
 use lib.Dec.{eqb}
 use Rattle.units.specs.Told.{Told, gives, refuses, pick}
@@ -12,8 +12,6 @@ use Rattle.read_entry.specs.Links.{lookupAbsent}
 use Rattle.read_lookup.specs.Lookup.{Finding, anyHigh, lookupBy}
 use Rattle.read_path.specs.declared.PathFound.{PathFound}
 use Rattle.read_path.specs.declared.PathFound.the-variants as path-found
-use Rattle.read_path.specs.declared.Turn.{Turn}
-use Rattle.read_path.specs.declared.Turn.the-variants as turn
 
 -- leading slashes (47) go
 unfoldable pub trim : List ℕ → List ℕ
@@ -85,12 +83,3 @@ told (path-found.Truncated o) = refuses 24 (o .0 ∷ [])
 told path-found.Looped = refuses 25 []
 told path-found.IsNotDirectory = refuses 27 []
 told path-found.NoDirent = refuses 28 []
-
-abbrev pub turning : Turn → Turns
-turning (turn.Into t) = into t
-turning (turn.Stop f) = stops (told f)
-
--- how many bytes stand before the first slash
-unfoldable pub firstLen : List ℕ → ℕ
-firstLen [] = zero
-firstLen (x ∷ xs) = pick (eqb x 47) zero (suc (firstLen xs))

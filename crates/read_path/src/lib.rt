@@ -9,7 +9,8 @@ ghost use Prim.Native.Nat.{_+_, _≤_};
 ghost use lib.ListN.{length, drop};
 ghost use Rattle.units.specs.Lent.{was};
 ghost use Rattle.read_lookup.specs.Lookup as lookup;
-ghost use Rattle.read_path.specs.Path.{trim, firstLen, told, turning, lastOf, turnOf, pathOf};
+ghost use Rattle.read_path.specs.Path.{trim, told, lastOf, turnOf, pathOf};
+ghost use Rattle.read_path.specs.inner.Path.{firstLen, turning};
 
 // What a path leads to.
 pub enum PathFound {

@@ -10,11 +10,11 @@ use Rattle.units.specs.declared.Region.{Region}
 use Rattle.layout_node.specs.declared.Header.{Header}
 use Rattle.read_entry.specs.Entry.{Placed, readAt}
 use Rattle.read_entry.specs.Links.{walkAbsent}
-use Rattle.read_entry.specs.Part.{partOf, moved}
+use Rattle.read_entry.specs.inner.Part.{partOf, moved}
 use Rattle.read_entry.proofs.Moved.{read-moved, read-nothing, Starts, inside, outside, starts}
 use Rattle.read_walk.specs.declared.Walked.{Walked}
 use Rattle.read_walk.specs.Walk.{before, push, byRead, toEntry, walkFrom}
-use Rattle.read_walk.specs.Run.{Runs}
+use Rattle.read_walk.specs.inner.Run.{Runs}
 use Rattle.read_walk.proofs.Steps.{walk-refused}
 use Rattle.read_walk.proofs.Turn.{walkOn}
 

@@ -7,7 +7,7 @@ use native.Mathlib.Omega.{arith}
 use native.Mathlib.Numerals.{add-one}
 use lib.ListN.{length, set, getD}
 use lib.Seq.{getD-set-same, getD-set-other}
-use Rattle.read_walk.specs.Run.{stackOf}
+use Rattle.read_walk.specs.inner.Run.{stackOf}
 
 -- a store at or above the height does not reach the stack
 pub stack-below : (s : List ℕ) (t i v : ℕ) → t ≤ i → stackOf (set s i v) t ≡ stackOf s t

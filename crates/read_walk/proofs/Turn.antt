@@ -21,7 +21,7 @@ use Rattle.read_entry.specs.Links.{walkAbsent}
 use Rattle.read_walk.specs.declared.Walked.{Walked}
 use Rattle.read_walk.specs.declared.Walked.the-variants as walked
 use Rattle.read_walk.specs.Walk.{before, push, walkFrom, counted, told}
-use Rattle.read_walk.specs.Run.{stackOf, Pushed, keptOf, listedOf, Runs}
+use Rattle.read_walk.specs.inner.Run.{stackOf, Pushed, keptOf, listedOf, Runs}
 use Rattle.read_walk.proofs.Stack.{stack-pop}
 use Rattle.read_walk.proofs.Steps.{before-none, before-before, walk-none, walk-nothing, walk-refused, walk-full, walk-entry}
 

@@ -1,3 +1,3 @@
 -- What a walk lists, and what its loop leaves.
 pub mod Walk
-pub mod Run
+pub mod inner

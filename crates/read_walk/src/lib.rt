@@ -14,7 +14,7 @@ ghost use Rattle.units.specs.Lent.{was, is};
 ghost use Rattle.read_entry.specs.Entry.{readAt};
 ghost use Rattle.read_entry.specs.Links.{walkAbsent};
 ghost use Rattle.read_walk.specs.Walk.{walkFrom, told, walkAnswer, listAfter, scratchAfter};
-ghost use Rattle.read_walk.specs.Run.{Pushed, Runs, keptOf};
+ghost use Rattle.read_walk.specs.inner.Run.{Pushed, Runs, keptOf};
 
 // What a walk answers.
 pub enum Walked {

@@ -15,11 +15,11 @@ use Rattle.layout_node.specs.declared.Header.{Header}
 use Rattle.layout_node.specs.Header.{entryLength}
 use Rattle.read_entry.specs.Entry.{Placed, nameOf}
 use Rattle.read_entry.specs.Links.{isIn}
-use Rattle.strict_map.specs.Map.{Tested, Marked}
-use Rattle.strict.specs.declared.Checked.the-variants as checked
+use Rattle.strict_map.specs.inner.Map.{Tested, Marked}
+use Rattle.strict_rule.specs.declared.Checked.the-variants as checked
 use Rattle.strict.specs.declared.Verdict.the-variants as verdict
-use Rattle.strict.specs.Strict.{endOf, apart, placed, ordered, judged, verdictAt}
-use Rattle.strict.specs.Run.{visitOf, Mapped, Judged}
+use Rattle.strict_rule.specs.Strict.{endOf, apart, placed, ordered, judged, verdictAt}
+use Rattle.strict.specs.inner.Run.{visitOf, Mapped, Judged}
 use Rattle.strict.proofs.Units.{tested-apart}
 
 -- an entry at link l, from o to o + len

@@ -10,13 +10,13 @@ use Rattle.units.specs.Told.{Told, gives, refuses}
 use Rattle.units.specs.declared.Sector.{Sector}
 use Rattle.units.specs.declared.Region.{Region}
 use Rattle.read_entry.specs.Entry.{Placed, readAt, nameOf}
-use Rattle.read_entry.specs.Part.{partOf, placedOn, moved}
+use Rattle.read_entry.specs.inner.Part.{partOf, placedOn, moved}
 use Rattle.read_entry.proofs.Moved.{read-moved, name-moved, read-nothing, Starts, inside, outside, starts}
 use Rattle.read_walk.specs.Walk.{before}
-use Rattle.strict.specs.declared.Checked.{Checked}
-use Rattle.strict.specs.Strict.{Visit, root, visitLeft, visitRight, push, endOf, endBy, nameBy, nameAt, apart, placed, ordered, verdictAt, ifGood, byRead, toEntry, strictFrom}
-use Rattle.strict.specs.Run.{Runs}
-use Rattle.strict.proofs.Steps.{check-refused}
+use Rattle.strict_rule.specs.declared.Checked.{Checked}
+use Rattle.strict_rule.specs.Strict.{Visit, root, visitLeft, visitRight, push, endOf, endBy, nameBy, nameAt, apart, placed, ordered, verdictAt, ifGood, byRead, toEntry, strictFrom}
+use Rattle.strict.specs.inner.Run.{Runs}
+use Rattle.strict_rule.proofs.Steps.{check-refused}
 use Rattle.strict.proofs.Turn.{checkOn}
 
 end-alike : (b : ℕ) (r : Told (Option Placed)) (o : ℕ) → endBy (moved b r) o ≡ endBy r o

@@ -16,8 +16,8 @@ use Rattle.read_entry.specs.declared.Read.{Read}
 use Rattle.read_entry.specs.declared.Read.the-variants as read
 use Rattle.read_entry.specs.Entry.{Placed, nameOf}
 use Rattle.read_entry.specs.Entry as entry-said
-use Rattle.strict.specs.Strict.{nameBy, isLess, lessThan, moreThan, nameAt, ordered}
-use Rattle.strict.specs.Run.{boundOf, visitOf}
+use Rattle.strict_rule.specs.Strict.{nameBy, isLess, lessThan, moreThan, nameAt, ordered}
+use Rattle.strict.specs.inner.Run.{boundOf, visitOf}
 
 -- the order r of two names, where o is the definition's
 module _ (o r : Order) (is : r ≡ o) where

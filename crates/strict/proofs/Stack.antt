@@ -10,8 +10,8 @@ use Rattle.units.specs.declared.Link.{Link}
 use Rattle.layout_node.specs.declared.Header.{Header}
 use Rattle.read_entry.specs.Links.{isIn}
 use Rattle.read_walk.proofs.Stack.{stack-push}
-use Rattle.strict.specs.Strict.{Visit, visitLeft, visitRight, push}
-use Rattle.strict.specs.Run.{boundOf, visitOf, visitsOf, Pushed, Entered}
+use Rattle.strict_rule.specs.Strict.{Visit, visitLeft, visitRight, push}
+use Rattle.strict.specs.inner.Run.{boundOf, visitOf, visitsOf, Pushed, Entered}
 
 -- the number of a visit of link k under u and over v: its three parts
 module _ (k u v : ℕ) (low-k : k < 65536) (low-u : u < 65536) (low-v : v < 65536) where

@@ -24,19 +24,20 @@ use Rattle.read_entry.specs.Entry.{Placed, readAt, nameOf}
 use Rattle.read_entry.specs.Links.{isIn}
 use Rattle.read_entry.specs.Entry as entry-said
 use Rattle.read_walk.specs.Walk.{before, counted}
-use Rattle.read_walk.specs.Run.{stackOf}
+use Rattle.read_walk.specs.inner.Run.{stackOf}
 use Rattle.read_walk.proofs.Stack.{stack-pop}
 use Rattle.read_walk.proofs.Steps.{before-none, before-before}
-use Rattle.strict_map.specs.Map.{Marked}
+use Rattle.strict_map.specs.inner.Map.{Marked}
 use Rattle.strict_map.proofs.Turn.{below-or-not}
-use Rattle.strict.specs.declared.Checked.{Checked}
-use Rattle.strict.specs.declared.Checked.the-variants as checked
+use Rattle.strict_rule.specs.declared.Checked.{Checked}
+use Rattle.strict_rule.specs.declared.Checked.the-variants as checked
 use Rattle.strict.specs.declared.Verdict.{Verdict}
 use Rattle.strict.specs.declared.Verdict.the-variants as verdict
-use Rattle.strict.specs.Strict.{Visit, root, visitLeft, visitRight, push, endOf, endBy, inSector, apart, placed, ordered, verdictAt, strictFrom, told}
-use Rattle.strict.specs.Run.{visitOf, visitsOf, Entered, Mapped, Judged, keptOf, Runs}
-use Rattle.strict.proofs.Units.{both-first, both-second, marked-mapped, none-mapped}
-use Rattle.strict.proofs.Steps.{NoFault, verdict-good, check-none, check-nothing, check-refused, check-bad, check-entry}
+use Rattle.strict_rule.specs.Strict.{Visit, root, visitLeft, visitRight, push, endOf, endBy, inSector, apart, placed, ordered, verdictAt, strictFrom, told}
+use Rattle.strict.specs.inner.Run.{visitOf, visitsOf, Entered, Mapped, Judged, keptOf, Runs}
+use Rattle.strict_rule.proofs.Clear.{both-first, both-second}
+use Rattle.strict.proofs.Units.{marked-mapped, none-mapped}
+use Rattle.strict_rule.proofs.Steps.{NoFault, verdict-good, check-none, check-nothing, check-refused, check-bad, check-entry}
 
 abbrev pub checkOn : List ℕ → Sector → Region → ℕ → List ℕ → List Visit → Told (List ℕ)
 checkOn w first t = strictFrom w (readAt w first t) (t .size)

@@ -7,33 +7,18 @@ use mathlib.Core.Logic.{_⊎_, inl, inr, ⊎-elim}
 use mathlib.Core.List.{List, [], _∷_, _++_, List·Memᴰ, List·Memᴰ·head, List·Memᴰ·tail, List·Memᴰ·not-nil, List·Memᴰ·append-cases, List·Memᴰ·eq-of-singleton}
 use mathlib.Core.Option.{Option}
 use native.Mathlib.Omega.{arith}
-use borrow.Author.Tests.{eq-eqb, ne-eqb, eqb-true, le-leb, lt-leb, leb-true}
-use lib.Dec.{leb, eqb}
+use borrow.Author.Tests.{eq-eqb, ne-eqb, eqb-true}
+use lib.Dec.{eqb}
 use lib.ListN.{getD, replicate, length-replicate, getD-replicate}
-use Rattle.units.specs.Told.{Told, pick}
+use Rattle.units.specs.Told.{Told}
 use Rattle.layout_bytes.specs.Bytes.{both}
 use Rattle.read_entry.specs.Entry.{Placed}
 use Rattle.read_entry.specs.Links.{isIn}
-use Rattle.strict_map.specs.Map.{Tested, Taken, Marked}
+use Rattle.strict_map.specs.inner.Map.{Tested, Taken, Marked}
 use Rattle.strict_map.proofs.Turn.{below-or-not}
-use Rattle.strict.specs.Strict.{endBy, clear, apart}
-use Rattle.strict.specs.Run.{Whole, Mapped}
-
--- a test that is not true is false
-pub not-true-is-false : (b : Bool) → (b ≡ true → ⊥) → b ≡ false
-not-true-is-false true n = absurd (n refl)
-not-true-is-false false n = refl
-
-pub true-not-false : {b : Bool} → b ≡ true → b ≡ false → ⊥
-true-not-false p q = let z : _≡_ {A = ℕ} 0 1 = cc in omega arith
-
-pub both-first : (a b : Bool) → both a b ≡ true → a ≡ true
-both-first true b e = refl
-both-first false b e = e
-
-pub both-second : (a b : Bool) → both a b ≡ true → b ≡ true
-both-second true b e = e
-both-second false b e = let z : _≡_ {A = ℕ} 0 1 = cc in absurd (omega arith)
+use Rattle.strict_rule.specs.Strict.{endBy, clear, apart}
+use Rattle.strict_rule.proofs.Clear.{not-true-is-false, true-not-false, both-first, both-second, is-in-last, is-in-other, clear-says, is-clear, not-clear}
+use Rattle.strict.specs.inner.Run.{Whole, Mapped}
 
 both-end : (a : Bool) → both a true ≡ a
 both-end true = refl
@@ -48,25 +33,6 @@ both-assoc true b c = refl
 both-assoc false b c = refl
 
 module _ (f : ℕ → Told (Option Placed)) where
-  clear-by : (e o p q : ℕ) (t : Bool) → leb e p ≡ t → pick t true (leb q o) ≡ true → (e ≤ p) ⊎ (q ≤ o)
-  clear-by e o p q true d h = inl (leb-true e p d)
-  clear-by e o p q false d h = inr (leb-true q o h)
-
-  -- clear, in numbers
-  pub clear-says : (o e x : ℕ) → clear f o e x ≡ true → (e ≤ x) ⊎ (endBy (f x) x ≤ o)
-  clear-says o e x h = clear-by e o x (endBy (f x) x) (leb e x) refl h
-
-  pub is-clear : (o e x : ℕ) → (e ≤ x) ⊎ (endBy (f x) x ≤ o) → clear f o e x ≡ true
-  is-clear o e x (inl h) = rw (le-leb e x h)
-  is-clear o e x (inr h) = after (leb e x)
-    where
-      after : (t : Bool) → pick t true (leb (endBy (f x) x) o) ≡ true
-      after true = refl
-      after false = le-leb _ _ h
-
-  pub not-clear : (o e x : ℕ) → x < e → o < endBy (f x) x → clear f o e x ≡ false
-  not-clear o e x a b = rw (lt-leb e x a) (lt-leb _ _ b)
-
   -- a part of what is apart is apart
   apart-part : (o e p q : ℕ) (xs : List ℕ) → o ≤ p → q ≤ e → apart f o e xs ≡ true → apart f p q xs ≡ true
   unfolding apart
@@ -135,21 +101,6 @@ module _ (f : ℕ → Told (Option Placed)) where
 
   pub tested-apart : (k t : ℕ) → k < t → t ≤ 65604 → (seen m : List ℕ) → Mapped f seen m → (r : Bool) → Tested m k t r → r ≡ apart f (4 * k) (4 * t) seen
   tested-apart k t h l seen m map r d = tested-by k t h seen m map l r d
-
--- a list with one more at its end
-pub is-in-last : (u x : ℕ) (xs : List ℕ) → u ≡ x → isIn u (xs ++ (x ∷ [])) ≡ true
-unfolding isIn
-is-in-last u x [] e = rw (eq-eqb u x e)
-is-in-last u x (y ∷ ys) e = ap (pick (eqb u y) true) (is-in-last u x ys e) ∙ always (eqb u y)
-  where
-    always : (t : Bool) → pick t true true ≡ true
-    always true = refl
-    always false = refl
-
-pub is-in-other : (u x : ℕ) (xs : List ℕ) → (u ≡ x → ⊥) → isIn u (xs ++ (x ∷ [])) ≡ isIn u xs
-unfolding isIn
-is-in-other u x [] n = rw (ne-eqb u x n)
-is-in-other u x (y ∷ ys) n = ap (pick (eqb u y) true) (is-in-other u x ys n)
 
 -- an entry marked on the map: from unit k to before unit t
 module _ (f : ℕ → Told (Option Placed)) (seen m : List ℕ) (map : Mapped f seen m) (k t : ℕ) (in-map : t ≤ 65604) (long : k + 4 ≤ t)

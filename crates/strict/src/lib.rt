@@ -6,6 +6,7 @@ use read_entry::Read;
 use scratch::clear_from;
 use scratch::clear_longs;
 use scratch::clear_words;
+use strict_rule::Checked;
 use units::Link;
 use units::Offset;
 use units::Region;
@@ -20,28 +21,11 @@ ghost use Rattle.units.specs.Told.{Told};
 ghost use Rattle.units.specs.Lent.{was, is};
 ghost use Rattle.layout_name.specs.Order.{nameOrder};
 ghost use Rattle.read_entry.specs.Entry.{Placed, readAt};
-ghost use Rattle.strict_map.specs.Map.{Marked};
-ghost use Rattle.strict.specs.Strict.{endOf, nameBy, placed, isLess, lessThan, moreThan, nameAt, ordered};
-ghost use Rattle.strict.specs.Strict.{verdictAt, root, strictFrom, told, strictAnswer, listAfter};
-ghost use Rattle.strict.specs.Strict.{scratchAfter};
-ghost use Rattle.strict.specs.Run.{boundOf, visitOf, Pushed, Entered, Mapped, Judged, keptOf, Runs};
-
-// What the strict check answers.
-pub enum Checked {
-    // So many offsets are listed: the table is of the form that the readers agree on.
-    Done(usize),
-    // 6: the scratch is not longer than the list.
-    Room,
-    // 23, 24: with the offset that was to be read.
-    OutOfBounds(Offset),
-    Truncated(Offset),
-    // 26: an entry is read when the list is full.
-    WalkFull,
-    // 30, 31, 32: with the offset of the entry at fault.
-    Shared(Offset),
-    OutOfOrder(Offset),
-    BadPlace(Offset),
-}
+ghost use Rattle.strict_map.specs.inner.Map.{Marked};
+ghost use Rattle.strict_rule.specs.Strict.{endOf, nameBy, placed, isLess, lessThan, moreThan, nameAt, ordered};
+ghost use Rattle.strict_rule.specs.Strict.{verdictAt, root, strictFrom, told, strictAnswer, listAfter};
+ghost use Rattle.strict_rule.specs.Strict.{scratchAfter};
+ghost use Rattle.strict.specs.inner.Run.{boundOf, visitOf, Pushed, Entered, Mapped, Judged, keptOf, Runs};
 
 // No fault in an entry, or the answer that its fault is.
 enum Verdict {

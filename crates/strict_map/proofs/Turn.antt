@@ -8,7 +8,7 @@ use native.Mathlib.Omega.{arith}
 use native.Mathlib.Decide.{decLt}
 use lib.ListN.{length, getD, set, length-set}
 use lib.Seq.{getD-set-same, getD-set-other}
-use Rattle.strict_map.specs.Map.{Tested, Marked}
+use Rattle.strict_map.specs.inner.Map.{Tested, Marked}
 
 below-by : (a b : ℕ) → Dec (a < b) → (a < b) ⊎ (b ≤ a)
 below-by a b (yes h) = inl h

@@ -1,2 +1,2 @@
 -- What is asked of a map of units, and how an entry is marked on it.
-pub mod Map
+pub mod inner

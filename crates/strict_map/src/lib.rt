@@ -6,7 +6,7 @@ ghost use Prim.Native.Nat.{_≤_, _<_};
 ghost use lib.Dec.{eqb};
 ghost use lib.ListN.{length, getD};
 ghost use Rattle.units.specs.Lent.{was, is};
-ghost use Rattle.strict_map.specs.Map.{Tested, Marked};
+ghost use Rattle.strict_map.specs.inner.Map.{Tested, Marked};
 
 // An entry starts at the unit.
 pub fn is_start(map: &[u8; 65604], unit: usize) -> bool

@@ -11,7 +11,7 @@ use Rattle.avl_model.specs.Laws.{All}
 use Rattle.table_model.specs.Entry.{Entry, Item, lengthOf, headerFor, entryBytes}
 use Rattle.table_model.specs.Place.{startOf, stopOf, endOf, freeAfter, freeOf, itemOf, items}
 use Rattle.table_model.specs.Table.{stop, bytesFrom, sizeOf, tableBytes}
-use Rattle.table_model.specs.Writing.{endOver}
+use Rattle.table_model.specs.inner.Writing.{endOver}
 use Rattle.table_model.proofs.Places.{Starts, FitsAt, start-at}
 
 -- an entry has as many bytes as its length says

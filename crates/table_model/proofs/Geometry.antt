@@ -14,7 +14,7 @@ use Rattle.table_model.specs.Entry.{Entry, Item, lengthOf}
 use Rattle.table_model.specs.Place.{startOf, stopOf, endOf, freeAfter, freeOf, linkTo, itemOf, items}
 use Rattle.table_model.specs.Table.{stop, sizeOf}
 use Rattle.table_model.specs.Said.{AllIn, Stands, Apart, lastSector, SectorsApart}
-use Rattle.table_model.specs.Writing.{Spaced}
+use Rattle.table_model.specs.inner.Writing.{Spaced}
 use Rattle.table_model.proofs.Places.{Starts, FitsAt, start-at, starts-first, stop-four, end-after, end-four, free-next, free-after}
 use Rattle.table_model.proofs.Bytes.{end-size}
 

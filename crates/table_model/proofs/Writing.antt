@@ -8,7 +8,7 @@ use mathlib.Core.List.{List, [], _∷_, _++_, append-assoc, append-nil}
 use native.Mathlib.Omega.{arith}
 use native.Mathlib.Nat.{sub-zero}
 use lib.ListN.{length, drop, replicate, length-append, length-replicate, replicate-append-replicate}
-use Rattle.layout_bytes.specs.Bytes.{putAt}
+use Rattle.layout_bytes.specs.inner.Bytes.{putAt}
 use Rattle.layout_bytes.proofs.Put.{put-seam}
 use Rattle.layout_node.specs.Header.{headerBytes}
 use Rattle.layout_node.proofs.RoundTrip.{header-length}
@@ -17,7 +17,7 @@ use Rattle.avl_model.specs.Tree.{Tree}
 use Rattle.table_model.specs.Entry.{Entry, Item, lengthOf, headerFor, entryBytes}
 use Rattle.table_model.specs.Place.{endOf, items}
 use Rattle.table_model.specs.Table.{stop, bytesFrom, sizeOf, tableBytes}
-use Rattle.table_model.specs.Writing.{stored, endOver, writtenOver, Spaced}
+use Rattle.table_model.specs.inner.Writing.{stored, endOver, writtenOver, Spaced}
 use Rattle.table_model.proofs.Bytes.{entry-length, bytes-over, end-over, end-items}
 
 pub stored-length : (x : Item) → length (stored x) ≡ 14 + length (x .entry .name)

@@ -3,4 +3,4 @@ pub mod Entry
 pub mod Place
 pub mod Table
 pub mod Said
-pub mod Writing
+pub mod inner

@@ -27,7 +27,7 @@ pub use read_entry::Read;
 pub use read_lookup::Looked;
 pub use read_path::PathFound;
 pub use read_walk::Walked;
-pub use strict::Checked;
+pub use strict_rule::Checked;
 pub use units::Link;
 pub use units::Located;
 pub use units::Offset;
@@ -47,7 +47,7 @@ ghost use Rattle.read_entry.specs.Entry as entry;
 ghost use Rattle.read_lookup.specs.Lookup as lookup;
 ghost use Rattle.read_path.specs.Path as following;
 ghost use Rattle.read_walk.specs.Walk as walking;
-ghost use Rattle.strict.specs.Strict as checking;
+ghost use Rattle.strict_rule.specs.Strict as checking;
 
 // READING. A window is a slice of image bytes and the number of the sector that it starts with; a table is its
 // region, first sector and size.
@@ -271,7 +271,7 @@ pub fn write_list(
 pub fn plan(
     directories: u32,
     entries: u32,
-    first: &[u32],
+    from: &[u32],
     share: &[u32],
     start: &[u32],
     len: &[u32],
@@ -291,7 +291,7 @@ pub fn plan(
     order: &mut [u16],
 ) -> Planned
     ensures { λ r.
-        let a = image.asking directories entries first share start len kind value names in
+        let a = image.asking directories entries from share start len kind value names in
         let m = image.memory sizes tables sectors sized left right parent height key size order in
         ⌜ planning.told r ≡ image.answerIn a (m .entry) ⌝
         ∗ ⌜ m .exit ≡ image.lentAfter a (m .entry) ⌝ }
@@ -299,7 +299,7 @@ pub fn plan(
     img::plan(
         directories,
         entries,
-        first,
+        from,
         share,
         start,
         len,

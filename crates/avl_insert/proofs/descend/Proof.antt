@@ -4,8 +4,10 @@ use borrow.Author.Needs.{needs}
 use native.Mathlib.Omega.{arith}
 use mathlib.Core.Path.{refl}
 use Rattle.avl_model.specs.declared.Place.the-variants.{Root}
-use Rattle.avl_model.specs.Names.{names, toName, Inside}
-use Rattle.avl_model.specs.Seek.{spotIn, Sought}
+use Rattle.avl_model.specs.Names.{names, toName}
+use Rattle.avl_model.specs.inner.Names.{Inside}
+use Rattle.avl_model.specs.Seek.{spotIn}
+use Rattle.avl_model.specs.inner.Seek.{Sought}
 use Rattle.avl_model.proofs.Seeking.{Seeking, depth, told, inside, known, found, go-left, go-right, less-left, less-right, free}
 use Rattle.avl_insert.proofs.descend.Statement.{statement}
 use Rattle.avl_insert.proofs.descend.Tie as tie

@@ -1,7 +1,7 @@
 -- `put_in` meets its contract: `attach` fills the hole at the place (`new-ready`), and `rebalance` makes the climb from it, which is `ins` (`inserted`).
 use mathlib.Core.Path.{sym, subst}
 use Rattle.avl_model.specs.Lists.{Lists, lists}
-use Rattle.avl_model.specs.Held.{Ready}
+use Rattle.avl_model.specs.inner.Held.{Ready}
 use Rattle.avl_model.proofs.Adding.{new-ready, inserted}
 use borrow.Author.Needs.{needs}
 use Rattle.avl_insert.proofs.put_in.Statement.{statement}

@@ -7,8 +7,8 @@ use mathlib.Core.Logic.{inl}
 use lib.ListN.{length}
 use Rattle.avl_model.specs.Lists.{lists}
 use Rattle.avl_model.specs.Tree.{bal}
-use Rattle.avl_model.specs.Rep.{climb}
-use Rattle.avl_model.specs.Held.{Ready}
+use Rattle.avl_model.specs.inner.Rep.{climb}
+use Rattle.avl_model.specs.inner.Held.{Ready}
 use Rattle.avl_model.proofs.Climbing.{State, Going, mu, going, ended, again, nearer, risen, stopped}
 use Rattle.avl_insert.proofs.rebalance.Statement.{statement}
 use Rattle.avl_insert.proofs.rebalance.Tie as tie

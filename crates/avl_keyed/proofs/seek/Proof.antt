@@ -12,7 +12,7 @@ use Rattle.avl_model.specs.declared.Place.the-variants.{Root}
 use Rattle.avl_model.specs.Names.{names, toName}
 use Rattle.avl_model.specs.Seek.{spotIn}
 use Rattle.avl_model.proofs.Seeking.{Seeking, depth, told, inside, known, found, free}
-use Rattle.avl_keyed.specs.Key.{Keyed, KeySought, placeFrom}
+use Rattle.avl_keyed.specs.inner.Key.{Keyed, KeySought, placeFrom}
 use Rattle.avl_keyed.proofs.Turn.{chosen, lower, never-both, by-less, by-greater}
 use Rattle.avl_keyed.proofs.seek.Statement.{statement}
 use Rattle.avl_keyed.proofs.seek.Tie as tie

@@ -5,7 +5,7 @@ use mathlib.Core.Path.{_≡_, refl, sym, subst, _∙_}
 use native.Mathlib.Omega.{arith}
 use borrow.Author.Needs.{needs}
 use lib.ListN.{length, getD, set, replicate, length-set}
-use Rattle.avl_model.specs.Order.{Listed}
+use Rattle.avl_model.specs.inner.Order.{Listed}
 use Rattle.avl_order.proofs.Stack.{Going, start, bounds, finished, again}
 use Rattle.avl_order.proofs.preorder.Statement.{statement}
 use Rattle.avl_order.proofs.preorder.Tie as tie

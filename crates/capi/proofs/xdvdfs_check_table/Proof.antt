@@ -1,6 +1,6 @@
 -- `xdvdfs_check_table` meets its contract: the answer is what `check_table` gives, and is stored as it is told.
 use mathlib.Core.Path.{_∙_}
-use Rattle.strict.specs.Strict as checking
+use Rattle.strict_rule.specs.Strict as checking
 use Rattle.capi_cells.specs.Cells.{atFault}
 use Rattle.capi_cells.specs.Parts.{itself}
 use Rattle.capi_cells.proofs.Cells.{at-table, given-by, number-by, refusal-by}

@@ -1,7 +1,7 @@
 -- `store_checked` meets its contract: the number and the cells of each case.
 use mathlib.Core.Path.{refl, ap}
 use Rattle.read_entry.specs.Links.{isIn}
-use Rattle.strict.specs.Strict as checking
+use Rattle.strict_rule.specs.Strict as checking
 use Rattle.capi_cells.specs.Cells.{atFault}
 use Rattle.capi_cells.specs.Parts.{itself}
 use Rattle.capi_cells.proofs.Cells.{given-cell, given-kept, given-number, refused-bare, refused-cell, refused-number, refused-value}

@@ -3,7 +3,7 @@ use mathlib.Core.Path.{sym, ap}
 use mathlib.Core.List.{[], _∷_}
 use Rattle.units.specs.Told.{refuses}
 use Rattle.dirtab_grow.specs.declared.Cause.{Cause}
-use Rattle.dirtab_grow.specs.Growing.{numberOf}
+use Rattle.dirtab_grow.specs.inner.Growing.{numberOf}
 use borrow.Author.Needs.{needs}
 use Rattle.dirtab_list.proofs.refuse.Statement.{statement}
 use Rattle.dirtab_list.proofs.refuse.Tie as tie

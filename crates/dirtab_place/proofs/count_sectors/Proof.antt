@@ -6,7 +6,7 @@ use Prim.Native.Nat.{ℕ, _-_, _≤_}
 use mathlib.Core.Path.{_≡_, refl}
 use native.Mathlib.Omega.{arith}
 use lib.ListN.{length, drop}
-use Rattle.dirtab_place.specs.Places.{freeOver}
+use Rattle.dirtab_place.specs.inner.Places.{freeOver}
 use Rattle.dirtab_place.proofs.Turns.{overflows, next-free, last-free}
 use Rattle.dirtab_place.proofs.count_sectors.Statement.{statement}
 use Rattle.dirtab_place.proofs.count_sectors.Tie as tie

@@ -7,7 +7,7 @@ use Prim.Native.Nat.{ℕ, _-_, _≤_}
 use mathlib.Core.Path.{_≡_, refl}
 use native.Mathlib.Omega.{arith}
 use lib.ListN.{length, drop, length-set}
-use Rattle.dirtab_place.specs.Places.{endsOver, placesOver}
+use Rattle.dirtab_place.specs.inner.Places.{endsOver, placesOver}
 use Rattle.dirtab_place.proofs.Turns.{far-end, far-places, next-end, next-places, last-end, last-places}
 use Rattle.dirtab_place.proofs.place_entries.Statement.{statement}
 use Rattle.dirtab_place.proofs.place_entries.Tie as tie

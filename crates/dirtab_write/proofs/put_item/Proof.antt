@@ -1,6 +1,6 @@
 -- `put_item` meets its contract: what is put is what is stored of the item.
 use lib.ListN.{length}
-use Rattle.dirtab_write.specs.Columns.{Cols, cols}
+use Rattle.dirtab_write.specs.inner.Columns.{Cols, cols}
 use mathlib.Core.Path.{_≡_, refl}
 use native.Mathlib.Omega.{arith}
 use Rattle.dirtab_write.proofs.Steps.{headed-at, item-put, name-short, item-fits}

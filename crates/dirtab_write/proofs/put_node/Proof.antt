@@ -3,9 +3,9 @@ use Prim.Native.Nat.{ℕ, _*_}
 use mathlib.Core.Path.{_≡_, refl, ap, _∙_}
 use native.Mathlib.Omega.{arith}
 use lib.ListN.{length, getD}
-use Rattle.layout_bytes.specs.Bytes.{putAt}
-use Rattle.table_model.specs.Writing.{stored}
-use Rattle.dirtab_write.specs.Columns.{Cols, cols, itemBy}
+use Rattle.layout_bytes.specs.inner.Bytes.{putAt}
+use Rattle.table_model.specs.inner.Writing.{stored}
+use Rattle.dirtab_write.specs.inner.Columns.{Cols, cols, itemBy}
 use Rattle.dirtab_write.proofs.Steps.{headed-at}
 use Rattle.dirtab_write.proofs.Turns.{taken-start, taken-free, never-over}
 use borrow.Author.Needs.{needs}

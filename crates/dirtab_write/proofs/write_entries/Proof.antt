@@ -5,8 +5,8 @@ use Prim.Native.Nat.{ℕ, _-_}
 use mathlib.Core.Path.{_≡_, refl, sym, ap, _∙_}
 use native.Mathlib.Omega.{arith}
 use lib.ListN.{length, getD, drop}
-use Rattle.dirtab_place.specs.Places.{freeOver}
-use Rattle.dirtab_write.specs.Columns.{Cols, cols, itemsBy, putAll, Numbered}
+use Rattle.dirtab_place.specs.inner.Places.{freeOver}
+use Rattle.dirtab_write.specs.inner.Columns.{Cols, cols, itemsBy, putAll, Numbered}
 use Rattle.dirtab_write.proofs.Turns.{next-low, next-counted, next-put, last-put}
 use Rattle.dirtab_write.proofs.write_entries.Statement.{statement}
 use Rattle.dirtab_write.proofs.write_entries.Tie as tie

@@ -1,6 +1,6 @@
 -- `write_table` meets its contract: entries put one after another into a filled buffer.
 use lib.ListN.{length}
-use Rattle.dirtab_write.specs.Columns.{Cols, cols, itemsBy, Writes}
+use Rattle.dirtab_write.specs.inner.Columns.{Cols, cols, itemsBy, Writes}
 use Rattle.dirtab_write.proofs.Turns.{table-put}
 use borrow.Author.Needs.{needs}
 use Rattle.dirtab_write.proofs.write_table.Statement.{statement}

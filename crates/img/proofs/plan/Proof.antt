@@ -30,7 +30,7 @@ plan-cut-requires : tie.Need-plan-cut-requires
 plan-cut-requires c κs =
     let a = c .before .before .before .before .before .before .before .before .before .before .before .before .before .before .before .before .before .before .before .before .before .before .before .before .before .before .before .before .before .before .before .before .before .before .before .before .before .before .before .before .before .before .before .before .before .before .before .args in
     let l = (lent (a .sizes .now) (a .tables .now) (a .sectors .now) (a .sized .now) (a .left .now) (a .right .now) (a .parent .now) (a .height .now) (a .key .now) (a .size .now) (a .order .now)) in
-    cut-of (asked (c .before .before .before .before .before .before .before .before .before .before .before .before .before .before .widen .result) (c .before .before .before .before .before .before .before .before .before .before .before .before .before .widen2 .result) (a .first .now) (a .share .now) (a .start .now) (a .len .now) (a .kind .now) (a .value .now) (a .names .now)) l _ (c .before .before .before .before .before .before .before .before .before .before .before .before .before .before .before .before .before .before .before .before .before .before .before .before .before .measure-directories .ensures) (c .before .before .before .before .before .before .before .before .before .before .before .before .before .before .before .before .before .before .before .before .before .before .measure-entries .ensures)
+    cut-of (asked (c .before .before .before .before .before .before .before .before .before .before .before .before .before .before .widen .result) (c .before .before .before .before .before .before .before .before .before .before .before .before .before .widen2 .result) (a .from .now) (a .share .now) (a .start .now) (a .len .now) (a .kind .now) (a .value .now) (a .names .now)) l _ (c .before .before .before .before .before .before .before .before .before .before .before .before .before .before .before .before .before .before .before .before .before .before .before .before .before .measure-directories .ensures) (c .before .before .before .before .before .before .before .before .before .before .before .before .before .before .before .before .before .before .before .before .before .before .measure-entries .ensures)
     (c .before .before .before .before .before .before .before .before .before .before .before .before .before .before .before .measure-nodes .ensures) (c .before .before .before .before .before .before .before .before .before .before .before .before .have-room .ensures) (c .before .before .before .before .before .before .before .before .before .before .before .if1 .taken) (c .before .before .before .before .before .before .before .before .before .before .before .before .before .before .widen .ensures .1)
     (c .before .before .before .before .before .before .before .before .before .before .before .before .before .widen2 .ensures .1)
 
@@ -80,9 +80,9 @@ returns c =
     let p = c .before .before .before .before .before .before .before .before .before .before .before .before .before .before .before .before .before .before .before .before .before .before .before .before .before .before .before .before .before .before .before .before .before .before .before .before .before .before .before .before .before .before .before .before .before .before .before .before .plan-cut in
     let k = c .before .before .before .before .before .before .before .before .before .before .before .before .before .before .before .before .before .before .before .before .before .clear-links in
     let z = c .before .before .before .before .before .before .before .before .clear-rest in
-    let is = room-is (asked (c .before .before .before .before .before .before .before .before .before .before .before .before .before .before .before .before .before .before .before .before .before .before .before .before .before .before .before .before .before .before .before .before .before .before .before .before .before .before .before .before .before .before .before .before .before .before .before .before .before .before .before .before .before .before .before .before .before .before .before .before .before .before .before .widen .result) (c .before .before .before .before .before .before .before .before .before .before .before .before .before .before .before .before .before .before .before .before .before .before .before .before .before .before .before .before .before .before .before .before .before .before .before .before .before .before .before .before .before .before .before .before .before .before .before .before .before .before .before .before .before .before .before .before .before .before .before .before .before .before .widen2 .result) (a .first .now) (a .share .now) (a .start .now) (a .len .now) (a .kind .now) (a .value .now) (a .names .now)) l _ (c .before .before .before .before .before .before .before .before .before .before .before .before .before .before .before .before .before .before .before .before .before .before .before .before .before .before .before .before .before .before .before .before .before .before .before .before .before .before .before .before .before .before .before .before .before .before .before .before .before .before .before .before .before .before .before .before .before .before .before .before .before .before .before .before .before .before .before .before .before .before .before .before .before .before .measure-directories .ensures) (c .before .before .before .before .before .before .before .before .before .before .before .before .before .before .before .before .before .before .before .before .before .before .before .before .before .before .before .before .before .before .before .before .before .before .before .before .before .before .before .before .before .before .before .before .before .before .before .before .before .before .before .before .before .before .before .before .before .before .before .before .before .before .before .before .before .before .before .before .before .before .before .measure-entries .ensures)
+    let is = room-is (asked (c .before .before .before .before .before .before .before .before .before .before .before .before .before .before .before .before .before .before .before .before .before .before .before .before .before .before .before .before .before .before .before .before .before .before .before .before .before .before .before .before .before .before .before .before .before .before .before .before .before .before .before .before .before .before .before .before .before .before .before .before .before .before .before .widen .result) (c .before .before .before .before .before .before .before .before .before .before .before .before .before .before .before .before .before .before .before .before .before .before .before .before .before .before .before .before .before .before .before .before .before .before .before .before .before .before .before .before .before .before .before .before .before .before .before .before .before .before .before .before .before .before .before .before .before .before .before .before .before .before .widen2 .result) (a .from .now) (a .share .now) (a .start .now) (a .len .now) (a .kind .now) (a .value .now) (a .names .now)) l _ (c .before .before .before .before .before .before .before .before .before .before .before .before .before .before .before .before .before .before .before .before .before .before .before .before .before .before .before .before .before .before .before .before .before .before .before .before .before .before .before .before .before .before .before .before .before .before .before .before .before .before .before .before .before .before .before .before .before .before .before .before .before .before .before .before .before .before .before .before .before .before .before .before .before .before .measure-directories .ensures) (c .before .before .before .before .before .before .before .before .before .before .before .before .before .before .before .before .before .before .before .before .before .before .before .before .before .before .before .before .before .before .before .before .before .before .before .before .before .before .before .before .before .before .before .before .before .before .before .before .before .before .before .before .before .before .before .before .before .before .before .before .before .before .before .before .before .before .before .before .before .before .before .measure-entries .ensures)
     (c .before .before .before .before .before .before .before .before .before .before .before .before .before .before .before .before .before .before .before .before .before .before .before .before .before .before .before .before .before .before .before .before .before .before .before .before .before .before .before .before .before .before .before .before .before .before .before .before .before .before .before .before .before .before .before .before .before .before .before .before .before .before .before .before .measure-nodes .ensures) (c .before .before .before .before .before .before .before .before .before .before .before .before .before .before .before .before .before .before .before .before .before .before .before .before .before .before .before .before .before .before .before .before .before .before .before .before .before .before .before .before .before .before .before .before .before .before .before .before .before .before .before .before .before .before .before .before .before .before .before .before .before .have-room .ensures) in
-    as-asked (a .first .now) (a .share .now) (a .start .now) (a .len .now) (a .kind .now) (a .value .now) (a .names .now) (p .result) l _ (c .before .before .before .before .before .before .before .before .before .before .before .before .before .before .before .before .before .before .before .before .before .before .before .before .before .before .before .before .before .before .before .before .before .before .before .before .before .before .before .before .before .before .before .before .before .before .before .before .before .before .before .before .before .before .before .before .before .before .before .before .before .before .before .widen .ensures .0) (c .before .before .before .before .before .before .before .before .before .before .before .before .before .before .before .before .before .before .before .before .before .before .before .before .before .before .before .before .before .before .before .before .before .before .before .before .before .before .before .before .before .before .before .before .before .before .before .before .before .before .before .before .before .before .before .before .before .before .before .before .before .before .widen2 .ensures .0) (
+    as-asked (a .from .now) (a .share .now) (a .start .now) (a .len .now) (a .kind .now) (a .value .now) (a .names .now) (p .result) l _ (c .before .before .before .before .before .before .before .before .before .before .before .before .before .before .before .before .before .before .before .before .before .before .before .before .before .before .before .before .before .before .before .before .before .before .before .before .before .before .before .before .before .before .before .before .before .before .before .before .before .before .before .before .before .before .before .before .before .before .before .before .before .before .before .widen .ensures .0) (c .before .before .before .before .before .before .before .before .before .before .before .before .before .before .before .before .before .before .before .before .before .before .before .before .before .before .before .before .before .before .before .before .before .before .before .before .before .before .before .before .before .before .before .before .before .before .before .before .before .before .before .before .before .before .before .before .before .before .before .before .before .before .widen2 .ensures .0) (
       answer-some _ _ _ is (c .before .before .before .before .before .before .before .before .before .before .before .before .before .before .before .before .before .before .before .before .before .before .before .before .before .before .before .before .before .before .before .before .before .before .before .before .before .before .before .before .before .before .before .before .before .before .before .before .before .before .before .before .before .before .before .before .before .before .before .before .if1 .taken) _ _ _ _ (p .ensures),
       left-some _ _ _ is (c .before .before .before .before .before .before .before .before .before .before .before .before .before .before .before .before .before .before .before .before .before .before .before .before .before .before .before .before .before .before .before .before .before .before .before .before .before .before .before .before .before .before .before .before .before .before .before .before .before .before .before .before .before .before .before .before .before .before .before .before .if1 .taken) _ _ _ _ (p .ensures) _ _ _ _ _ _ _ _
           (cleared (p .last .1 .1 .1 .1 .1 .1 .1 .1 .1 .1 .1 .1 .0) (a .sized .now) (z .ensures .0 .0) (p .kept .1 .1 .1 .1 .1 .1 .1 .1 .1 .1 .1 .1 .0))
@@ -132,9 +132,9 @@ returns-2 : tie.Need-returns-2
 returns-2 c =
     let a = c .before .before .before .before .before .before .before .before .before .before .before .before .before .before .before .before .before .before .before .before .before .before .before .before .before .before .before .before .before .before .before .before .before .before .before .before .args in
     let l = (lent (a .sizes .now) (a .tables .now) (a .sectors .now) (a .sized .now) (a .left .now) (a .right .now) (a .parent .now) (a .height .now) (a .key .now) (a .size .now) (a .order .now)) in
-    let is = room-is (asked (c .before .before .before .widen .result) (c .before .before .widen2 .result) (a .first .now) (a .share .now) (a .start .now) (a .len .now) (a .kind .now) (a .value .now) (a .names .now)) l _ (c .before .before .before .before .before .before .before .before .before .before .before .before .before .before .measure-directories .ensures) (c .before .before .before .before .before .before .before .before .before .before .before .measure-entries .ensures)
+    let is = room-is (asked (c .before .before .before .widen .result) (c .before .before .widen2 .result) (a .from .now) (a .share .now) (a .start .now) (a .len .now) (a .kind .now) (a .value .now) (a .names .now)) l _ (c .before .before .before .before .before .before .before .before .before .before .before .before .before .before .measure-directories .ensures) (c .before .before .before .before .before .before .before .before .before .before .before .measure-entries .ensures)
     (c .before .before .before .before .measure-nodes .ensures) (c .before .have-room .ensures) in
-    as-asked (a .first .now) (a .share .now) (a .start .now) (a .len .now) (a .kind .now) (a .value .now) (a .names .now) planned.Room l l (c .before .before .before .widen .ensures .0) (c .before .before .widen2 .ensures .0)
+    as-asked (a .from .now) (a .share .now) (a .start .now) (a .len .now) (a .kind .now) (a .value .now) (a .names .now) planned.Room l l (c .before .before .before .widen .ensures .0) (c .before .before .widen2 .ensures .0)
     (answer-none _ _ _ is (c .if1 .left), left-none _ _ _ is (c .if1 .left))
 
 pub plan-spec : {M : Type 1} → statement M

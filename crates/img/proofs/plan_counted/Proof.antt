@@ -13,7 +13,7 @@ plan-tree-requires : tie.Need-plan-tree-requires
 plan-tree-requires c κs =
     let s = c .before .before .before .before .before .before .before .before .before .before .before .before .before .before .before .before .before .before .before .before .before .before .before .before .before .before .before .before .before .before .before .before .before .before in
     let a = s .args in
-    (sym (same-rule (a .first .now) (a .share .now) (a .start .now) (a .len .now) (a .kind .now) (a .value .now) (a .names .now)) ∙ sym (c .before .before .before .before .before .before .before .before .before .before .before .before .before .before .is-tree .ensures) ∙ c .before .before .before .before .before .before .before .before .before .before .before .if1 .taken, (exact-kept (s .pre .0) (c .before .before .before .before .before .before .before .before .before .before .before .before .before .before .is-tree .kept .1 .1 .1 .1 .0), s .pre .1))
+    (sym (same-rule (a .from .now) (a .share .now) (a .start .now) (a .len .now) (a .kind .now) (a .value .now) (a .names .now)) ∙ sym (c .before .before .before .before .before .before .before .before .before .before .before .before .before .before .is-tree .ensures) ∙ c .before .before .before .before .before .before .before .before .before .before .before .if1 .taken, (exact-kept (s .pre .0) (c .before .before .before .before .before .before .before .before .before .before .before .before .before .before .is-tree .kept .1 .1 .1 .1 .0), s .pre .1))
 
 same-length : tie.Need-same-length
 same-length c = search needs
@@ -57,7 +57,7 @@ same-length-12 c = search needs
 returns-2 : tie.Need-returns-2
 returns-2 c =
     let a = c .before .before .before .before .before .before .before .before .before .before .before .before .before .before .before .before .before .before .before .before .before .before .before .args in
-    bad-tree _ _ _ _ _ _ (c .before .before .before .is-tree .ensures ∙ same-rule (a .first .now) (a .share .now) (a .start .now) (a .len .now) (a .kind .now) (a .value .now) (a .names .now)) (c .if1 .left)
+    bad-tree _ _ _ _ _ _ (c .before .before .before .is-tree .ensures ∙ same-rule (a .from .now) (a .share .now) (a .start .now) (a .len .now) (a .kind .now) (a .value .now) (a .names .now)) (c .if1 .left)
 
 pub plan-counted-spec : {M : Type 1} → statement M
 plan-counted-spec =

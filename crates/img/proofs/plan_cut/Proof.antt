@@ -9,7 +9,7 @@ use Rattle.img.proofs.plan_cut.Tie as tie
 slice-aggregate-plan-counted : tie.Need-slice-aggregate-plan-counted
 slice-aggregate-plan-counted c =
     let s = c .before .before .before .before .before .before .before .before .before .before .before .before .before .before .before .before .before .before .before in
-    sym (length-take-le (s .args .directories) (s .args .first .now) (in-first _ _ (s .pre)))
+    sym (length-take-le (s .args .directories) (s .args .from .now) (in-first _ _ (s .pre)))
 
 slice-aggregate-plan-counted-2 : tie.Need-slice-aggregate-plan-counted-2
 slice-aggregate-plan-counted-2 c =

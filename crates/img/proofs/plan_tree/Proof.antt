@@ -37,7 +37,7 @@ hand-out-requires c κs =
     let k = c .before .before .before .before .before .before .before .before .before .before .before .before .before .before .before .before .before .before .before .before .before .before .before .before .size-tables in
     let all = c .before .before .before .before .before .before .before .before .before .before .before .before .before .before .before .before .before .before .before .before .before .before .before .before .before .before .before .before .before .before .before .before .before .before .add-shares .ensures in (
       (
-        sized-tree (a .first .now) (a .share .now) (a .start .now) (a .len .now) (a .kind .now) (a .value .now) (a .names .now) (s .pre .0) (s .pre .1 .0) (s .pre .1 .1)
+        sized-tree (a .from .now) (a .share .now) (a .start .now) (a .len .now) (a .kind .now) (a .value .now) (a .names .now) (s .pre .0) (s .pre .1 .0) (s .pre .1 .1)
             _ _ (k .ensures .1 (c .before .before .before .before .before .before .enum-told .given .1)) (k .kept .1 .1 .1 .1 .1 .1 .1 .0) _ _ all (c .before .before .before .before .before .before .before .before .before .before .before .before .before .before .before .before .before .before .before .before .before .before .before .before .before .before .before .before .before .before .before .before .before .if1 .left) (k .kept .1 .1 .1 .1 .1 .1 .1 .1 .1 .1 .1 .1 .1 .1 .0) (k .kept .1 .1 .1 .1 .1 .1 .1 .1 .1 .1 .1 .1 .1 .0),
         all,
       ),
@@ -146,7 +146,7 @@ returns-4 c =
     let all = c .before .before .before .before .before .before .before .before .before .before .before .before .before .before .before .before .before .before .before .before .before .before .before .before .before .before .before .before .before .before .before .before .before .before .before .before .before .before .before .before .before .before .before .add-shares .ensures in
     all-sized _ _ _ _ (s .pre .0) _ all (s .pre .1 .0) _ _ _ (c .before .before .before .before .before .before .before .before .before .before .before .before .before .before .before .before .before .before .before .before .before .before .before .before .before .before .before .before .before .before .before .before .before .before .before .before .before .before .before .before .before .before .if1 .left) refl (k .ensures .0) _ _ _ _ _ e
     (c .before .before .before .before .before .before .before .before .hand-out .ensures
-    (sized-tree (a .first .now) (a .share .now) (a .start .now) (a .len .now) (a .kind .now) (a .value .now) (a .names .now) (s .pre .0) (s .pre .1 .0) (s .pre .1 .1)
+    (sized-tree (a .from .now) (a .share .now) (a .start .now) (a .len .now) (a .kind .now) (a .value .now) (a .names .now) (s .pre .0) (s .pre .1 .0) (s .pre .1 .1)
     _ _ (k .ensures .1 e) (k .kept .1 .1 .1 .1 .1 .1 .1 .0) _ _ all (c .before .before .before .before .before .before .before .before .before .before .before .before .before .before .before .before .before .before .before .before .before .before .before .before .before .before .before .before .before .before .before .before .before .before .before .before .before .before .before .before .before .before .if1 .left) (k .kept .1 .1 .1 .1 .1 .1 .1 .1 .1 .1 .1 .1 .1 .1 .0) (k .kept .1 .1 .1 .1 .1 .1 .1 .1 .1 .1 .1 .1 .1 .0)))
 
 pub plan-tree-spec : {M : Type 1} → statement M

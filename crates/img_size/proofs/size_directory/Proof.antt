@@ -41,14 +41,14 @@ mul-size-table-4 : tie.Need-mul-size-table-4
 mul-size-table-4 c = let z = c .before .before .before .before .before .before .before .before .before .before .before .before .before .before .before .before .before .before .before .before .before .before .before .before .before .before .before in omega (arith, z .pre .1 .1 .1)
 
 size-table-requires : tie.Need-size-table-requires
-size-table-requires c κs = let z = c .before .before .before .before .before .before .before .before .before .before .before .before .before .before .before .before .before .before .before .before .before .before .before .before .before .before .before .before in let a = z .args in cut-arrangeable (columns (a .first .now) (a .share .now) (a .start .now) (a .len .now) (a .kind .now) (a .value .now) (a .names .now)) (z .pre .0) (a .d) (z .pre .1 .1 .0) _ _ _ _ _ _ _ (a .at) (a .order .now) (z .pre .1 .0) (z .pre .1 .1 .1)
+size-table-requires c κs = let z = c .before .before .before .before .before .before .before .before .before .before .before .before .before .before .before .before .before .before .before .before .before .before .before .before .before .before .before .before in let a = z .args in cut-arrangeable (columns (a .from .now) (a .share .now) (a .start .now) (a .len .now) (a .kind .now) (a .value .now) (a .names .now)) (z .pre .0) (a .d) (z .pre .1 .1 .0) _ _ _ _ _ _ _ (a .at) (a .order .now) (z .pre .1 .0) (z .pre .1 .1 .1)
 
 returns : tie.Need-returns
 returns c =
     let z = c .before .before .before .before .before .before .before .before .before .before .before .before .before .before .before .before .before .before .before .before .before .before .before .before .before .before .before .before .before .before .before .before .before .before .before .before .before .before .before .before .before .before .before in
     let a = z .args in
     let k = c .before .before .before .before .before .before .before .before .before .before .before .before .before .before .size-table in
-    let R = columns (a .first .now) (a .share .now) (a .start .now) (a .len .now) (a .kind .now) (a .value .now) (a .names .now) in (
+    let R = columns (a .from .now) (a .share .now) (a .start .now) (a .len .now) (a .kind .now) (a .value .now) (a .names .now) in (
       cut-sized R (z .pre .0) (a .d) (z .pre .1 .1 .0) (k .result) (tableIn (a .sized .now)) (a .at) (a .order .now) (k .last .1 .1 .1 .1 .1 .1 .1 .1 .1 .1 .1 .1 .0) (z .pre .1 .1 .1) (k .kept .1 .1 .1 .1 .1 .1 .1 .1 .1 .1 .1 .1 .0) (k .ensures),
       put-front (a .at) (countOf R (a .d)) (a .order .now) (k .last .1 .1 .1 .1 .1 .1 .1 .1 .1 .1 .1 .1 .0) (z .pre .1 .1 .1),
     )

@@ -6,7 +6,7 @@ use native.Mathlib.Omega.{arith}
 use lib.ListN.{length}
 use Rattle.avl_model.specs.Lists.{lists}
 use Rattle.img_model.specs.Plan.{tableIn}
-use Rattle.img_table.specs.Arranging.{shareBy}
+use Rattle.img_table.specs.inner.Arranging.{shareBy}
 use Rattle.img_table.proofs.Treed.{to-count}
 use Rattle.img_table.proofs.Outcomes.{roomy, out-refused, out-large, out-left, out-right, out-asks, out-whole}
 use borrow.Author.Needs.{needs}

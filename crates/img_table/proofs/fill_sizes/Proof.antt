@@ -7,7 +7,7 @@ use mathlib.Core.List.{[]}
 use native.Mathlib.Omega.{arith}
 use lib.ListN.{length, getD, length-set}
 use Rattle.img_model.specs.Plan.{tableIn, sizeAt}
-use Rattle.img_table.specs.Arranging.{shareBy, fitting}
+use Rattle.img_table.specs.inner.Arranging.{shareBy, fitting}
 use Rattle.img_table.proofs.Fitting.{fit-next, fit-stop, fit-last, stored}
 use Rattle.img_table.proofs.fill_sizes.Statement.{statement}
 use Rattle.img_table.proofs.fill_sizes.Tie as tie

@@ -6,7 +6,7 @@ use mathlib.Core.Path.{_≡_, refl}
 use native.Mathlib.Omega.{arith}
 use lib.ListN.{length, drop}
 use Rattle.dirtab_place.proofs.Turns.{in-at, short-at}
-use Rattle.img_table.specs.Arranging.{endAlong}
+use Rattle.img_table.specs.inner.Arranging.{endAlong}
 use Rattle.img_table.proofs.Lengths.{no-size, end-next, end-last, end-most}
 use Rattle.img_table.proofs.measure.Statement.{statement}
 use Rattle.img_table.proofs.measure.Tie as tie

@@ -1,7 +1,7 @@
 -- `size_table` meets its contract: what arranging refuses is the answer; else its preorder may be measured (`measurable`), and that is the table's size (`measured`).
 use mathlib.Core.Path.{_∙_}
 use Rattle.img_model.specs.Plan.{tableIn, treeIn}
-use Rattle.img_table.specs.Arranging.{shareBy}
+use Rattle.img_table.specs.inner.Arranging.{shareBy}
 use Rattle.img_table.proofs.Measuring.{was-done, was-refused, was-large, measurable, measured}
 use borrow.Author.Needs.{needs}
 use Rattle.img_table.proofs.size_table.Statement.{statement}

@@ -10,10 +10,10 @@ use Rattle.img_take.proofs.check_tables.Statement.{statement}
 use Rattle.img_take.proofs.check_tables.Tie as tie
 
 abbrev Inv-loop : tie.InvT-loop
-Inv-loop first share kind value sized order size₀ end free₀ to₀ d₀ size free to d = (to ≡ total (drop d share)) × ((length size ≡ length size₀) × Checked first share kind value sized order (length size₀) d (33 + sectorsFor (getD sized 0 0)) (free .0))
+Inv-loop from share kind value sized order size₀ end free₀ to₀ d₀ size free to d = (to ≡ total (drop d share)) × ((length size ≡ length size₀) × Checked from share kind value sized order (length size₀) d (33 + sectorsFor (getD sized 0 0)) (free .0))
 
 abbrev μ-loop : tie.MeasureT-loop
-μ-loop first share kind value sized order size₀ end free₀ to₀ d₀ size free to d = length first - d
+μ-loop from share kind value sized order size₀ end free₀ to₀ d₀ size free to d = length from - d
 
 loop-holds : tie.Need-loop-holds Inv-loop μ-loop
 loop-holds c = (search needs, (refl, checked-start (search needs)))

@@ -3,7 +3,7 @@ use borrow.Author.Needs.{needs}
 use mathlib.Core.Path.{_≡_, refl}
 use Prim.Native.Nat.{_-_}
 use lib.ListN.{length, drop}
-use Rattle.img_take.specs.Forward.{taking, takeAlong}
+use Rattle.img_take.specs.inner.Forward.{taking, takeAlong}
 use Rattle.img_take.proofs.Along.{along-asks, along-low, along-next, along-last}
 use Rattle.img_take.proofs.take_entries.Statement.{statement}
 use Rattle.img_take.proofs.take_entries.Tie as tie

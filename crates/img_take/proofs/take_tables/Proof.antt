@@ -6,17 +6,17 @@ use Prim.Native.Nat.{_+_, _-_}
 use lib.ListN.{length, getD, drop}
 use Rattle.layout_sector.specs.Counter.{sectorsFor}
 use Rattle.img_model.specs.Plan.{Taking, total}
-use Rattle.img_take.specs.Forward.{taking}
+use Rattle.img_take.specs.inner.Forward.{taking}
 use Rattle.img_take.proofs.Cut.{re-place}
 use Rattle.img_take.proofs.Turns.{TakenSo, taken-start, taken-split, taken-next, taken-end, turn-at, to-next, to-room}
 use Rattle.img_take.proofs.take_tables.Statement.{statement}
 use Rattle.img_take.proofs.take_tables.Tie as tie
 
 abbrev Inv-loop : tie.InvT-loop
-Inv-loop first share kind value sized order size₀ end tables₀ sectors₀ free₀ to₀ d₀ size tables sectors free to d = (to ≡ total (drop d share)) × ((length size ≡ length size₀) × ((length tables ≡ length first) × ((length sectors ≡ length kind) × TakenSo first share kind value sized order (length size₀) d (taking tables₀ sectors₀ (33 + sectorsFor (getD sized 0 0))) (taking tables sectors free))))
+Inv-loop from share kind value sized order size₀ end tables₀ sectors₀ free₀ to₀ d₀ size tables sectors free to d = (to ≡ total (drop d share)) × ((length size ≡ length size₀) × ((length tables ≡ length from) × ((length sectors ≡ length kind) × TakenSo from share kind value sized order (length size₀) d (taking tables₀ sectors₀ (33 + sectorsFor (getD sized 0 0))) (taking tables sectors free))))
 
 abbrev μ-loop : tie.MeasureT-loop
-μ-loop first share kind value sized order size₀ end tables₀ sectors₀ free₀ to₀ d₀ size tables sectors free to d = length first - d
+μ-loop from share kind value sized order size₀ end tables₀ sectors₀ free₀ to₀ d₀ size tables sectors free to d = length from - d
 
 loop-holds : tie.Need-loop-holds Inv-loop μ-loop
 loop-holds c = (search needs, (refl, (search needs, (search needs, taken-start (c .number .ensures ∙ c .before .free-after-root .ensures)))))

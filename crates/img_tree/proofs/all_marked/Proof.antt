@@ -5,7 +5,7 @@ use mathlib.Core.Path.{_≡_}
 use mathlib.Core.Bool.{true}
 use lib.ListN.{length}
 use Rattle.avl_arena.specs.Test.{every}
-use Rattle.img_tree.specs.Marks.{isNamed}
+use Rattle.img_tree.specs.inner.Marks.{isNamed}
 use Rattle.img_tree.proofs.Named.{root-passes, unnamed, one-named, all-named}
 use borrow.Author.Needs.{needs}
 use Rattle.img_tree.proofs.all_marked.Statement.{statement}

@@ -3,17 +3,17 @@ use Prim.Native.Nat.{_-_, _≤_, _<_}
 use native.Mathlib.Omega.{arith}
 use mathlib.Core.Path.{_≡_}
 use lib.ListN.{length}
-use Rattle.img_tree.specs.Marks.{shares}
+use Rattle.img_tree.specs.inner.Marks.{shares}
 use Rattle.img_tree.proofs.Whole.{Sofar, unmarked, no-directory, clean, onwards, refused, all-done}
 use borrow.Author.Needs.{needs}
 use Rattle.img_tree.proofs.is_tree.Statement.{statement}
 use Rattle.img_tree.proofs.is_tree.Tie as tie
 
 abbrev Inv-loop : tie.InvT-loop
-Inv-loop first share kind value named₀ d₀ named d = (0 < length first) × (d ≤ length first) × (length share ≡ length first) × (length value ≡ length kind) × Sofar (shares first share kind value) d named
+Inv-loop from share kind value named₀ d₀ named d = (0 < length from) × (d ≤ length from) × (length share ≡ length from) × (length value ≡ length kind) × Sofar (shares from share kind value) d named
 
 abbrev μ-loop : tie.MeasureT-loop
-μ-loop first share kind value named₀ d₀ named d = length first - d
+μ-loop from share kind value named₀ d₀ named d = length from - d
 
 returns : tie.Need-returns Inv-loop μ-loop
 returns c = search no-directory

@@ -3,7 +3,7 @@ use Prim.Native.Nat.{_-_, _≤_}
 use native.Mathlib.Omega.{arith}
 use mathlib.Core.Path.{_≡_}
 use lib.ListN.{length}
-use Rattle.img_tree.specs.Marks.{entries}
+use Rattle.img_tree.specs.inner.Marks.{entries}
 use Rattle.img_tree.proofs.Turn.{Part, begun, past, stop, done, all-marked, never}
 use borrow.Author.Needs.{needs}
 use Rattle.img_tree.proofs.mark_share.Statement.{statement}

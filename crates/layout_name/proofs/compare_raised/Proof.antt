@@ -3,7 +3,8 @@ use Prim.Native.Nat.{_≤_, _-_}
 use mathlib.Core.Path.{_≡_}
 use borrow.Author.Needs.{needs}
 use lib.ListN.{length, drop}
-use Rattle.layout_name.specs.Order.{nameOrder, raisedCopy}
+use Rattle.layout_name.specs.Order.{nameOrder}
+use Rattle.layout_name.specs.inner.Order.{raisedCopy}
 use Rattle.layout_name.proofs.Raised.{raised-at}
 use Rattle.layout_name.proofs.Turn.{b-ended, a-ended, both-ended, smaller, larger, same}
 use Rattle.layout_name.proofs.compare_raised.Statement.{statement}

@@ -3,7 +3,7 @@ use Prim.Native.Nat.{_≤_, _-_}
 use mathlib.Core.Path.{_≡_}
 use borrow.Author.Needs.{needs}
 use lib.ListN.{length, take}
-use Rattle.layout_name.specs.Order.{raisedCopy}
+use Rattle.layout_name.specs.inner.Order.{raisedCopy}
 use Rattle.layout_name.proofs.Raised.{raised-more, raised-none, raised-all}
 use Rattle.layout_name.proofs.raise_name.Statement.{statement}
 use Rattle.layout_name.proofs.raise_name.Tie as tie

@@ -6,7 +6,8 @@ use lib.ListN.{length}
 use Rattle.layout_node.specs.declared.Header.{Header}
 use native.Mathlib.Omega.{arith}
 use borrow.Author.Needs.{needs}
-use Rattle.layout_bytes.specs.Bytes.{le16, le32, putAt}
+use Rattle.layout_bytes.specs.Bytes.{le16, le32}
+use Rattle.layout_bytes.specs.inner.Bytes.{putAt}
 use Rattle.layout_bytes.proofs.Put.{put-then}
 use Rattle.layout_node.specs.Header.{headerBytes}
 use Rattle.layout_node.proofs.put_header.Statement.{statement}

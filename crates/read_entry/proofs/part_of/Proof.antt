@@ -9,7 +9,7 @@ use lib.ListN.{length, take, drop, length-drop, drop-of-length-le}
 use lib.Seq.{take-all}
 use Rattle.units.specs.declared.Sector.{Sector}
 use Rattle.units.specs.declared.Region.{Region}
-use Rattle.read_entry.specs.Part.{partOf}
+use Rattle.read_entry.specs.inner.Part.{partOf}
 use Rattle.read_entry.proofs.part_of.Statement.{statement}
 use Rattle.read_entry.proofs.part_of.Tie as tie
 use Rattle.read_entry.proofs.part_of.Reads as reads

@@ -7,7 +7,8 @@ use Rattle.units.specs.declared.Offset.{Offset}
 use Rattle.units.specs.declared.Link.{Link}
 use Rattle.read_entry.specs.Links.{isIn, lookupAbsent}
 use Rattle.read_lookup.specs.declared.Step.the-variants.{Absent, Next}
-use Rattle.read_lookup.specs.Lookup.{byLink, leading}
+use Rattle.read_lookup.specs.Lookup.{byLink}
+use Rattle.read_lookup.specs.inner.Lookup.{leading}
 use Rattle.read_lookup.proofs.by_link.Statement.{statement}
 use Rattle.read_lookup.proofs.by_link.Tie as tie
 use Rattle.read_lookup.proofs.by_link.Reads as reads

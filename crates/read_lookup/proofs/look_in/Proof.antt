@@ -17,7 +17,8 @@ use Rattle.read_lookup.specs.declared.Step.{Step}
 use Rattle.read_lookup.specs.declared.Step.the-variants as step
 use Rattle.read_lookup.specs.declared.Looked.{Looked}
 use Rattle.read_lookup.specs.declared.Looked.the-variants as looked
-use Rattle.read_lookup.specs.Lookup.{Leads, stepAt, leading, anyHigh, ending, chainFrom, lookupBy, lookupOf, told}
+use Rattle.read_lookup.specs.Lookup.{Leads, stepAt, anyHigh, ending, chainFrom, lookupBy, lookupOf, told}
+use Rattle.read_lookup.specs.inner.Lookup.{leading}
 use Rattle.read_lookup.proofs.look_in.Statement.{statement}
 use Rattle.read_lookup.proofs.look_in.Tie as tie
 use Rattle.read_lookup.proofs.look_in.Reads as reads

@@ -15,7 +15,8 @@ use Rattle.read_entry.specs.Entry.{told, readAt, nameOf}
 use Rattle.read_entry.specs.Links.{lookupAbsent}
 use Rattle.read_lookup.specs.declared.Step.{Step}
 use Rattle.read_lookup.specs.declared.Step.the-variants as step
-use Rattle.read_lookup.specs.Lookup.{byLink, stepAt, leading}
+use Rattle.read_lookup.specs.Lookup.{byLink, stepAt}
+use Rattle.read_lookup.specs.inner.Lookup.{leading}
 use borrow.Author.Needs.{needs}
 use Rattle.read_lookup.proofs.step_at.Statement.{statement}
 use Rattle.read_lookup.proofs.step_at.Tie as tie

@@ -9,7 +9,7 @@ use borrow.Author.Needs.{needs}
 use borrow.Author.Tests.{eq-eqb, ne-eqb}
 use lib.ListN.{length, drop, getD, drop-of-length-le}
 use lib.Seq.{drop-cons}
-use Rattle.read_path.specs.Path.{firstLen}
+use Rattle.read_path.specs.inner.Path.{firstLen}
 use Rattle.read_path.proofs.part_end.Statement.{statement}
 use Rattle.read_path.proofs.part_end.Tie as tie
 use Rattle.read_path.proofs.part_end.Reads as reads

@@ -10,7 +10,8 @@ use Rattle.read_lookup.specs.declared.Looked.the-variants as looked
 use Rattle.read_lookup.specs.Lookup as lookup
 use Rattle.read_path.specs.declared.PathFound.the-variants as path-found
 use Rattle.read_path.specs.declared.Turn.the-variants as turn
-use Rattle.read_path.specs.Path.{turnOf, turning}
+use Rattle.read_path.specs.Path.{turnOf}
+use Rattle.read_path.specs.inner.Path.{turning}
 use borrow.Author.Needs.{needs}
 use Rattle.read_path.proofs.turn_of.Statement.{statement}
 use Rattle.read_path.proofs.turn_of.Tie as tie

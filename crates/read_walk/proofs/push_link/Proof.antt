@@ -10,7 +10,7 @@ use Rattle.units.specs.declared.Link.{Link}
 use Rattle.units.specs.declared.Offset.{Offset}
 use Rattle.read_entry.specs.Links.{isIn, walkAbsent}
 use Rattle.read_walk.specs.Walk.{push}
-use Rattle.read_walk.specs.Run.{stackOf, Pushed}
+use Rattle.read_walk.specs.inner.Run.{stackOf, Pushed}
 use Rattle.read_walk.proofs.Stack.{stack-push}
 use borrow.Author.Needs.{needs}
 use Rattle.read_walk.proofs.push_link.Statement.{statement}

@@ -14,7 +14,7 @@ use Rattle.read_entry.specs.Links.{walkAbsent}
 use Rattle.read_walk.specs.declared.Walked.{Walked}
 use Rattle.read_walk.specs.declared.Walked.the-variants as walked
 use Rattle.read_walk.specs.Walk.{walkFrom, walkOf, counted, listed, told, walkAnswer, listAfter, scratchAfter}
-use Rattle.read_walk.specs.Run.{keptOf, Runs}
+use Rattle.read_walk.specs.inner.Run.{keptOf, Runs}
 use Rattle.read_walk.proofs.Turn.{walkOn}
 use Rattle.read_walk.proofs.Moved.{runs-moved}
 use borrow.Author.Needs.{needs}

@@ -9,12 +9,12 @@ use Rattle.units.specs.declared.Sector.{Sector}
 use Rattle.units.specs.Told.{Told, gives, refuses}
 use Rattle.units.specs.declared.Region.{Region}
 use Rattle.read_walk.specs.Walk.{listed}
-use Rattle.strict.specs.declared.Checked.{Checked}
-use Rattle.strict.specs.declared.Checked.the-variants as checked
-use Rattle.strict.specs.Strict.{root, strictOf, told, strictAnswer, listAfter, scratchAfter}
-use Rattle.strict.specs.Run.{keptOf, Runs}
+use Rattle.strict_rule.specs.declared.Checked.{Checked}
+use Rattle.strict_rule.specs.declared.Checked.the-variants as checked
+use Rattle.strict_rule.specs.Strict.{root, strictOf, told, strictAnswer, listAfter, scratchAfter}
+use Rattle.strict.specs.inner.Run.{keptOf, Runs}
 use Rattle.strict.proofs.Turn.{checkOn, countOf, kept-told}
-use Rattle.strict.proofs.Moved.{runs-moved}
+use Rattle.strict_rule.proofs.Moved.{runs-moved}
 use borrow.Author.Needs.{needs}
 use Rattle.strict.proofs.check_table.Statement.{statement}
 use Rattle.strict.proofs.check_table.Tie as tie

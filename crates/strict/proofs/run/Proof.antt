@@ -6,7 +6,7 @@ use mathlib.Core.Path.{refl}
 use mathlib.Core.List.{[], _∷_}
 use borrow.Author.Needs.{needs}
 use lib.ListN.{length}
-use Rattle.strict.specs.Strict.{root}
+use Rattle.strict_rule.specs.Strict.{root}
 use Rattle.strict.proofs.Turn.{checkOn, State, starts, same-scratch, done, faulty, outside, truncated, nothing, has-place, can-push, falls, entry-done}
 use Rattle.strict.proofs.run.Statement.{statement}
 use Rattle.strict.proofs.run.Tie as tie

@@ -1,0 +1,17 @@
+-- What each answer of a turn of a path stands for, and where its first part ends.
+use Prim.Native.Nat.{ℕ, zero, suc}
+use mathlib.Core.List.{List, [], _∷_}
+use lib.Dec.{eqb}
+use Rattle.units.specs.Told.{pick}
+use Rattle.read_path.specs.declared.Turn.{Turn}
+use Rattle.read_path.specs.declared.Turn.the-variants as turn
+use Rattle.read_path.specs.Path.{Turns, told, into, stops}
+
+abbrev pub turning : Turn → Turns
+turning (turn.Into t) = into t
+turning (turn.Stop f) = stops (told f)
+
+-- how many bytes stand before the first slash
+unfoldable pub firstLen : List ℕ → ℕ
+firstLen [] = zero
+firstLen (x ∷ xs) = pick (eqb x 47) zero (suc (firstLen xs))

@@ -1,0 +1,48 @@
+-- Which tables the strict check is meant to accept, in document 01's words: the walk ends, no entry is reached
+-- twice, entries are disjoint, inside the table size and cross no sector line, and each left child's name is less
+-- than its parent's, each right child's greater. Assumes nothing.
+use Prim.Native.Nat.{ℕ, _-_, _*_, _/_, _≤_, _<_}
+use mathlib.Core.Path.{_≡_}
+use mathlib.Core.Bool.{false}
+use mathlib.Core.Logic.{_⊎_}
+use mathlib.Core.List.{List, List·Memᴰ}
+use mathlib.Core.Option.{some}
+use lib.ListN.{length, getD}
+use Rattle.units.specs.Told.{gives}
+use Rattle.units.specs.declared.Sector.{Sector}
+use Rattle.units.specs.declared.Region.{Region}
+use Rattle.layout_name.specs.declared.Order.the-variants.{Less, Greater}
+use Rattle.layout_name.specs.Order.{nameOrder}
+use Rattle.read_entry.specs.Entry.{Placed, readAt, nameOf}
+use Rattle.read_entry.specs.Links.{isIn, walkAbsent}
+use Rattle.read_walk.specs.Walk.{walkOf}
+use Rattle.strict_rule.specs.Strict.{endOf}
+
+module _ (w : List ℕ) (first : Sector) (t : Region) where
+  -- the entry at an offset, as the window says it
+  abbrev pub EntryAt : ℕ → Placed → Type 0
+  EntryAt o x = readAt w first t o ≡ gives (some x)
+
+  abbrev pub nameIn : Placed → List ℕ
+  nameIn x = nameOf w (x .place) (x .header .«name_len»)
+
+  -- inside the table, and over no sector line
+  pub record InPlace (o : ℕ) (x : Placed) : Type 0 where
+    pub inside : endOf (x .header) o ≤ t .size
+    pub uncrossed : o / 2048 ≡ (endOf (x .header) o - 1) / 2048
+
+  -- the children's names, where the links are followed and lead to entries
+  pub record InOrder (x : Placed) : Type 0 where
+    pub left : (y : Placed) → isIn (x .header .left .0) walkAbsent ≡ false → EntryAt (4 * x .header .left .0) y
+        → nameOrder (nameIn y) (nameIn x) ≡ Less
+    pub right : (y : Placed) → isIn (x .header .right .0) walkAbsent ≡ false → EntryAt (4 * x .header .right .0) y
+        → nameOrder (nameIn y) (nameIn x) ≡ Greater
+
+  -- THE RULE, of a table whose walk lists xs
+  pub record Accepts (xs : List ℕ) : Type 0 where
+    pub ends : (room : ℕ) → length xs ≤ room → walkOf w first t room ≡ gives xs
+    pub once : (i j : ℕ) → i < length xs → j < length xs → getD xs i 0 ≡ getD xs j 0 → i ≡ j
+    pub in-place : (o : ℕ) (x : Placed) → List·Memᴰ o xs → EntryAt o x → InPlace o x
+    pub disjoint : (o p : ℕ) (x y : Placed) → List·Memᴰ o xs → List·Memᴰ p xs → EntryAt o x → EntryAt p y → (o ≡ p → ⊥)
+        → (endOf (x .header) o ≤ p) ⊎ (endOf (y .header) p ≤ o)
+    pub in-order : (o : ℕ) (x : Placed) → List·Memᴰ o xs → EntryAt o x → InOrder x

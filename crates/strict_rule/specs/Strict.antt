@@ -1,0 +1,166 @@
+-- What the strict check answers: a walk that stops at the first fault, in walk order. Assumes nothing.
+use Prim.Native.Nat.{ℕ, zero, suc, _+_, _-_, _*_, _/_}
+use mathlib.Core.Bool.{Bool, true, false}
+use mathlib.Core.List.{List, [], _∷_, _++_}
+use mathlib.Core.Option.{Option, some, none}
+use lib.Dec.{leb, eqb}
+use lib.ListN.{length, replicate}
+use Rattle.units.specs.Told.{Told, gives, refuses, pick}
+use Rattle.units.specs.declared.Sector.{Sector}
+use Rattle.units.specs.declared.Region.{Region}
+use Rattle.layout_bytes.specs.Bytes.{both}
+use Rattle.layout_name.specs.declared.Order.{Order}
+use Rattle.layout_name.specs.declared.Order.the-variants.{Less, Equal, Greater}
+use Rattle.layout_name.specs.Order.{nameOrder}
+use Rattle.layout_node.specs.declared.Header.{Header}
+use Rattle.layout_node.specs.Header.{entryLength}
+use Rattle.read_entry.specs.Entry.{Placed, readAt, nameOf}
+use Rattle.read_entry.specs.Links.{isIn, walkAbsent}
+use Rattle.read_walk.specs.Walk.{before, counted, listed}
+use Rattle.strict_rule.specs.declared.Checked.{Checked}
+use Rattle.strict_rule.specs.declared.Checked.the-variants as checked
+
+-- where the entry at an offset ends: its header and name, rounded up to a multiple of 4
+abbrev pub endOf : Header → ℕ → ℕ
+endOf h o = o + entryLength (h .«name_len»)
+
+-- the same of what is read at an offset; where that is no entry, it has no length and no name
+abbrev pub endBy : Told (Option Placed) → ℕ → ℕ
+endBy (gives (some x)) o = endOf (x .header) o
+endBy (gives none) o = o
+endBy (refuses k vs) o = o
+
+abbrev pub nameBy : List ℕ → Told (Option Placed) → List ℕ
+nameBy w (gives (some x)) = nameOf w (x .place) (x .header .«name_len»)
+nameBy w (gives none) = []
+nameBy w (refuses k vs) = []
+
+-- an entry from o to e is inside the table and crosses no sector line
+abbrev pub inSector : ℕ → ℕ → ℕ → Bool
+inSector size o e = both (leb e size) (eqb (o / 2048) ((e - 1) / 2048))
+
+-- from o to e there is nothing of the entry at x; and nothing of the entries listed
+abbrev pub clear : (ℕ → Told (Option Placed)) → ℕ → ℕ → ℕ → Bool
+clear f o e x = pick (leb e x) true (leb (endBy (f x) x) o)
+
+unfoldable pub apart : (ℕ → Told (Option Placed)) → ℕ → ℕ → List ℕ → Bool
+apart f o e [] = true
+apart f o e (x ∷ xs) = both (clear f o e x) (apart f o e xs)
+
+-- in its place: inside the table, over no sector line, and over no entry listed
+unfoldable pub placed : (ℕ → Told (Option Placed)) → ℕ → ℕ → ℕ → List ℕ → Bool
+placed f size o e seen = both (inSector size o e) (apart f o e seen)
+
+-- one name is less than another
+abbrev pub isLess : Order → Bool
+isLess Less = true
+isLess Equal = false
+isLess Greater = false
+
+-- a place to visit: its offset, and the offsets of the entries, if any, than whose names its own must be less and
+-- greater
+pub record Visit : Type 0 where
+  pub offset : ℕ
+  pub under : Option ℕ
+  pub over : Option ℕ
+
+-- THE ORDER RULE: a left child's name is less than its parent's, a right child's greater (`visitLeft` and
+-- `visitRight` say which bounds a child gets). It does not give that a name in a left subtree is less than the
+-- subtree's parent: the root m, its left child c and c's right child z pass, and no lookup finds z
+abbrev pub lessThan : List ℕ → Option (List ℕ) → Bool
+lessThan name none = true
+lessThan name (some other) = isLess (nameOrder name other)
+
+abbrev pub moreThan : List ℕ → Option (List ℕ) → Bool
+moreThan name none = true
+moreThan name (some other) = isLess (nameOrder other name)
+
+abbrev pub nameAt : List ℕ → (ℕ → Told (Option Placed)) → Option ℕ → Option (List ℕ)
+nameAt w f none = none
+nameAt w f (some o) = some (nameBy w (f o))
+
+unfoldable pub ordered : List ℕ → (ℕ → Told (Option Placed)) → Visit → List ℕ → Bool
+ordered w f v name = both (lessThan name (nameAt w f (v .under))) (moreThan name (nameAt w f (v .over)))
+
+abbrev pub visitLeft : ℕ → Visit → ℕ → Visit
+visitLeft k parent p = record { offset = 4 * k; under = some p; over = none }
+
+abbrev pub visitRight : ℕ → Visit → ℕ → Visit
+visitRight k parent p = record { offset = 4 * k; under = none; over = some p }
+
+-- the root has no bounds
+abbrev pub root : Visit
+root = record { offset = 0; under = none; over = none }
+
+-- at one offset: 30, then 26, then 32, then 31
+abbrev pub judged : Bool → Bool → Bool → Bool → ℕ → Told (Unit {0})
+judged shared full well right o =
+    pick shared (refuses 30 (o ∷ []))
+    (pick full (refuses 26 [])
+    (pick well (pick right (gives tt) (refuses 31 (o ∷ []))) (refuses 32 (o ∷ []))))
+
+-- the verdict on an entry that is read at a visit, after those listed
+unfoldable pub verdictAt : List ℕ → (ℕ → Told (Option Placed)) → ℕ → List ℕ → Bool → Visit → Placed → Told (Unit {0})
+verdictAt w f size seen full v x =
+    judged (isIn (v .offset) seen) full (placed f size (v .offset) (endOf (x .header) (v .offset)) seen)
+    (ordered w f v (nameOf w (x .place) (x .header .«name_len»))) (v .offset)
+
+-- go on after a verdict
+abbrev pub ifGood : Told (Unit {0}) → Told (List ℕ) → Told (List ℕ)
+ifGood (gives u) x = x
+ifGood (refuses k vs) x = refuses k vs
+
+-- a child put on the stack, unless its link is absent
+unfoldable pub push : ℕ → Visit → List Visit → List Visit
+push k v stack = pick (isIn k walkAbsent) stack (v ∷ stack)
+
+abbrev pub byRead : Told (Option Placed) → (Placed → Told (List ℕ)) → Told (List ℕ) → Told (List ℕ)
+byRead (gives (some x)) enter rest = enter x
+byRead (gives none) enter rest = rest
+byRead (refuses k vs) enter rest = refuses k vs
+
+-- down the stack to the next entry; `enter` says what an entry leads to
+unfoldable pub toEntry : (ℕ → Told (Option Placed)) → (Visit → Placed → List Visit → Told (List ℕ)) → List Visit
+    → Told (List ℕ)
+toEntry f enter [] = gives []
+toEntry f enter (v ∷ stack) = byRead (f (v .offset)) (λ x. enter v x stack) (toEntry f enter stack)
+
+-- the check of a stack of visits, with `room` places left in the list, after those listed. `f o` is what is read at
+-- offset o
+unfoldable pub strictFrom : List ℕ → (ℕ → Told (Option Placed)) → ℕ → ℕ → List ℕ → List Visit → Told (List ℕ)
+strictFrom w f size zero seen stack =
+    toEntry f (λ v x rest. ifGood (verdictAt w f size seen true v x) (refuses 26 [])) stack
+strictFrom w f size (suc room) seen stack =
+    toEntry f (λ v x rest.
+    ifGood (verdictAt w f size seen false v x)
+    (before (v .offset ∷ [])
+    (strictFrom w f size room (seen ++ (v .offset ∷ []))
+    (push (x .header .left .0) (visitLeft (x .header .left .0) v (v .offset))
+    (push (x .header .right .0) (visitRight (x .header .right .0) v (v .offset)) rest))))) stack
+
+-- the strict check of a table from offset 0, into a list of `room` places: a table of size 0 lists nothing
+unfoldable pub strictOf : List ℕ → Sector → Region → ℕ → Told (List ℕ)
+strictOf w first t room =
+    pick (eqb (t .size) 0) (gives []) (strictFrom w (readAt w first t) (t .size) room [] (root ∷ []))
+
+-- THE ANSWER, THE LIST AND THE SCRATCH AFTERWARDS, as the walk has them: 6 where the scratch is not longer than the
+-- list, and then all is unchanged
+unfoldable pub strictAnswer : List ℕ → Sector → Region → ℕ → ℕ → Told ℕ
+strictAnswer w first t n m = pick (leb m n) (refuses 6 []) (counted (strictOf w first t n))
+
+unfoldable pub listAfter : List ℕ → Sector → Region → List ℕ → ℕ → List ℕ
+listAfter w first t list m = pick (leb m (length list)) list (listed (strictOf w first t (length list)) (length list))
+
+unfoldable pub scratchAfter : ℕ → List ℕ → List ℕ
+scratchAfter n scratch = pick (leb (length scratch) n) scratch (replicate (length scratch) 0)
+
+-- what each answer of the code stands for
+abbrev pub told : Checked → Told ℕ
+told (checked.Done n) = gives n
+told checked.Room = refuses 6 []
+told (checked.OutOfBounds o) = refuses 23 (o .0 ∷ [])
+told (checked.Truncated o) = refuses 24 (o .0 ∷ [])
+told checked.WalkFull = refuses 26 []
+told (checked.Shared o) = refuses 30 (o .0 ∷ [])
+told (checked.OutOfOrder o) = refuses 31 (o .0 ∷ [])
+told (checked.BadPlace o) = refuses 32 (o .0 ∷ [])

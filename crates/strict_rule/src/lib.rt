@@ -1,0 +1,19 @@
+// The strict check without its code: what it answers, by definition, and which tables it accepts.
+use units::Offset;
+
+// What the strict check answers.
+pub enum Checked {
+    // So many offsets are listed: the table is of the form that the readers agree on.
+    Done(usize),
+    // 6: the scratch is not longer than the list.
+    Room,
+    // 23, 24: with the offset that was to be read.
+    OutOfBounds(Offset),
+    Truncated(Offset),
+    // 26: an entry is read when the list is full.
+    WalkFull,
+    // 30, 31, 32: with the offset of the entry at fault.
+    Shared(Offset),
+    OutOfOrder(Offset),
+    BadPlace(Offset),
+}
