@@ -26,7 +26,8 @@ use Rattle.agree.specs.Given.{Given, Good, numbered, grown, WrittenList}
 use Rattle.agree.specs.Cases.{a, b, c, bytesOf, regionOf, starred, Each, Starred}
 
 computed : Each starred
-unfolding grown bal items endOf freeOf startAfter sectorsFor tableBytes bytesFrom entryBytes headerBytes raised numberOrder listOrder orderBy nameOrder least anyBad checkOf walkOf walkFrom toEntry push readAt readHere isBlank all headerOf nameOf isIn lookupBy anyHigh chainFrom stepAt byLink
+unfolding grown bal items endOf freeOf startAfter sectorsFor tableBytes bytesFrom entryBytes headerBytes raised numberOrder listOrder orderBy nameOrder least
+    anyBad checkOf walkOf walkFrom toEntry push readAt readHere isBlank all headerOf nameOf isIn lookupBy anyHigh chainFrom stepAt byLink
 computed = (
   (refl, refl),
   (

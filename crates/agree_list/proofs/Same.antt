@@ -82,5 +82,7 @@ module _ (L : Listing) (m p : ℕ) (hm : L .count ≤ m) (hp : L .count ≤ p) (
     pub same-output : (out : List ℕ) → outAfter L n s out ≡ thenOutput (addAll (givenIn L) (L .count) 0 (emptyIn c (L .bytes))) (λ A. serialise.outAfter A s m p out) out
     unfolding outAfter wholeOf
     same-output out =
-        ap (λ (b : Bool). ifWritten (pick b (ifGrown (grow (L .bytes) (givenIn L) (L .count)) (λ t. ifFits (length out) (placeOf (entryIn L) 1 s t))) (refuses 6 [])) (tableFor (grow (L .bytes) (givenIn L) (L .count)) (λ t. tableBytes (entryIn L) 1 s t)) out) places
+        ap (λ (b : Bool). ifWritten
+        (pick b (ifGrown (grow (L .bytes) (givenIn L) (L .count)) (λ t. ifFits (length out) (placeOf (entryIn L) 1 s t))) (refuses 6 []))
+        (tableFor (grow (L .bytes) (givenIn L) (L .count)) (λ t. tableBytes (entryIn L) 1 s t)) out) places
         ∙ outputs out (addAll (givenIn L) (L .count) 0 (emptyIn c (L .bytes))) (grow (L .bytes) (givenIn L) (L .count)) (from-empty L c wide)

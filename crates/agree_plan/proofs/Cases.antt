@@ -95,7 +95,9 @@ found-there : pathOf window window-first (rootOf its-plan) (68 ∷ 47 ∷ 66 ∷
       header = record { left = record { 0 = 0 }; right = record { 0 = 0 }; sector = record { 0 = 37 }; size = 1; attributes = 32; «name_len» = 1 };
       place = 2048;
     })
-unfolding startSector treeIn growFrom checkOf anyBad nameOrder orderBy listOrder numberOrder raised bal placeOf anyFar items endOf freeOf startAfter sectorsFor tableBytes bytesFrom entryBytes headerBytes pathBy trim split unended partsFrom anyHigh readAt readHere isBlank all headerOf nameOf isIn lookupBy chainFrom stepAt byLink
+unfolding startSector treeIn growFrom checkOf anyBad nameOrder orderBy listOrder numberOrder raised bal placeOf anyFar items endOf freeOf startAfter sectorsFor
+    tableBytes bytesFrom entryBytes headerBytes pathBy trim split unended partsFrom anyHigh readAt readHere isBlank all headerOf nameOf isIn lookupBy chainFrom
+    stepAt byLink
 found-there = refl
 
 -- the sizes with which the root's list is written

@@ -118,7 +118,8 @@ module _ (R : Request) (places : ℕ) (tables sectors : List ℕ) (p : Plan) (w 
 
     -- further parts
     module _ (b : List ℕ) (cs : List (List ℕ)) (next : (d₁ : ℕ) → d₁ < directoriesOf R → (u : Region) → RegionFor p d₁ u → Only R p first d₁ (b ∷ cs) (partsFrom lookupAbsent w first u (b ∷ cs))) where
-      lift : (i : ℕ) → i < countOf R d → Same a (entriesAt R (p .sizes) d i .name) → isDirectory (shareOf R d) i ≡ true → (x : Told Placed) → Only R p first (valueOf (shareOf R d) i) (b ∷ cs) x → Only R p first d (a ∷ b ∷ cs) x
+      lift : (i : ℕ) → i < countOf R d → Same a (entriesAt R (p .sizes) d i .name) → isDirectory (shareOf R d) i ≡ true → (x : Told Placed)
+          → Only R p first (valueOf (shareOf R d) i) (b ∷ cs) x → Only R p first d (a ∷ b ∷ cs) x
       lift i hi s dir x (finds e j pl y l q v at) = finds e j pl y (into d i e j a b cs hi part s dir l) q v at
       lift i hi s dir x misses = misses
       lift i hi s dir x (meets e j [] b₁ cs₁ q l f) = absurd (no-parts [] l refl)

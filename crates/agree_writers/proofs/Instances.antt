@@ -65,7 +65,8 @@ abc-wrote = record {
 
 -- an arena can be serialised, and its output read
 arena-answer : serialiseOf held 34 3 3 2048 ≡ gives answer
-unfolding serialiseOf isArena isTaken holdsTree places inside wholeTree decoded treeAt between cellOk toName checkOf anyBad placeOf anyFar items endOf freeOf startAfter sectorsFor raised numberOrder listOrder orderBy nameOrder
+unfolding serialiseOf isArena isTaken holdsTree places inside wholeTree decoded treeAt between cellOk toName checkOf anyBad placeOf anyFar items endOf freeOf
+    startAfter sectorsFor raised numberOrder listOrder orderBy nameOrder
 arena-answer = refl
 
 pub held-wrote : WroteArena held 34 3 3 out answer (serialise.outAfter held 34 3 3 out) (record { 0 = 33 }) region

@@ -215,7 +215,8 @@ module _ (S : Lists) (i : ℕ) (w : Ready S i) where
     pub left-leaves : tiltOf a b ≡ ToLeft → {T : Lists} {t : ℕ}
         → ((v : Heavy (swap Ss) i (getD (S .L) g 0)) → Up (swap T) (length (S .R)) t (turnLeft (v .x) i (node (v .y) (getD (S .L) g 0) (v .z))) (v .k) (v .hh)) → Left T t
     left-leaves q {T} {t} = subst (λ (m : ℕ). ((v : Heavy (swap Ss) i (getD (S .L) m 0)) → Up (swap T) (length (S .R)) t (turnLeft (v .x) i (node (v .y) (getD (S .L) m 0) (v .z))) (v .k) (v .hh)) → Left T t) (sym is)
-        (subst (λ (u : List ℕ). ((v : Heavy (lists (S .root) (S .R) (S .L) (S .P) u) i (getD (S .L) i 0)) → Up (swap T) (length (S .R)) t (turnLeft (v .x) i (node (v .y) (getD (S .L) i 0) (v .z))) (v .k) (v .hh)) → Left T t)
+        (subst (λ (u : List ℕ). ((v : Heavy (lists (S .root) (S .R) (S .L) (S .P) u) i (getD (S .L) i 0))
+        → Up (swap T) (length (S .R)) t (turnLeft (v .x) i (node (v .y) (getD (S .L) i 0) (v .z))) (v .k) (v .hh)) → Left T t)
         (sym e) (λ f. left-done a b a1 b1 q T t (f (left-turnable a b a1 b1 q .0))))
 
     pub leaf-leaves : tiltOf a b ≡ Leaf → Left Ss i

@@ -108,5 +108,6 @@ single-mir A B n a b x y z k hh S W =
 pub double-mir : (A B : Arr) (n a b c : ℕ) (x y w z : Tree) (k : Ctx) (hh : ℕ) → At A n c a (node x b (node y c w)) z k hh
     → Double (flip A) (flip B) a b c (mir z) (mir w) (mir y) (mir x) → At B n c c (node x b y) (node w a z) k hh
 double-mir A B n a b c x y w z k hh S W =
-    let T : At (flip B) n c c (node (mir z) a (mir w)) (node (mir y) b (mir x)) (mirK k) hh = double (flip A) (flip B) n a b c (mir z) (mir w) (mir y) (mir x) (mirK k) hh (at-mir A n c a (node x b (node y c w)) z k hh S) W in
+    let T : At (flip B) n c c (node (mir z) a (mir w)) (node (mir y) b (mir x)) (mirK k) hh =
+    double (flip A) (flip B) n a b c (mir z) (mir w) (mir y) (mir x) (mirK k) hh (at-mir A n c a (node x b (node y c w)) z k hh S) W in
     rw (← mir-mir x, ← mir-mir y, ← mir-mir w, ← mir-mir z, ← mirK-mirK k) (at-mir (flip B) n c c (node (mir z) a (mir w)) (node (mir y) b (mir x)) (mirK k) hh T)

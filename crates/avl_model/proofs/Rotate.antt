@@ -98,7 +98,9 @@ double A B n a b c x y w z k hh S W =
     let none-yw : cnt j y + cnt j w ≡ 0 = fy j m in
     record { l = W .L-else j nb nc; r = W .R-else j na nc; p = W .P-else j na nb nc (λ iy e. omega arith) (λ iw e. omega arith); h = W .H-else j na nb nc } in
     -- the same for a subtree that moves
-    let in-moved : (f : ℕ → ℕ) (t : ℕ) → f a ≡ 0 → f b ≡ 0 → f c ≡ 0 → ((j : ℕ) → 1 ≤ f j → (j ≡ t → ⊥) → (1 ≤ cnt j y → j ≡ top y → ⊥) × (1 ≤ cnt j w → j ≡ top w → ⊥)) → (j : ℕ) → 1 ≤ f j → Moved A B t j = λ f t fa fb fc fy j m.
+    let in-moved : (f : ℕ → ℕ) (t : ℕ) → f a ≡ 0 → f b ≡ 0 → f c ≡ 0
+    → ((j : ℕ) → 1 ≤ f j → (j ≡ t → ⊥) → (1 ≤ cnt j y → j ≡ top y → ⊥) × (1 ≤ cnt j w → j ≡ top w → ⊥)) → (j : ℕ) → 1 ≤ f j → Moved A B t j =
+    λ f t fa fb fc fy j m.
     let na : j ≡ a → ⊥ = apart f m fa in
     let nb : j ≡ b → ⊥ = apart f m fb in
     let nc : j ≡ c → ⊥ = apart f m fc in

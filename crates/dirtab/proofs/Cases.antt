@@ -39,7 +39,8 @@ empty-small = refl
 
 -- the reported size is not rounded; b takes three sectors, a one, c two
 three-given : serialiseOf three 33 3 3 2048 ≡ gives (record { size = 48; free = 39 })
-unfolding serialiseOf isArena isTaken checkOf anyBad holdsTree wholeTree places inside between cellOk decoded treeAt toName nameOrder orderBy listOrder numberOrder raised placeOf anyFar items endOf freeOf startAfter sectorsFor
+unfolding serialiseOf isArena isTaken checkOf anyBad holdsTree wholeTree places inside between cellOk decoded treeAt toName nameOrder orderBy listOrder
+    numberOrder raised placeOf anyFar items endOf freeOf startAfter sectorsFor
 three-given = refl
 
 -- b at 0 with the links 4 and 8, then a, then c with its size rounded; sectors in this order; 0xff up to the sector's end, and then the output as it was
@@ -47,7 +48,8 @@ three-written : outAfter three 33 3 3 (replicate 2050 7)
     ≡ (4 ∷ 0 ∷ 8 ∷ 0 ∷ 33 ∷ 0 ∷ 0 ∷ 0 ∷ 1 ∷ 16 ∷ 0 ∷ 0 ∷ 32 ∷ 1 ∷ 98 ∷ 255
     ∷ 0 ∷ 0 ∷ 0 ∷ 0 ∷ 36 ∷ 0 ∷ 0 ∷ 0 ∷ 1 ∷ 0 ∷ 0 ∷ 0 ∷ 32 ∷ 1 ∷ 97 ∷ 255
     ∷ 0 ∷ 0 ∷ 0 ∷ 0 ∷ 37 ∷ 0 ∷ 0 ∷ 0 ∷ 0 ∷ 16 ∷ 0 ∷ 0 ∷ 16 ∷ 1 ∷ 99 ∷ 255 ∷ []) ++ (replicate 2000 255 ++ replicate 2 7)
-unfolding outAfter serialiseOf isArena isTaken checkOf anyBad holdsTree wholeTree places inside between cellOk decoded treeAt toName nameOrder orderBy listOrder numberOrder raised placeOf anyFar items endOf freeOf startAfter sectorsFor tableBytes bytesFrom entryBytes headerBytes
+unfolding outAfter serialiseOf isArena isTaken checkOf anyBad holdsTree wholeTree places inside between cellOk decoded treeAt toName nameOrder orderBy listOrder
+    numberOrder raised placeOf anyFar items endOf freeOf startAfter sectorsFor tableBytes bytesFrom entryBytes headerBytes
 three-written = refl
 
 -- 6 where a scratch column has two places, 8 where the last sector would be past the last number
@@ -56,5 +58,6 @@ unfolding serialiseOf isArena isTaken checkOf anyBad holdsTree wholeTree places 
 three-short = refl
 
 three-far : serialiseOf three 4294967290 3 3 2048 ≡ refuses 8 []
-unfolding serialiseOf isArena isTaken checkOf anyBad holdsTree wholeTree places inside between cellOk decoded treeAt toName nameOrder orderBy listOrder numberOrder raised placeOf anyFar items endOf freeOf startAfter sectorsFor
+unfolding serialiseOf isArena isTaken checkOf anyBad holdsTree wholeTree places inside between cellOk decoded treeAt toName nameOrder orderBy listOrder
+    numberOrder raised placeOf anyFar items endOf freeOf startAfter sectorsFor
 three-far = refl

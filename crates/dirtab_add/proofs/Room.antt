@@ -77,14 +77,43 @@ module _ (n : ℕ) (c : Columns) where
             module _ (h5 : n < length (c .start)) where
               pub full-len : length (c .len) ≤ n → false ≡ hasRoom n c
               unfolding hasRoom
-              full-len h = rw (lt-ltb n most h0, lt-ltb n (length (c .left)) h1, lt-ltb n (length (c .right)) h2, lt-ltb n (length (c .parent)) h3, lt-ltb n (length (c .height)) h4, lt-ltb n (length (c .start)) h5, le-ltb n (length (c .len)) h)
+              full-len h = rw (
+                lt-ltb n most h0,
+                lt-ltb n (length (c .left)) h1,
+                lt-ltb n (length (c .right)) h2,
+                lt-ltb n (length (c .parent)) h3,
+                lt-ltb n
+                    (length (c .height)) h4,
+                lt-ltb n (length (c .start)) h5,
+                le-ltb n (length (c .len)) h,
+              )
 
               module _ (h6 : n < length (c .len)) where
                 pub full-size : length (c .size) ≤ n → false ≡ hasRoom n c
                 unfolding hasRoom
-                full-size h = rw (lt-ltb n most h0, lt-ltb n (length (c .left)) h1, lt-ltb n (length (c .right)) h2, lt-ltb n (length (c .parent)) h3, lt-ltb n (length (c .height)) h4, lt-ltb n (length (c .start)) h5, lt-ltb n (length (c .len)) h6, le-ltb n (length (c .size)) h)
+                full-size h = rw (
+                  lt-ltb n most h0,
+                  lt-ltb n (length (c .left)) h1,
+                  lt-ltb n (length (c .right)) h2,
+                  lt-ltb n (length (c .parent)) h3,
+                  lt-ltb n
+                      (length (c .height)) h4,
+                  lt-ltb n (length (c .start)) h5,
+                  lt-ltb n (length (c .len)) h6,
+                  le-ltb n (length (c .size)) h,
+                )
 
                 module _ (h7 : n < length (c .size)) where
                   pub last-kind : ltb n (length (c .kind)) ≡ hasRoom n c
                   unfolding hasRoom
-                  last-kind = rw (lt-ltb n most h0, lt-ltb n (length (c .left)) h1, lt-ltb n (length (c .right)) h2, lt-ltb n (length (c .parent)) h3, lt-ltb n (length (c .height)) h4, lt-ltb n (length (c .start)) h5, lt-ltb n (length (c .len)) h6, lt-ltb n (length (c .size)) h7)
+                  last-kind = rw (
+                    lt-ltb n most h0,
+                    lt-ltb n (length (c .left)) h1,
+                    lt-ltb n (length (c .right)) h2,
+                    lt-ltb n (length (c .parent)) h3,
+                    lt-ltb n
+                        (length (c .height)) h4,
+                    lt-ltb n (length (c .start)) h5,
+                    lt-ltb n (length (c .len)) h6,
+                    lt-ltb n (length (c .size)) h7,
+                  )

@@ -107,7 +107,15 @@ module _ (A : Arena) (e : given.Entry) (q : Place) (w : Taking A e q) where
   fine = fine-of (A .bytes) e (w .checked .taken)
 
   pub places-more : Places (listsOf A) (namesOf A) (A .count + 1)
-  places-more = record { l = omega (arith, roomy .left); r = omega (arith, roomy .right); p = omega (arith, roomy .parent); h = omega (arith, roomy .height); start = omega (arith, roomy .start); len = omega (arith, roomy .len) }
+  places-more = record {
+    l = omega (arith, roomy .left);
+    r = omega (arith, roomy .right);
+    p = omega (arith, roomy .parent);
+    h =
+        omega (arith, roomy .height);
+    start = omega (arith, roomy .start);
+    len = omega (arith, roomy .len);
+  }
 
   pub goes : Placed (partOf (A .count + 1) (listsOf A)) q (A .count)
   goes = placed (listsOf A) (namesOf A) (A .count) (tree-passed A (w .checked .passes)) places-more (omega (arith, roomy .small)) (orderTo A e) q (w .free)

@@ -28,7 +28,8 @@ two-files = refl
 pub two-files-left :
     lentAfter twoFiles nines ≡
     lent (32 ∷ 9 ∷ []) (33 ∷ 9 ∷ []) (34 ∷ 35 ∷ []) (0 ∷ 0 ∷ []) (0 ∷ 0 ∷ []) (0 ∷ 0 ∷ []) (0 ∷ 0 ∷ []) (0 ∷ 0 ∷ []) (0 ∷ 0 ∷ []) (0 ∷ 0 ∷ []) (0 ∷ 0 ∷ [])
-unfolding lentAfter imageOf hasRoom fits planOf isTree total sizesDown treeIn growFrom checkOf anyBad nameOrder orderBy listOrder numberOrder raised bal takingAll takingUp placeOf anyFar items endOf freeOf startAfter sectorsFor
+unfolding lentAfter imageOf hasRoom fits planOf isTree total sizesDown treeIn growFrom checkOf anyBad nameOrder orderBy listOrder numberOrder raised bal
+    takingAll takingUp placeOf anyFar items endOf freeOf startAfter sectorsFor
 two-files-left = refl
 
 -- a root with the directory `d`, and in it the file `f` of a byte
@@ -43,7 +44,8 @@ one-below = refl
 pub one-below-left :
     lentAfter oneBelow nines ≡
     lent (16 ∷ 16 ∷ []) (33 ∷ 34 ∷ []) (34 ∷ 35 ∷ []) (0 ∷ 0 ∷ []) (0 ∷ 0 ∷ []) (0 ∷ 0 ∷ []) (0 ∷ 0 ∷ []) (0 ∷ 0 ∷ []) (0 ∷ 0 ∷ []) (0 ∷ 0 ∷ []) (0 ∷ 0 ∷ [])
-unfolding lentAfter imageOf hasRoom fits planOf isTree total sizesDown treeIn growFrom checkOf anyBad nameOrder orderBy listOrder numberOrder raised bal takingAll takingUp placeOf anyFar items endOf freeOf startAfter sectorsFor
+unfolding lentAfter imageOf hasRoom fits planOf isTree total sizesDown treeIn growFrom checkOf anyBad nameOrder orderBy listOrder numberOrder raised bal
+    takingAll takingUp placeOf anyFar items endOf freeOf startAfter sectorsFor
 one-below-left = refl
 
 -- a root alone: a table of 2,048 bytes at 33

@@ -73,7 +73,9 @@ module _ (S : Share) (tab : ℕ → ℕ) where
 
     check-same : (i : ℕ) → (isDirectory S i ≡ true → tab (valueOf S i) ≡ other (valueOf S i)) → checkIn S tab i ≡ checkIn S other i
     check-same i h =
-        ap (λ (z : ℕ). pick (ltb 4294967295 z) (refuses 10 []) (checkOf (S .bytes) (record { start = getD (S .start) i 0; len = getD (S .len) i 0; kind = kindFor (getD (S .kind) i 0); size = z }))) (size-by (isDirectory S i) i refl h)
+        ap (λ (z : ℕ). pick (ltb 4294967295 z) (refuses 10 [])
+        (checkOf (S .bytes) (record { start = getD (S .start) i 0; len = getD (S .len) i 0; kind = kindFor (getD (S .kind) i 0); size = z })))
+        (size-by (isDirectory S i) i refl h)
 
     -- two tables' sizes that agree on a share's directories give the same tree
     pub tree-same : ((i : ℕ) → i < S .count → isDirectory S i ≡ true → tab (valueOf S i) ≡ other (valueOf S i)) → treeIn S tab ≡ treeIn S other

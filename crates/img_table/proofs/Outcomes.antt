@@ -72,7 +72,8 @@ module _ (S : Share) (tab : ℕ → ℕ) (size : List ℕ) (m : ℕ) (m-is : m �
   N = names (S .bytes) (S .start) (S .len)
 
   -- the columns have a place for each of them
-  pub roomy : {tables l r p h k z o : ℕ} → Arrangeable S tables l r p h k z o → length (S .kind) ≡ S .count → (T : Lists) (K : List ℕ) → length (T .L) ≡ l → length (T .R) ≡ r → length (T .P) ≡ p → length (T .H) ≡ h → length K ≡ k → length size ≡ z
+  pub roomy : {tables l r p h k z o : ℕ} → Arrangeable S tables l r p h k z o → length (S .kind) ≡ S .count → (T : Lists) (K : List ℕ) → length (T .L) ≡ l
+      → length (T .R) ≡ r → length (T .P) ≡ p → length (T .H) ≡ h → length K ≡ k → length size ≡ z
       → Roomy (listing m (S .start) (S .len) size (S .kind) (S .bytes)) T K m
   roomy a q T K el er ep eh ek ez =
       let c : m ≤ S .count = to-count S tab size m m-is sizes in

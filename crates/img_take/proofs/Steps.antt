@@ -118,14 +118,19 @@ module _ (R : Request) (s : List ℕ) where
         ≡ pick (ltb 262144 (sizeOf (entriesAt R s d) t)) (refuses 7 []) (pick (ltb 4294967295 (freeOf (entriesAt R s d) 1 (p .free) t)) (refuses 8 [])
         (gives (record { size = sizeOf (entriesAt R s d) t; free = freeOf (entriesAt R s d) 1 (p .free) t })))
     unfolding placeOf
-    place-by-size = ap (λ (b : Bool). pick b (refuses 7 []) (pick (ltb 4294967295 (freeOf (entriesAt R s d) 1 (p .free) t)) (refuses 8 []) (gives (record { size = sizeOf (entriesAt R s d) t; free = freeOf (entriesAt R s d) 1 (p .free) t })))) far-by-size
+    place-by-size = ap (λ (b : Bool). pick b (refuses 7 [])
+        (pick (ltb 4294967295 (freeOf (entriesAt R s d) 1 (p .free) t)) (refuses 8 [])
+        (gives (record { size = sizeOf (entriesAt R s d) t; free = freeOf (entriesAt R s d) 1 (p .free) t })))) far-by-size
 
     one-by-size : (b : Bool) → ltb 262144 (sizeOf (entriesAt R s d) t) ≡ b → takingUp R s 1 d p
         ≡ ifPlaced R s d (pick b (refuses 7 []) (pick (ltb 4294967295 (freeOf (entriesAt R s d) 1 (p .free) t)) (refuses 8 [])
         (gives (record { size = sizeOf (entriesAt R s d) t; free = freeOf (entriesAt R s d) 1 (p .free) t })))) (gives (takingAll R s d p (order t)))
     one-by-size b e =
         one-is d p told
-        ∙ ap (λ (u : Told Placing). ifPlaced R s d u (gives (takingAll R s d p (order t)))) (place-by-size ∙ ap (λ (v : Bool). pick v (refuses 7 []) (pick (ltb 4294967295 (freeOf (entriesAt R s d) 1 (p .free) t)) (refuses 8 []) (gives (record { size = sizeOf (entriesAt R s d) t; free = freeOf (entriesAt R s d) 1 (p .free) t })))) e)
+        ∙ ap (λ (u : Told Placing). ifPlaced R s d u (gives (takingAll R s d p (order t))))
+        (place-by-size ∙ ap (λ (v : Bool). pick v (refuses 7 [])
+        (pick (ltb 4294967295 (freeOf (entriesAt R s d) 1 (p .free) t)) (refuses 8 [])
+        (gives (record { size = sizeOf (entriesAt R s d) t; free = freeOf (entriesAt R s d) 1 (p .free) t })))) e)
 
     pub far-step : 262144 < sizeOf (entriesAt R s d) t → freeTold (takingUp R s 1 d p) ≡ refuses 7 (d ∷ [])
     far-step h = ap freeTold (one-by-size true (lt-ltb _ _ h))

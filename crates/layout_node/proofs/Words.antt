@@ -69,12 +69,32 @@ module _ (s : List ℕ) (long : length s ≡ 14) (p q o : ℕ) (p-is : p ≡ u32
   pub zeros-all : eqb p 0 && (eqb q 0 && (eqb o 0 && (eqb (getD s 12 0) 0 && eqb (getD s 13 0) 0))) ≡ all 0 s
   unfolding chain
   zeros-all =
-      rw (p-is, q-is, o-is, four-zeros (getD s 0 0) (getD s 1 0) (getD s 2 0) (getD s 3 0), four-zeros (getD s 4 0) (getD s 5 0) (getD s 6 0) (getD s 7 0), four-zeros (getD s 8 0) (getD s 9 0) (getD s 10 0) (getD s 11 0))
-      (regroup (eqb (getD s 0 0) 0) (eqb (getD s 1 0) 0) (eqb (getD s 2 0) 0) (eqb (getD s 3 0) 0) (eqb (getD s 4 0) 0) (eqb (getD s 5 0) 0) (eqb (getD s 6 0) 0) (eqb (getD s 7 0) 0) (eqb (getD s 8 0) 0) (eqb (getD s 9 0) 0) (eqb (getD s 10 0) 0) (eqb (getD s 11 0) 0) (eqb (getD s 12 0) 0) (eqb (getD s 13 0) 0) ∙ sym (chain-all 0 s 14 0 (omega arith)))
+      rw (
+        p-is,
+        q-is,
+        o-is,
+        four-zeros (getD s 0 0) (getD s 1 0) (getD s 2 0) (getD s 3 0),
+        four-zeros (getD s 4 0) (getD s 5 0) (getD s 6 0) (getD s 7 0),
+        four-zeros (getD s 8 0) (getD s 9 0) (getD s 10 0) (getD s 11 0),
+      )
+      (regroup (eqb (getD s 0 0) 0) (eqb (getD s 1 0) 0) (eqb (getD s 2 0) 0) (eqb (getD s 3 0) 0) (eqb (getD s 4 0) 0) (eqb (getD s 5 0) 0)
+      (eqb (getD s 6 0) 0) (eqb (getD s 7 0) 0) (eqb (getD s 8 0) 0) (eqb (getD s 9 0) 0) (eqb (getD s 10 0) 0) (eqb (getD s 11 0) 0) (eqb (getD s 12 0) 0)
+      (eqb (getD s 13 0) 0) ∙ sym (chain-all 0 s 14 0 (omega arith)))
 
   module _ (bytes : (i : ℕ) → getD s i 0 < 256) where
     pub ones-all : eqb p 4294967295 && (eqb q 4294967295 && (eqb o 4294967295 && (eqb (getD s 12 0) 255 && eqb (getD s 13 0) 255))) ≡ all 255 s
     unfolding chain
     ones-all =
-        rw (p-is, q-is, o-is, four-ones (getD s 0 0) (getD s 1 0) (getD s 2 0) (getD s 3 0) (bytes 0) (bytes 1) (bytes 2) (bytes 3), four-ones (getD s 4 0) (getD s 5 0) (getD s 6 0) (getD s 7 0) (bytes 4) (bytes 5) (bytes 6) (bytes 7), four-ones (getD s 8 0) (getD s 9 0) (getD s 10 0) (getD s 11 0) (bytes 8) (bytes 9) (bytes 10) (bytes 11))
-        (regroup (eqb (getD s 0 0) 255) (eqb (getD s 1 0) 255) (eqb (getD s 2 0) 255) (eqb (getD s 3 0) 255) (eqb (getD s 4 0) 255) (eqb (getD s 5 0) 255) (eqb (getD s 6 0) 255) (eqb (getD s 7 0) 255) (eqb (getD s 8 0) 255) (eqb (getD s 9 0) 255) (eqb (getD s 10 0) 255) (eqb (getD s 11 0) 255) (eqb (getD s 12 0) 255) (eqb (getD s 13 0) 255) ∙ sym (chain-all 255 s 14 0 (omega arith)))
+        rw (
+          p-is,
+          q-is,
+          o-is,
+          four-ones (getD s 0 0) (getD s 1 0) (getD s 2 0) (getD s 3 0) (bytes 0) (bytes 1) (bytes 2) (bytes 3),
+          four-ones (getD s 4 0)
+              (getD s 5 0) (getD s 6 0) (getD s 7 0) (bytes 4) (bytes 5) (bytes 6) (bytes 7),
+          four-ones (getD s 8 0) (getD s 9 0) (getD s 10 0) (getD s 11 0)
+              (bytes 8) (bytes 9) (bytes 10) (bytes 11),
+        )
+        (regroup (eqb (getD s 0 0) 255) (eqb (getD s 1 0) 255) (eqb (getD s 2 0) 255) (eqb (getD s 3 0) 255) (eqb (getD s 4 0) 255) (eqb (getD s 5 0) 255)
+        (eqb (getD s 6 0) 255) (eqb (getD s 7 0) 255) (eqb (getD s 8 0) 255) (eqb (getD s 9 0) 255) (eqb (getD s 10 0) 255) (eqb (getD s 11 0) 255)
+        (eqb (getD s 12 0) 255) (eqb (getD s 13 0) 255) ∙ sym (chain-all 255 s 14 0 (omega arith)))

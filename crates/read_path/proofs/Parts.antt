@@ -120,7 +120,8 @@ module _ (absent w : List ℕ) (first : Sector) (t : Region) (path : List ℕ) (
     part = let d : e - i ≡ firstLen (drop i path) = omega (arith, ends .0) in rw d
 
     pub last : length path ≤ e + 1 → (f : PathFound) → told f ≡ lastOf (lookup.told a) → told f ≡ x
-    last h f is = sym (so-far ∙ last-part absent w first t (drop i path) (simp length-drop (omega arith)) (simp length-drop (omega (arith, ends .0, ends .1))) (simp length-drop (omega (arith, ends .0))) ∙ rw (is, looked, part))
+    last h f is = sym (so-far ∙ last-part absent w first t (drop i path) (simp length-drop (omega arith)) (simp length-drop (omega (arith, ends .0, ends .1)))
+        (simp length-drop (omega (arith, ends .0))) ∙ rw (is, looked, part))
 
     went : e + 1 < length path → x ≡ onward (turnOf (lookup.told a)) (λ u. partsFrom absent w first u (unended (split (drop (e + 1) path))))
     went h =

@@ -46,7 +46,8 @@ asks ty f = record {
   lifetimes = 1;
   outlives = [];
   params = 1;
-  locals = local ty valueLocal ∷ local (T′.mir (named 0)) valueLocal ∷ local (sliceTy (tyRef erased imm (tyInt w8))) valueLocal ∷ local Sector′.mir valueLocal ∷ local Region′.mir valueLocal ∷ local Offset′.mir valueLocal ∷ [];
+  locals = local ty valueLocal ∷ local (T′.mir (named 0)) valueLocal ∷ local (sliceTy (tyRef erased imm (tyInt w8))) valueLocal ∷ local Sector′.mir valueLocal
+      ∷ local Region′.mir valueLocal ∷ local Offset′.mir valueLocal ∷ [];
   body = seq (copies 2 0) (seq (copies 3 1) (seq (copies 4 2) (seq (copies 5 3) (seq (call f (copy (place 2 []) ∷ copy (place 3 []) ∷ copy (place 4 []) ∷ copy (place 5 []) ∷ []) (place 0 [])) return))));
 }
 
@@ -67,7 +68,9 @@ module _ (x : Answer) where
 
     module _ (f : Name) (C : Calls 𝓤 H) (Λ : Loops 𝓤 H) (fm : FmC 𝓤 H (W .laws) C)
         (known : Triple 𝓤 (C f) (triple 𝓤 H A (ofFields x))) where
-      walk : Holds (hasTy (T′.mir (named 0)) mach) × WT mach → ent 𝓤 (entry 𝓤 H A (ofReader x) κs qs (d, tt) (mach ∷ [], tt)) (WpFn 𝓤 H C Λ (asks (x .mir) f) (mach ∷ []) (Post 𝓤 H A (ofReader x) κs qs (d, tt) (mach ∷ [], tt)))
+      walk : Holds (hasTy (T′.mir (named 0)) mach) × WT mach
+          → ent 𝓤 (entry 𝓤 H A (ofReader x) κs qs (d, tt) (mach ∷ [], tt))
+          (WpFn 𝓤 H C Λ (asks (x .mir) f) (mach ∷ []) (Post 𝓤 H A (ofReader x) κs qs (d, tt) (mach ∷ [], tt)))
       walk wt =
           qed W (raw (entry 𝓤 H A (ofReader x) κs qs (d, tt) (mach ∷ [], tt)) ∷ []) ∵ enter ! C Λ (asks (x .mir) f) (mach ∷ []) _ $
           allocs-all ! _ (λ l. params1 ! $ pass1 ! (init ! 8 refl wt) $ pass0 ! $

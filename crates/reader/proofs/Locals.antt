@@ -57,7 +57,8 @@ pub takes : {M : Type 1} {𝓤 : URA M} {H : Heap 𝓤} {A : Atoms 𝓤} {K : Ty
 takes {𝓤 = 𝓤} {H = H} {A = A} {K = K} {W = W} {E = E} z n k m {i} {j} {q} {ν} {τs} {τ} {d} {vs} is-struct is-field at-n at-m wt =
     assigns z
     (of-opd z (load z (from z (fld z (subst (λ (σ : Ty). fieldOf σ k ≡ some (τ, d)) (sym is-struct) is-field) (stop z)))
-    (look-in z n (subst (λ (x : Item 𝓤). Part K W x q τ (spotOf 𝓤 H E i .1) (zero + d) (getV vs k) (λ u. ‵ (fat q (tyStruct ν τs) (spotOf 𝓤 H E i .1) zero (vstruct (setV vs k u))))) (sym at-n) (sub z k is-field (whole z))))))
+    (look-in z n (subst (λ (x : Item 𝓤). Part K W x q τ (spotOf 𝓤 H E i .1) (zero + d) (getV vs k)
+    (λ u. ‵ (fat q (tyStruct ν τs) (spotOf 𝓤 H E i .1) zero (vstruct (setV vs k u))))) (sym at-n) (sub z k is-field (whole z))))))
     (from z (stop z)) (init z m at-m wt)
 
 -- a value for each local: what it holds

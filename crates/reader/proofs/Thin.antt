@@ -64,17 +64,20 @@ module _ {M : Type 1} (𝓤 : URA M) (H : Heap 𝓤) (A : Atoms 𝓤) (t : Thin)
   entry = onEntry 𝓤 H A (ended t .signature)
 
 -- ---- the call of a thin function
-module _ {M : Type 1} {𝓤 : URA M} {H : Heap 𝓤} {A : Atoms 𝓤} {K : Type 0} {W : Given 𝓤 H A} {Γ : List (Item 𝓤)} {E : Env 𝓤 H} {C : Calls 𝓤 H} {Λ : Loops 𝓤 H} {q : Then 𝓤 H} {f : Name} {xs : List Operand} {d : Place} {rest : Body} where
+module _ {M : Type 1} {𝓤 : URA M} {H : Heap 𝓤} {A : Atoms 𝓤} {K : Type 0} {W : Given 𝓤 H A} {Γ : List (Item 𝓤)} {E : Env 𝓤 H} {C : Calls 𝓤 H} {Λ : Loops 𝓤 H}
+    {q : Then 𝓤 H} {f : Name} {xs : List Operand} {d : Place} {rest : Body} where
   pub asks-at : K → FmC 𝓤 H (W .laws) C → (t : Thin) → Triple 𝓤 (C f) (triple 𝓤 H A t)
       → (κs : Lfts (t .lifetimes)) (qs : Shares (t .lifetimes)) (a : Denots (typesAt (t .params) κs)) (vss : Valss (typesAt (t .params) κs))
       → Opds K W (raw (entry 𝓤 H A t κs qs a vss) ∷ Γ) E xs (flat (typesAt (t .params) κs) vss)
-      → ((u : Val) (r : typeAt (t .result) κs .Denot) → t .Says κs a r → Is (typeAt (t .result) κs) r (u ∷ []) → Seq K W (‵ (typeAt (t .result) κs .own r (u ∷ [])) ∷ raw (tokens 𝓤 H A t κs qs) ∷ Γ) (lands C Λ E d u rest q))
+      → ((u : Val) (r : typeAt (t .result) κs .Denot) → t .Says κs a r → Is (typeAt (t .result) κs) r (u ∷ [])
+      → Seq K W (‵ (typeAt (t .result) κs .own r (u ∷ [])) ∷ raw (tokens 𝓤 H A t κs qs) ∷ Γ) (lands C Λ E d u rest q))
       → Seq K W (raw (entry 𝓤 H A t κs qs a vss) ∷ Γ) (runs C Λ E (seq (call f xs d) rest) q)
   asks-at z fm t known κs qs a vss os k =
       let P : SProp 𝓤 = entry 𝓤 H A t κs qs a vss in
       calls-from z fm (raw P) (flat (typesAt (t .params) κs) vss) (triple 𝓤 H A t .post ((κs, qs, tt, a, vss), tt))
       (via 𝓤 (sep 𝓤 P (emp 𝓤)) (via 𝓤 (sep 𝓤 (emp 𝓤) P) (emp∗ 𝓤 P) (comm∗ 𝓤 (emp 𝓤) P)) (known ((κs, qs, tt, a, vss), tt))) os (λ u.
-      use1 W (later (some (λ (r : typeAt (t .result) κs .Denot). (raw (tokens 𝓤 H A t κs qs) ⊛ ‵ (typeAt (t .result) κs .own r (u ∷ []))) ⊛ raw (ensured 𝓤 H A (ended t) (clauses 𝓤 H A t) κs a tt r)))) (id⊢ 𝓤 _) $ await z tt $ pick z (λ r.
+      use1 W (later (some (λ (r : typeAt (t .result) κs .Denot). (raw (tokens 𝓤 H A t κs qs) ⊛ ‵ (typeAt (t .result) κs .own r (u ∷ []))) ⊛ raw
+      (ensured 𝓤 H A (ended t) (clauses 𝓤 H A t) κs a tt r)))) (id⊢ 𝓤 _) $ await z tt $ pick z (λ r.
       -- of what is ensured, the clause alone: nothing is lent, so what is said of last values is dropped
       split z $ move z (1 ∷ []) $ use1 W (raw (fact 𝓤 (t .Says κs a r))) (exE 𝓤 _ (λ ws. snd∗ 𝓤 (sem 𝓤 H A (lastsOf κs (t .params) (all yes (t .params)) a ws)) (fact 𝓤 (t .Says κs a r)))) $
       heard z (t .Says κs a r) (λ e. split z $ move z (1 ∷ []) $ peeks z (typeAt (t .result) κs) (Is (typeAt (t .result) κs)) (shows 𝓤 H A (typeAt (t .result) κs)) r (u ∷ []) (λ is. k u r e is))))
@@ -143,7 +146,8 @@ module _ {M : Type 1} (𝓤 : URA M) (H : Heap 𝓤) (𝓜 : Model 𝓤 H) (𝓖
   machine κs a = valss (typesAt (t .params) κs) (spells (t .params) ks κs) a
 
   pub met : Closed 𝓤 H (tables 𝓤 H 𝓜 𝓡 γ .C) (tables 𝓤 H 𝓜 𝓡 γ .Λ) k e
-      → (FmC 𝓤 H (givenOf 𝓤 H 𝓜 𝓖 .laws) (tables 𝓤 H 𝓜 𝓡 γ .C) → (κs : Lfts (t .lifetimes)) (qs : Shares (t .lifetimes)) (a : Denots (typesAt (t .params) κs)) → Are (typesAt (t .params) κs) (Ises (typesAt (t .params) κs)) a (machine κs a)
+      → (FmC 𝓤 H (givenOf 𝓤 H 𝓜 𝓖 .laws) (tables 𝓤 H 𝓜 𝓡 γ .C) → (κs : Lfts (t .lifetimes)) (qs : Shares (t .lifetimes)) (a : Denots (typesAt (t .params) κs))
+      → Are (typesAt (t .params) κs) (Ises (typesAt (t .params) κs)) a (machine κs a)
       → ent 𝓤 (entry 𝓤 H (𝓖 .A) t κs qs a (machine κs a)) (WpFn 𝓤 H (tables 𝓤 H 𝓜 𝓡 γ .C) (tables 𝓤 H 𝓜 𝓡 γ .Λ) e (flat (typesAt (t .params) κs) (machine κs a)) (Post 𝓤 H (𝓖 .A) t κs qs a (machine κs a))))
       → Meets 𝓤 H (𝓖 .A) (ended t .signature) (𝓡 .run (γ k)) (spec 𝓤 H (𝓖 .A) t)
   unfolding tablesOf

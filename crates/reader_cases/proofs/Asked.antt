@@ -55,8 +55,10 @@ asksAt ty f = record {
   lifetimes = 1;
   outlives = [];
   params = 4;
-  locals = local ty valueLocal ∷ local (sliceTy (tyRef (named 0) imm (tyInt w8))) valueLocal ∷ local S′.mir valueLocal ∷ local R′.mir valueLocal ∷ local O′.mir valueLocal ∷ local (T′.mir erased) valueLocal ∷ local (T′.mir erased) valueLocal ∷ [];
-  body = seq (call new-def.name (copy (place 1 []) ∷ copy (place 2 []) ∷ copy (place 3 []) ∷ []) (place 6 [])) (seq (call placed-def.name (copy (place 6 []) ∷ copy (place 4 []) ∷ []) (place 5 [])) (seq (call f (copy (place 5 []) ∷ []) (place 0 [])) return));
+  locals = local ty valueLocal ∷ local (sliceTy (tyRef (named 0) imm (tyInt w8))) valueLocal ∷ local S′.mir valueLocal ∷ local R′.mir valueLocal
+      ∷ local O′.mir valueLocal ∷ local (T′.mir erased) valueLocal ∷ local (T′.mir erased) valueLocal ∷ [];
+  body = seq (call new-def.name (copy (place 1 []) ∷ copy (place 2 []) ∷ copy (place 3 []) ∷ []) (place 6 []))
+      (seq (call placed-def.name (copy (place 6 []) ∷ copy (place 4 []) ∷ []) (place 5 [])) (seq (call f (copy (place 5 []) ∷ []) (place 0 [])) return));
 }
 
 module _ (x : Answer) where
@@ -90,12 +92,15 @@ module _ (x : Answer) where
           pass1 ! (init ! 10 refl (shr-slice-lawful 𝓤 H A W (named 0) (κs .0) u8 .typed s (v ∷ []) p .0)) $ pass1 ! (init ! 8 refl (LL.lawful S.the-type S′.the-laws 𝓤 H A W .typed first _ known-first .0)) $
           pass1 ! (init ! 6 refl (LL.lawful R.the-type R′.the-laws 𝓤 H A W .typed table _ known-table .0)) $ pass1 ! (init ! 4 refl (LL.lawful O.the-type O′.the-laws 𝓤 H A W .typed o _ known-at .0)) $ pass0 ! $
           -- local i stands at 2 · (6 − i)
-          move ! (14 ∷ []) $ use1 W (raw (entry 𝓤 H A new κs qs (to-new 𝓤 H A W (κs .0) (qs .0) s first table) (new-vals 𝓤 H A W (κs .0) (qs .0) s first table)) ⊛ ‵ Kept) (opens 𝓤 H A W (κs .0) (qs .0) s first table Rest known-first known-table) $ split ! $
+          move ! (14 ∷ []) $ use1 W
+          (raw (entry 𝓤 H A new κs qs (to-new 𝓤 H A W (κs .0) (qs .0) s first table) (new-vals 𝓤 H A W (κs .0) (qs .0) s first table)) ⊛ ‵ Kept)
+          (opens 𝓤 H A W (κs .0) (qs .0) s first table Rest known-first known-table) $ split ! $
           asks-at ! fm new known-new κs qs (to-new 𝓤 H A W (κs .0) (qs .0) s first table) (new-vals 𝓤 H A W (κs .0) (qs .0) s first table)
           (and-then ! (copied ! 12 refl) (and-then ! (copied ! 10 refl) (and-then ! (copied ! 8 refl) (no-more !)))) (λ u r e is.
           -- [what the reader owns; the token; what the parameters own; room for _6; …; room for _5; …; _4; …; _3; …; _2; …; _1; …; room for _0; …]
           land ! (from ! (stop !)) (init ! 3 refl (typed-held 𝓤 H A W (κs .0) r u is)) $
-          use2 W (raw (entry 𝓤 H A placed κs qs (r, (o, tt)) (u ∷ [], (O′.lowered o ∷ [], tt)))) (moves-it 𝓤 H A W (κs .0) (qs .0) r u O.the-row o (O′.lowered o ∷ []) (LL.makes O.the-type O′.the-plain 𝓤 H A o _ known-at)) $
+          use2 W (raw (entry 𝓤 H A placed κs qs (r, (o, tt)) (u ∷ [], (O′.lowered o ∷ [], tt))))
+          (moves-it 𝓤 H A W (κs .0) (qs .0) r u O.the-row o (O′.lowered o ∷ []) (LL.makes O.the-type O′.the-plain 𝓤 H A o _ known-at)) $
           asks-at ! fm placed known-placed κs qs (r, (o, tt)) (u ∷ [], (O′.lowered o ∷ [], tt)) (and-then ! (copied ! 2 refl) (and-then ! (copied ! 6 refl) (no-more !))) (λ u₂ r₂ e₂ is₂.
           land ! (from ! (stop !)) (init ! 5 refl (typed-held 𝓤 H A W (κs .0) r₂ u₂ is₂)) $
           use2 W (raw (entry 𝓤 H A (ofReader x) κs qs (r₂, tt) (u₂ ∷ [], tt))) (asks-it 𝓤 H A W (κs .0) (qs .0) r₂ u₂) $

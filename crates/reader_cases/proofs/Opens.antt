@@ -62,8 +62,10 @@ module _ {M : Type 1} (𝓤 : URA M) (H : Heap 𝓤) (A : Atoms 𝓤) (W : Given
       pub opens : (P : Fml) → Is S.the-row first (S′.lowered first ∷ []) → Is R.the-row table (R′.lowered table ∷ [])
           → ent 𝓤 (sep 𝓤 (tokens 𝓤 H A new (κ, tt) (q, tt)) (sem 𝓤 H A (fsep Lent P))) (sep 𝓤 (entry 𝓤 H A new (κ, tt) (q, tt) to-new new-vals) (sem 𝓤 H A (fsep Lent P)))
       opens P known-first known-table =
-          qed W (raw (tokens 𝓤 H A new (κ, tt) (q, tt)) ∷ ‵ (fsep Lent P) ∷ []) ∵ move ! (1 ∷ []) $ use1 W (‵ (fsep Lent P) ⊛ ‵ Lent) (beside-first Lent P Lent (shr-slice-copy 𝓤 H A W (named 0) κ u8 .twice s (window ∷ []))) $ split ! $
-          nothing ! $ owned ! R.the-row (Is R.the-row) (LL.makes R.the-type R′.the-plain 𝓤 H A) table _ known-table $ fjoin ! $ owned ! S.the-row (Is S.the-row) (LL.makes S.the-type S′.the-plain 𝓤 H A) first _ known-first $ fjoin ! $
+          qed W (raw (tokens 𝓤 H A new (κ, tt) (q, tt)) ∷ ‵ (fsep Lent P) ∷ []) ∵ move ! (1
+          ∷ []) $ use1 W (‵ (fsep Lent P) ⊛ ‵ Lent) (beside-first Lent P Lent (shr-slice-copy 𝓤 H A W (named 0) κ u8 .twice s (window ∷ []))) $ split ! $
+          nothing ! $ owned ! R.the-row (Is R.the-row) (LL.makes R.the-type R′.the-plain 𝓤 H A) table _ known-table $ fjoin ! $ owned ! S.the-row (Is S.the-row)
+          (LL.makes S.the-type S′.the-plain 𝓤 H A) first _ known-first $ fjoin ! $
           -- [what the sector and the table own; what the parameters own; what s owns; the tokens]
           move ! (2 ∷ 0 ∷ []) $ fjoin ! $ move ! (2 ∷ 0 ∷ []) $ join ! $ frame ! $ done !
 

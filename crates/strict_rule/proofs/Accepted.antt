@@ -82,7 +82,9 @@ module _ (w : List ℕ) (f : ℕ → Told (Option Placed)) (size : ℕ) where
 
   right-greater : (p : ℕ) (x y : Placed) → f p ≡ gives (some x) → (v : Visit) → ordered w f (visitRight (x .header .right .0) v p) (nameFrom w y) ≡ true → nameOrder (nameFrom w y) (nameFrom w x) ≡ Greater
   unfolding ordered
-  right-greater p x y e v h = name-opposite (nameFrom w x) (nameFrom w y) ∙ ap opposite (is-less-says (nameOrder (nameFrom w x) (nameFrom w y)) (rw e at (both-second true (moreThan (nameFrom w y) (nameAt w f (some p))) h)))
+  right-greater p x y e v h =
+      name-opposite (nameFrom w x) (nameFrom w y) ∙ ap opposite
+      (is-less-says (nameOrder (nameFrom w x) (nameFrom w y)) (rw e at (both-second true (moreThan (nameFrom w y) (nameAt w f (some p))) h)))
 
   -- the names of an entry's children
   abbrev Children : Placed → Type 0

@@ -62,7 +62,9 @@ module _ (w : List ℕ) (f : ℕ → Told (Option Placed)) (size : ℕ) (seen : 
 
       pub check-room : (room : ℕ) → strictFrom w f size (suc room) seen (v ∷ stack)
           ≡ ifGood (verdictAt w f size seen false v x) (before (v .offset ∷ [])
-          (strictFrom w f size room (seen ++ (v .offset ∷ [])) (push (x .header .left .0) (visitLeft (x .header .left .0) v (v .offset)) (push (x .header .right .0) (visitRight (x .header .right .0) v (v .offset)) stack))))
+          (strictFrom w f size room (seen
+          ++ (v .offset ∷ [])) (push (x .header .left .0) (visitLeft (x .header .left .0) v (v .offset))
+          (push (x .header .right .0) (visitRight (x .header .right .0) v (v .offset)) stack))))
       unfolding strictFrom toEntry
       check-room room = rw reads
 
@@ -70,12 +72,18 @@ module _ (w : List ℕ) (f : ℕ → Told (Option Placed)) (size : ℕ) (seen : 
       check-bad zero k vs e = check-full ∙ ap (λ (u : Told (Unit {0})). ifGood u (refuses 26 [])) e
       check-bad (suc room) k vs e = check-room room
           ∙ ap (λ (u : Told (Unit {0})). ifGood u (before (v .offset ∷ [])
-          (strictFrom w f size room (seen ++ (v .offset ∷ [])) (push (x .header .left .0) (visitLeft (x .header .left .0) v (v .offset)) (push (x .header .right .0) (visitRight (x .header .right .0) v (v .offset)) stack)))))
+          (strictFrom w f size room (seen
+          ++ (v .offset ∷ [])) (push (x .header .left .0) (visitLeft (x .header .left .0) v (v .offset))
+          (push (x .header .right .0) (visitRight (x .header .right .0) v (v .offset)) stack)))))
           (ap (λ (b : Bool). verdictAt w f size seen b v x) (sym (eqb·suc-zero room)) ∙ e)
 
       pub check-entry : (room : ℕ) → verdictAt w f size seen false v x ≡ gives tt → strictFrom w f size (suc room) seen (v ∷ stack)
           ≡ before (v .offset ∷ [])
-          (strictFrom w f size room (seen ++ (v .offset ∷ [])) (push (x .header .left .0) (visitLeft (x .header .left .0) v (v .offset)) (push (x .header .right .0) (visitRight (x .header .right .0) v (v .offset)) stack)))
+          (strictFrom w f size room (seen
+          ++ (v .offset ∷ [])) (push (x .header .left .0) (visitLeft (x .header .left .0) v (v .offset))
+          (push (x .header .right .0) (visitRight (x .header .right .0) v (v .offset)) stack)))
       check-entry room e = check-room room
           ∙ ap (λ (u : Told (Unit {0})). ifGood u (before (v .offset ∷ [])
-          (strictFrom w f size room (seen ++ (v .offset ∷ [])) (push (x .header .left .0) (visitLeft (x .header .left .0) v (v .offset)) (push (x .header .right .0) (visitRight (x .header .right .0) v (v .offset)) stack))))) e
+          (strictFrom w f size room (seen
+          ++ (v .offset ∷ [])) (push (x .header .left .0) (visitLeft (x .header .left .0) v (v .offset))
+          (push (x .header .right .0) (visitRight (x .header .right .0) v (v .offset)) stack))))) e

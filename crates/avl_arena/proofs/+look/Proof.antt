@@ -61,7 +61,10 @@ look-returns : (t : ℕ) → look-lts.Need-returns (
   join-reads.Asked,
   join-reads.Learnt,
 ) (look-at t) look.Post
-look-returns t c = let a = c .before .before .before .before .before .before .before .before .before .args in seen-zero (lists 0 (a .left .now) (a .right .now) (a .parent .now) (a .height .now)) (names (a .bytes .now) (a .start .now) (a .len .now)) (length (a .left .now)) (a .g .lo) (a .g .hi) (a .g .up) (a .at) (a .d) (c .before .if1 .taken) (c .see-none .ensures)
+look-returns t c =
+    let a = c .before .before .before .before .before .before .before .before .before .args in
+    seen-zero (lists 0 (a .left .now) (a .right .now) (a .parent .now) (a .height .now)) (names (a .bytes .now) (a .start .now) (a .len .now))
+    (length (a .left .now)) (a .g .lo) (a .g .hi) (a .g .up) (a .at) (a .d) (c .before .if1 .taken) (c .see-none .ensures)
 
 look-widen-requires : (t : ℕ) → look-lts.Need-widen-requires (
   see-none-reads.Asked,
@@ -109,7 +112,11 @@ look-returns-2 : (t : ℕ) → look-lts.Need-returns-2 (
   join-reads.Asked,
   join-reads.Learnt,
 ) (look-at t) look.Post
-look-returns-2 t c = let a = c .before .before .before .before .before .before .before .before .before .before .before .args in seen-out (lists 0 (a .left .now) (a .right .now) (a .parent .now) (a .height .now)) (names (a .bytes .now) (a .start .now) (a .len .now)) (length (a .left .now)) (a .g .lo) (a .g .hi) (a .g .up) (a .at) (a .d) (c .before .before .widen .result) (c .before .before .widen .ensures) (c .before .if2 .taken) (c .see-none2 .ensures)
+look-returns-2 t c =
+    let a = c .before .before .before .before .before .before .before .before .before .before .before .args in
+    seen-out (lists 0 (a .left .now) (a .right .now) (a .parent .now) (a .height .now)) (names (a .bytes .now) (a .start .now) (a .len .now))
+    (length (a .left .now)) (a .g .lo) (a .g .hi) (a .g .up) (a .at) (a .d) (c .before .before .widen .result) (c .before .before .widen .ensures)
+    (c .before .if2 .taken) (c .see-none2 .ensures)
 
 look-is-between-requires : (t : ℕ) → look-lts.Need-is-between-requires (
   see-none-reads.Asked,
@@ -125,7 +132,11 @@ look-is-between-requires : (t : ℕ) → look-lts.Need-is-between-requires (
   join-reads.Asked,
   join-reads.Learnt,
 ) (look-at t) look.Post
-look-is-between-requires t c κs = (c .before .before .before .before .before .before .before .before .before .before .pre .1 .0 .named, omega (arith, c .if2 .left, c .before .before .before .before .before .before .before .before .before .before .pre .1 .0 .starts))
+look-is-between-requires t c κs = (
+  c .before .before .before .before .before .before .before .before .before .before .pre .1 .0 .named,
+  omega
+      (arith, c .if2 .left, c .before .before .before .before .before .before .before .before .before .before .pre .1 .0 .starts),
+)
 
 look-see-none-requires-3 : (t : ℕ) → look-lts.Need-see-none-requires-3 (
   see-none-reads.Asked,
@@ -157,7 +168,13 @@ look-returns-3 : (t : ℕ) → look-lts.Need-returns-3 (
   join-reads.Asked,
   join-reads.Learnt,
 ) (look-at t) look.Post
-look-returns-3 t c = let a = c .before .before .before .before .before .before .before .before .before .before .before .before .before .args in not-between (lists 0 (a .left .now) (a .right .now) (a .parent .now) (a .height .now)) (names (a .bytes .now) (a .start .now) (a .len .now)) (length (a .left .now)) (a .g .lo) (a .g .hi) (a .g .up) (a .at) (a .d) (c .before .before .before .before .before .if1 .left) (c .before .before .before .before .widen .result) (c .before .before .before .before .widen .ensures) (c .before .before .before .if2 .left) (length (a .start .now)) (c .before .before .before .before .before .before .before .before .before .before .before .before .before .pre .1 .0 .starts) (c .before .before .is-between .ensures) (not-true (c .before .before .is-between .result) (c .before .if3 .taken)) (c .see-none3 .ensures)
+look-returns-3 t c =
+    let a = c .before .before .before .before .before .before .before .before .before .before .before .before .before .args in
+    not-between (lists 0 (a .left .now) (a .right .now) (a .parent .now) (a .height .now)) (names (a .bytes .now) (a .start .now) (a .len .now))
+    (length (a .left .now)) (a .g .lo) (a .g .hi) (a .g .up) (a .at) (a .d) (c .before .before .before .before .before .if1 .left)
+    (c .before .before .before .before .widen .result) (c .before .before .before .before .widen .ensures) (c .before .before .before .if2 .left)
+    (length (a .start .now)) (c .before .before .before .before .before .before .before .before .before .before .before .before .before .pre .1 .0 .starts)
+    (c .before .before .is-between .ensures) (not-true (c .before .before .is-between .result) (c .before .if3 .taken)) (c .see-none3 .ensures)
 
 look-mul-a : (t : ℕ) → look-lts.Need-mul-a (
   see-none-reads.Asked,
@@ -221,7 +238,19 @@ look-look-requires : (t : ℕ) → look-lts.Need-look-requires (
   join-reads.Asked,
   join-reads.Learnt,
 ) (look-at t) look.Post
-look-look-requires t c κs = (omega (arith, c .before .before .before .before .before .before .before .before .before .before .before .before .before .pre .0, c .before .before .before .before .before .if1 .left), (c .before .before .before .before .before .before .before .before .before .before .before .before .before .pre .1 .0, omega (arith, c .before .before .before .before .before .before .before .before .before .before .before .before .before .pre .1 .1)))
+look-look-requires t c κs = (
+  omega (
+    arith,
+    c .before .before .before .before .before .before .before .before .before .before .before .before .before .pre .0,
+    c .before .before .before
+        .before .before .if1 .left,
+  ),
+  (
+    c .before .before .before .before .before .before .before .before .before .before .before .before .before .pre .1 .0,
+    omega
+        (arith, c .before .before .before .before .before .before .before .before .before .before .before .before .before .pre .1 .1),
+  ),
+)
 
 look-returns-4 : (t : ℕ) → look-lts.Need-returns-4 (
   see-none-reads.Asked,
@@ -237,7 +266,13 @@ look-returns-4 : (t : ℕ) → look-lts.Need-returns-4 (
   join-reads.Asked,
   join-reads.Learnt,
 ) (look-at t) look.Post
-look-returns-4 t c = let a = c .before .before .before .before .before .before .before .before .before .before .before .before .before .before .before .before .args in not-left (lists 0 (a .left .now) (a .right .now) (a .parent .now) (a .height .now)) (names (a .bytes .now) (a .start .now) (a .len .now)) (length (a .left .now)) (a .g .lo) (a .g .hi) (a .g .up) (a .at) (a .d) (c .before .before .before .before .before .before .before .before .if1 .left) (c .before .before .before .before .before .before .before .widen .result) (c .before .before .before .before .before .before .before .widen .ensures) (c .before .before .before .before .before .before .if2 .left) (c .before .before .look .ensures) (not-true (c .before .before .look .result .ok) (c .if4 .taken))
+look-returns-4 t c =
+    let a = c .before .before .before .before .before .before .before .before .before .before .before .before .before .before .before .before .args in
+    not-left (lists 0 (a .left .now) (a .right .now) (a .parent .now) (a .height .now)) (names (a .bytes .now) (a .start .now) (a .len .now))
+    (length (a .left .now)) (a .g .lo) (a .g .hi) (a .g .up) (a .at) (a .d) (c .before .before .before .before .before .before .before .before .if1 .left)
+    (c .before .before .before .before .before .before .before .widen .result) (c .before .before .before .before .before .before .before .widen .ensures)
+    (c .before .before .before .before .before .before .if2 .left) (c .before .before .look .ensures)
+    (not-true (c .before .before .look .result .ok) (c .if4 .taken))
 
 look-mul-b : (t : ℕ) → look-lts.Need-mul-b (
   see-none-reads.Asked,
@@ -269,7 +304,13 @@ look-shared-slice-read-b : (t : ℕ) → look-lts.Need-shared-slice-read-b (
   join-reads.Asked,
   join-reads.Learnt,
 ) (look-at t) look.Post
-look-shared-slice-read-b t c = omega (arith, c .before .before .before .before .before .before .before .if2 .left, c .before .before .before .before .before .before .before .before .before .before .before .before .before .before .before .before .before .pre .1 .0 .long .r)
+look-shared-slice-read-b t c =
+    omega (
+      arith,
+      c .before .before .before .before .before .before .before .if2 .left,
+      c .before .before .before .before .before .before .before .before
+          .before .before .before .before .before .before .before .before .before .pre .1 .0 .long .r,
+    )
 
 look-sub-look-2 : (t : ℕ) → look-lts.Need-sub-look-2 (
   see-none-reads.Asked,
@@ -301,7 +342,22 @@ look-look-requires-2 : (t : ℕ) → look-lts.Need-look-requires-2 (
   join-reads.Asked,
   join-reads.Learnt,
 ) (look-at t) look.Post
-look-look-requires-2 t c κs = (omega (arith, c .before .before .before .before .before .before .before .before .before .before .before .before .before .before .before .before .before .pre .0, c .before .before .before .before .before .before .before .before .before .if1 .left), (c .before .before .before .before .before .before .before .before .before .before .before .before .before .before .before .before .before .pre .1 .0, omega (arith, c .before .before .before .before .before .before .before .before .before .before .before .before .before .before .before .before .before .pre .1 .1)))
+look-look-requires-2 t c κs = (
+  omega (
+    arith,
+    c .before .before .before .before .before .before .before .before .before .before .before .before .before .before .before .before .before
+        .pre .0,
+    c .before .before .before .before .before .before .before .before .before .if1 .left,
+  ),
+  (
+    c .before .before .before .before .before .before .before .before .before .before .before .before .before .before .before .before .before .pre .1 .0,
+    omega (
+      arith,
+      c .before .before .before .before .before .before .before .before .before .before .before .before .before .before .before .before .before .pre .1
+          .1,
+    ),
+  ),
+)
 
 look-returns-5 : (t : ℕ) → look-lts.Need-returns-5 (
   see-none-reads.Asked,
@@ -317,7 +373,16 @@ look-returns-5 : (t : ℕ) → look-lts.Need-returns-5 (
   join-reads.Asked,
   join-reads.Learnt,
 ) (look-at t) look.Post
-look-returns-5 t c = let a = c .before .before .before .before .before .before .before .before .before .before .before .before .before .before .before .before .before .before .before .before .args in not-right (lists 0 (a .left .now) (a .right .now) (a .parent .now) (a .height .now)) (names (a .bytes .now) (a .start .now) (a .len .now)) (length (a .left .now)) (a .g .lo) (a .g .hi) (a .g .up) (a .at) (a .d) (c .before .before .before .before .before .before .before .before .before .before .before .before .if1 .left) (c .before .before .before .before .before .before .before .before .before .before .before .widen .result) (c .before .before .before .before .before .before .before .before .before .before .before .widen .ensures) (c .before .before .before .before .before .before .before .before .before .before .if2 .left) (c .before .before .look2 .ensures) (not-true (c .before .before .look2 .result .ok) (c .if5 .taken))
+look-returns-5 t c =
+    let a = c .before .before .before .before .before .before .before .before .before .before .before .before .before .before .before .before .before .before
+    .before .before .args in
+    not-right (lists 0 (a .left .now) (a .right .now) (a .parent .now) (a .height .now)) (names (a .bytes .now) (a .start .now) (a .len .now))
+    (length (a .left .now)) (a .g .lo) (a .g .hi) (a .g .up) (a .at) (a .d)
+    (c .before .before .before .before .before .before .before .before .before .before .before .before .if1 .left)
+    (c .before .before .before .before .before .before .before .before .before .before .before .widen .result)
+    (c .before .before .before .before .before .before .before .before .before .before .before .widen .ensures)
+    (c .before .before .before .before .before .before .before .before .before .before .if2 .left) (c .before .before .look2 .ensures)
+    (not-true (c .before .before .look2 .result .ok) (c .if5 .taken))
 
 look-is-cell-requires : (t : ℕ) → look-lts.Need-is-cell-requires (
   see-none-reads.Asked,
@@ -333,7 +398,30 @@ look-is-cell-requires : (t : ℕ) → look-lts.Need-is-cell-requires (
   join-reads.Asked,
   join-reads.Learnt,
 ) (look-at t) look.Post
-look-is-cell-requires t c κs = let a = c .before .before .before .before .before .before .before .before .before .before .before .before .before .before .before .before .before .before .before .before .args in let h = c .before .before .before .before .before .before .before .before .before .before .if2 .left in let w = c .before .before .before .before .before .before .before .before .before .before .before .before .before .before .before .before .before .before .before .before .pre .1 .0 .long in let l = high-small _ (a .d - 1) (a .left .now) (a .right .now) (getD (a .left .now) (c .before .before .before .before .before .before .before .before .before .before .before .widen .result) 0) (c .before .before .before .before .before .before .look .ensures) (not-false (c .before .before .before .before .before .before .look .result .ok) (c .before .before .before .before .if4 .left)) (omega (arith, c .before .before .before .before .before .before .before .before .before .before .before .before .before .before .before .before .before .before .before .before .pre .1 .1)) in let r = high-small _ (a .d - 1) (a .left .now) (a .right .now) (getD (a .right .now) (c .before .before .before .before .before .before .before .before .before .before .before .widen .result) 0) (c .before .before .look2 .ensures) (not-false (c .before .before .look2 .result .ok) (c .if5 .left)) (omega (arith, c .before .before .before .before .before .before .before .before .before .before .before .before .before .before .before .before .before .before .before .before .pre .1 .1)) in (h, omega (arith, w .r), omega (arith, w .p), omega (arith, w .h), l .0, r .0)
+look-is-cell-requires t c κs =
+    let a = c .before .before .before .before .before .before .before .before .before .before .before .before .before .before .before .before .before .before
+    .before .before .args in
+    let h = c .before .before .before .before .before .before .before .before .before .before .if2 .left in
+    let w = c .before .before .before .before .before .before .before .before .before .before .before .before .before .before .before .before .before .before
+    .before .before .pre .1 .0 .long in
+    let l = high-small _ (a .d - 1) (a .left .now) (a .right .now)
+    (getD (a .left .now) (c .before .before .before .before .before .before .before .before .before .before .before .widen .result) 0)
+    (c .before .before .before .before .before .before .look .ensures)
+    (not-false (c .before .before .before .before .before .before .look .result .ok) (c .before .before .before .before .if4 .left))
+    (omega (
+      arith,
+      c .before .before .before .before .before .before .before .before .before .before .before .before .before .before .before .before .before
+          .before .before .before .pre .1 .1,
+    )) in
+    let r = high-small _ (a .d - 1) (a .left .now) (a .right .now)
+    (getD (a .right .now) (c .before .before .before .before .before .before .before .before .before .before .before .widen .result) 0)
+    (c .before .before .look2 .ensures) (not-false (c .before .before .look2 .result .ok) (c .if5 .left))
+    (omega (
+      arith,
+      c .before .before .before .before .before .before .before .before .before .before .before .before .before .before .before .before .before
+          .before .before .before .pre .1 .1,
+    )) in
+    (h, omega (arith, w .r), omega (arith, w .p), omega (arith, w .h), l .0, r .0)
 
 look-join-requires : (t : ℕ) → look-lts.Need-join-requires (
   see-none-reads.Asked,
@@ -349,7 +437,27 @@ look-join-requires : (t : ℕ) → look-lts.Need-join-requires (
   join-reads.Asked,
   join-reads.Learnt,
 ) (look-at t) look.Post
-look-join-requires t c κs = let a = c .before .before .before .before .before .before .before .before .before .before .before .before .before .before .before .before .before .before .before .before .before .args in let l = high-small _ (a .d - 1) (a .left .now) (a .right .now) (getD (a .left .now) (c .before .before .before .before .before .before .before .before .before .before .before .before .widen .result) 0) (c .before .before .before .before .before .before .before .look .ensures) (not-false (c .before .before .before .before .before .before .before .look .result .ok) (c .before .before .before .before .before .if4 .left)) (omega (arith, c .before .before .before .before .before .before .before .before .before .before .before .before .before .before .before .before .before .before .before .before .before .pre .1 .1)) in let r = high-small _ (a .d - 1) (a .left .now) (a .right .now) (getD (a .right .now) (c .before .before .before .before .before .before .before .before .before .before .before .before .widen .result) 0) (c .before .before .before .look2 .ensures) (not-false (c .before .before .before .look2 .result .ok) (c .before .if5 .left)) (omega (arith, c .before .before .before .before .before .before .before .before .before .before .before .before .before .before .before .before .before .before .before .before .before .pre .1 .1)) in (l .0, r .0, l .1, r .1)
+look-join-requires t c κs =
+    let a = c .before .before .before .before .before .before .before .before .before .before .before .before .before .before .before .before .before .before
+    .before .before .before .args in
+    let l = high-small _ (a .d - 1) (a .left .now) (a .right .now)
+    (getD (a .left .now) (c .before .before .before .before .before .before .before .before .before .before .before .before .widen .result) 0)
+    (c .before .before .before .before .before .before .before .look .ensures)
+    (not-false (c .before .before .before .before .before .before .before .look .result .ok) (c .before .before .before .before .before .if4 .left))
+    (omega (
+      arith,
+      c .before .before .before .before .before .before .before .before .before .before .before .before .before .before .before .before .before
+          .before .before .before .before .pre .1 .1,
+    )) in
+    let r = high-small _ (a .d - 1) (a .left .now) (a .right .now)
+    (getD (a .right .now) (c .before .before .before .before .before .before .before .before .before .before .before .before .widen .result) 0)
+    (c .before .before .before .look2 .ensures) (not-false (c .before .before .before .look2 .result .ok) (c .before .if5 .left))
+    (omega (
+      arith,
+      c .before .before .before .before .before .before .before .before .before .before .before .before .before .before .before .before .before
+          .before .before .before .before .pre .1 .1,
+    )) in
+    (l .0, r .0, l .1, r .1)
 
 look-returns-6 : (t : ℕ) → look-lts.Need-returns-6 (
   see-none-reads.Asked,
@@ -365,7 +473,24 @@ look-returns-6 : (t : ℕ) → look-lts.Need-returns-6 (
   join-reads.Asked,
   join-reads.Learnt,
 ) (look-at t) look.Post
-look-returns-6 t c = let a = c .before .before .before .before .before .before .before .before .before .before .before .before .before .before .before .before .before .before .before .before .before .before .args in node-seen (lists 0 (a .left .now) (a .right .now) (a .parent .now) (a .height .now)) (names (a .bytes .now) (a .start .now) (a .len .now)) (length (a .left .now)) (a .g .lo) (a .g .hi) (a .g .up) (a .at) (a .d) (c .before .before .before .before .before .before .before .before .before .before .before .before .before .before .if1 .left) (c .before .before .before .before .before .before .before .before .before .before .before .before .before .widen .result) (c .before .before .before .before .before .before .before .before .before .before .before .before .before .widen .ensures) (c .before .before .before .before .before .before .before .before .before .before .before .before .if2 .left) (length (a .start .now)) (c .before .before .before .before .before .before .before .before .before .before .before .before .before .before .before .before .before .before .before .before .before .before .pre .1 .0 .starts) (c .before .before .before .before .before .before .before .before .before .before .before .is-between .ensures) (not-false (c .before .before .before .before .before .before .before .before .before .before .before .is-between .result) (c .before .before .before .before .before .before .before .before .before .before .if3 .left)) (c .before .before .before .before .before .before .before .before .look .ensures) (not-false (c .before .before .before .before .before .before .before .before .look .result .ok) (c .before .before .before .before .before .before .if4 .left)) (c .before .before .before .before .look2 .ensures) (not-false (c .before .before .before .before .look2 .result .ok) (c .before .before .if5 .left)) (c .before .is-cell .ensures) (c .join .ensures)
+look-returns-6 t c =
+    let a = c .before .before .before .before .before .before .before .before .before .before .before .before .before .before .before .before .before .before
+    .before .before .before .before .args in
+    node-seen (lists 0 (a .left .now) (a .right .now) (a .parent .now) (a .height .now)) (names (a .bytes .now) (a .start .now) (a .len .now))
+    (length (a .left .now)) (a .g .lo) (a .g .hi) (a .g .up) (a .at) (a .d)
+    (c .before .before .before .before .before .before .before .before .before .before .before .before .before .before .if1 .left)
+    (c .before .before .before .before .before .before .before .before .before .before .before .before .before .widen .result)
+    (c .before .before .before .before .before .before .before .before .before .before .before .before .before .widen .ensures)
+    (c .before .before .before .before .before .before .before .before .before .before .before .before .if2 .left) (length (a .start .now))
+    (c .before .before .before .before .before .before .before .before .before .before .before .before .before .before .before .before .before .before
+    .before .before .before .before .pre .1 .0 .starts)
+    (c .before .before .before .before .before .before .before .before .before .before .before .is-between .ensures)
+    (not-false (c .before .before .before .before .before .before .before .before .before .before .before .is-between .result)
+    (c .before .before .before .before .before .before .before .before .before .before .if3 .left))
+    (c .before .before .before .before .before .before .before .before .look .ensures)
+    (not-false (c .before .before .before .before .before .before .before .before .look .result .ok)
+    (c .before .before .before .before .before .before .if4 .left)) (c .before .before .before .before .look2 .ensures)
+    (not-false (c .before .before .before .before .look2 .result .ok) (c .before .before .if5 .left)) (c .before .is-cell .ensures) (c .join .ensures)
 
 pub +look-spec : {M : Type 1} → statement M
 +look-spec = close μ-look λ t. look-lts.spec (

@@ -23,10 +23,14 @@ returns-4 c = simp (le-leb _ _ (c .before .before .before .if1 .left), le-leb _ 
 
 returns-5 : tie.Need-returns-5
 unfolding places
-returns-5 c = simp (le-leb _ _ (c .before .before .before .before .if1 .left), le-leb _ _ (c .before .before .before .if2 .left), le-leb _ _ (c .before .before .if3 .left), le-leb _ _ (c .before .if4 .left), lt-leb _ _ (c .if5 .taken))
-
-returns-6 : tie.Need-returns-6
-returns-6 c = search places-last
+returns-5 c = simp (
+  le-leb _ _ (c .before .before .before .before .if1 .left),
+  le-leb _ _ (c .before .before .before .if2 .left),
+  le-leb _ _
+      (c .before .before .if3 .left),
+  le-leb _ _ (c .before .if4 .left),
+  lt-leb _ _ (c .if5 .taken),
+)
 
 pub have-places-spec : {M : Type 1} → statement M
-have-places-spec = tie.close (tie.spec returns returns-2 returns-3 returns-4 returns-5 returns-6)
+have-places-spec = tie.close (tie.spec returns returns-2 returns-3 returns-4 returns-5 (λ c. search places-last))

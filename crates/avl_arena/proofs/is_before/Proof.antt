@@ -8,17 +8,11 @@ use Rattle.avl_arena.proofs.Tested.{no-bound, by-bound}
 use Rattle.avl_arena.proofs.is_before.Statement.{statement}
 use Rattle.avl_arena.proofs.is_before.Tie as tie
 
-widen-requires : tie.Need-widen-requires
-widen-requires c κs = search needs
-
-returns : tie.Need-returns
-returns c = search no-bound
-
-is-less-requires : tie.Need-is-less-requires
-is-less-requires c κs = search needs
-
 returns-2 : tie.Need-returns-2
-returns-2 c = let a = c .before .before .before .before .before .before .args in c .is-less .ensures ∙ by-bound (length (a .start .now)) (c .before .before .widen .result) (a .hi) (λ (v : ℕ). isLess (byName (names (a .bytes .now) (a .start .now) (a .len .now)) (a .i) v)) (c .before .before .widen .ensures) (c .before .if1 .left)
+returns-2 c =
+    let a = c .before .before .before .before .before .before .args in
+    c .is-less .ensures ∙ by-bound (length (a .start .now)) (c .before .before .widen .result) (a .hi)
+    (λ (v : ℕ). isLess (byName (names (a .bytes .now) (a .start .now) (a .len .now)) (a .i) v)) (c .before .before .widen .ensures) (c .before .if1 .left)
 
 pub is-before-spec : {M : Type 1} → statement M
-is-before-spec = tie.close (tie.spec widen-requires returns is-less-requires returns-2)
+is-before-spec = tie.close (tie.spec (λ c κs. search needs) (λ c. search no-bound) (λ c κs. search needs) returns-2)

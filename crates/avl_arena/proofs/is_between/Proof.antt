@@ -5,12 +5,6 @@ use Rattle.avl_arena.proofs.Tested.{and-first, and-second}
 use Rattle.avl_arena.proofs.is_between.Statement.{statement}
 use Rattle.avl_arena.proofs.is_between.Tie as tie
 
-is-after-requires : tie.Need-is-after-requires
-is-after-requires c κs = search needs
-
-is-before-requires : tie.Need-is-before-requires
-is-before-requires c κs = search needs
-
 returns : tie.Need-returns
 unfolding between
 returns c = and-second (c .before .before .is-after .ensures) (c .before .if1 .taken) (c .is-before .ensures)
@@ -20,4 +14,4 @@ unfolding between
 returns-2 c = and-first _ (c .before .is-after .ensures) (c .if1 .left)
 
 pub is-between-spec : {M : Type 1} → statement M
-is-between-spec = tie.close (tie.spec is-after-requires is-before-requires returns returns-2)
+is-between-spec = tie.close (tie.spec (λ c κs. search needs) (λ c κs. search needs) returns returns-2)

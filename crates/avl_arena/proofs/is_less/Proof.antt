@@ -5,43 +5,24 @@ use Rattle.avl_arena.proofs.Tested.{by-names}
 use Rattle.avl_arena.proofs.is_less.Statement.{statement}
 use Rattle.avl_arena.proofs.is_less.Tie as tie
 
-read-name-requires : tie.Need-read-name-requires
-read-name-requires c κs = search needs
-
-read-name-requires-2 : tie.Need-read-name-requires-2
-read-name-requires-2 c κs = search needs
-
-compare-requires : tie.Need-compare-requires
-compare-requires c κs = search needs
-
-enum-told : tie.Need-enum-told
-enum-told c = search needs
-
-enum-told-2 : tie.Need-enum-told-2
-enum-told-2 c = search needs
-
-enum-told-3 : tie.Need-enum-told-3
-enum-told-3 c = search needs
-
 returns : tie.Need-returns
-returns c = let a = c .before .before .before .before .before .before .before .before .args in by-names (names (a .bytes .now) (a .start .now) (a .len .now)) (a .i) (a .j) (c .before .before .before .before .read-name .ensures) (c .before .before .before .read-name2 .ensures) (c .before .before .compare .ensures) (c .enum-told .given .1)
+returns c =
+    let a = c .before .before .before .before .before .before .before .before .args in
+    by-names (names (a .bytes .now) (a .start .now) (a .len .now)) (a .i) (a .j) (c .before .before .before .before .read-name .ensures)
+    (c .before .before .before .read-name2 .ensures) (c .before .before .compare .ensures) (c .enum-told .given .1)
 
 returns-2 : tie.Need-returns-2
-returns-2 c = let a = c .before .before .before .before .before .before .before .before .args in by-names (names (a .bytes .now) (a .start .now) (a .len .now)) (a .i) (a .j) (c .before .before .before .before .read-name .ensures) (c .before .before .before .read-name2 .ensures) (c .before .before .compare .ensures) (c .enum-told2 .given .1)
+returns-2 c =
+    let a = c .before .before .before .before .before .before .before .before .args in
+    by-names (names (a .bytes .now) (a .start .now) (a .len .now)) (a .i) (a .j) (c .before .before .before .before .read-name .ensures)
+    (c .before .before .before .read-name2 .ensures) (c .before .before .compare .ensures) (c .enum-told2 .given .1)
 
 returns-3 : tie.Need-returns-3
-returns-3 c = let a = c .before .before .before .before .before .before .before .before .args in by-names (names (a .bytes .now) (a .start .now) (a .len .now)) (a .i) (a .j) (c .before .before .before .before .read-name .ensures) (c .before .before .before .read-name2 .ensures) (c .before .before .compare .ensures) (c .enum-told3 .given .1)
+returns-3 c =
+    let a = c .before .before .before .before .before .before .before .before .args in
+    by-names (names (a .bytes .now) (a .start .now) (a .len .now)) (a .i) (a .j) (c .before .before .before .before .read-name .ensures)
+    (c .before .before .before .read-name2 .ensures) (c .before .before .compare .ensures) (c .enum-told3 .given .1)
 
 pub is-less-spec : {M : Type 1} → statement M
-is-less-spec =
-    tie.close
-    (tie.spec
-    read-name-requires
-    read-name-requires-2
-    compare-requires
-    enum-told
-    enum-told-2
-    enum-told-3
-    returns
-    returns-2
-    returns-3)
+is-less-spec = tie.close (tie.spec (λ c κs. search needs) (λ c κs. search needs) (λ c κs. search needs)
+    (λ c. search needs) (λ c. search needs) (λ c. search needs) returns returns-2 returns-3)

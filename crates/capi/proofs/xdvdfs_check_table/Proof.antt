@@ -15,9 +15,24 @@ returns : tie.Need-returns
 returns c =
     let a = c .before .before .before .before .before .before .before .before .before .before .before .before .before .before .before .args in
     let k = c .before .before .before .before .before .before .before .check-table .ensures in
-    let e = k .0 ∙ at-table (λ (s : Sector) (t : Region). checking.strictAnswer (a .w .now) s t (length (a .list .now)) (length (a .scratch .now))) (c .before .before .before .before .before .before .before .before .before .before .before .sector-of .ensures) (c .before .before .before .before .before .before .before .before .before .before .region-of .ensures) in
-    let s = c .store-checked .ensures in
-    (number-by e (s .0), (given-by itself _ e (s .1 .0), (refusal-by atFault _ e (s .1 .1), (k .1 .0 ∙ at-table (λ (s : Sector) (t : Region). checking.listAfter (a .w .now) s t (a .list .now) (length (a .scratch .now))) (c .before .before .before .before .before .before .before .before .before .before .before .sector-of .ensures) (c .before .before .before .before .before .before .before .before .before .before .region-of .ensures), k .1 .1))))
+    let e = k .0 ∙ at-table (λ (s : Sector) (t : Region). checking.strictAnswer (a .w .now) s t (length (a .list .now)) (length (a .scratch .now)))
+    (c .before .before .before .before .before .before .before .before .before .before .before .sector-of .ensures)
+    (c .before .before .before .before .before .before .before .before .before .before .region-of .ensures) in
+    let s = c .store-checked .ensures in (
+      number-by e (s .0),
+      (
+        given-by itself _ e (s .1 .0),
+        (
+          refusal-by atFault _ e (s .1 .1),
+          (
+            k .1 .0 ∙ at-table (λ (s : Sector) (t : Region). checking.listAfter (a .w .now) s t (a .list .now) (length (a .scratch .now)))
+                (c .before .before .before .before .before .before .before .before .before .before .before .sector-of .ensures)
+                (c .before .before .before .before .before .before .before .before .before .before .region-of .ensures),
+            k .1 .1,
+          ),
+        ),
+      ),
+    )
 
 pub xdvdfs-check-table-spec : {M : Type 1} → statement M
 xdvdfs-check-table-spec = tie.close (tie.spec (λ c κs. search needs) (λ c κs. search needs) (λ c κs. search needs)

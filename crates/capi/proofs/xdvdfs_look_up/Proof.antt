@@ -13,7 +13,9 @@ use Rattle.capi.proofs.xdvdfs_look_up.Tie as tie
 returns : tie.Need-returns
 returns c =
     let a = c .before .before .before .before .before .before .before .before .before .before .args in
-    let e = c .before .before .before .before .before .look-up .ensures ∙ at-table (λ (s : Sector) (t : Region). lookup.lookupOf (a .w .now) s t (a .name .now)) (c .before .before .before .before .before .before .before .sector-of .ensures) (c .before .before .before .before .before .before .region-of .ensures) in
+    let e = c .before .before .before .before .before .look-up .ensures ∙ at-table (λ (s : Sector) (t : Region). lookup.lookupOf (a .w .now) s t (a .name .now))
+    (c .before .before .before .before .before .before .before .sector-of .ensures) (c .before .before .before .before .before .before .region-of .ensures)
+    in
     let s = c .store-looked .ensures in
     (number-by e (s .0), (given-by foundFields _ e (s .1 .0), (given-by foundPlace _ e (s .1 .1 .0), (both-by foundOffset atOffset _ e (s .1 .1 .1 .0), both-by foundHeaders afterHeaders _ e (s .1 .1 .1 .1)))))
 

@@ -15,7 +15,11 @@ use Rattle.capi.proofs.xdvdfs_read_entry.Tie as tie
 returns : tie.Need-returns
 returns c =
     let a = c .before .before .before .before .before .before .before .before .before .args in
-    let e = c .before .before .before .before .read-entry .ensures ∙ (at-table (λ (s : Sector) (t : Region). entry.readAt (a .w .now) s t (c .before .before .before .before .before .new .result .0)) (c .before .before .before .before .before .before .before .sector-of .ensures) (c .before .before .before .before .before .before .region-of .ensures) ∙ ap (λ (o : ℕ). entry.readAt (a .w .now) (sectorOf (a .first)) (regionOf (a .sector) (a .size)) o) (c .before .before .before .before .before .new .ensures)) in
+    let e = c .before .before .before .before .read-entry .ensures
+    ∙ (at-table (λ (s : Sector) (t : Region). entry.readAt (a .w .now) s t (c .before .before .before .before .before .new .result .0))
+    (c .before .before .before .before .before .before .before .sector-of .ensures) (c .before .before .before .before .before .before .region-of .ensures)
+    ∙ ap (λ (o : ℕ). entry.readAt (a .w .now) (sectorOf (a .first)) (regionOf (a .sector) (a .size)) o)
+    (c .before .before .before .before .before .new .ensures)) in
     let s = c .store-entry .ensures in
     (number-by e (s .0), (given-by isSome _ e (s .1 .0), (some-by placedFields _ e (s .1 .1 .0), some-by placedAt _ e (s .1 .1 .1))))
 

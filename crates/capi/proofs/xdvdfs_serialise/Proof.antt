@@ -12,7 +12,8 @@ use Rattle.capi.proofs.xdvdfs_serialise.Tie as tie
 
 returns : tie.Need-returns
 returns c =
-    let a = c .before .before .before .before .before .before .before .before .before .before .before .before .before .before .before .before .before .before .before .before .before .before .before .before .before .before .args in
+    let a = c .before .before .before .before .before .before .before .before .before .before .before .before .before .before .before .before .before .before
+    .before .before .before .before .before .before .before .before .args in
     let A = arena (a .root) (a .count) (columns (a .left .now) (a .right .now) (a .parent .now) (a .height .now) (a .start .now) (a .len .now) (a .size .now) (a .kind .now)) (a .names .now) in
     let k = c .before .before .before .before .before .before .before .before .before .serialise .ensures in
     let f = ap (λ (x : Sector). x .0) (c .before .before .before .before .before .before .before .before .before .before .before .before .before .sector-of .ensures) in

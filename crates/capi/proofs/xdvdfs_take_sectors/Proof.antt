@@ -12,7 +12,8 @@ use Rattle.capi.proofs.xdvdfs_take_sectors.Tie as tie
 returns : tie.Need-returns
 returns c =
     let a = c .before .before .before .before .before .before .before .args in
-    let e = c .before .before .before .take .ensures ∙ ap (λ (n : ℕ). sectors.takeOf 1 n (a .length)) (c .before .before .before .before .starting-at .ensures ∙ ap (λ (s : Sector). s .0) (c .before .before .before .before .before .sector-of .ensures)) in
+    let e = c .before .before .before .take .ensures ∙ ap (λ (n : ℕ). sectors.takeOf 1 n (a .length))
+    (c .before .before .before .before .starting-at .ensures ∙ ap (λ (s : Sector). s .0) (c .before .before .before .before .before .sector-of .ensures)) in
     let s = c .store-taken .ensures in
     (number-by e (s .0), (given-by runFree _ e (s .1 .0), given-by runStart _ e (s .1 .1)))
 

@@ -10,31 +10,95 @@ use Rattle.capi_cells.proofs.store_looked.Statement.{statement}
 use Rattle.capi_cells.proofs.store_looked.Tie as tie
 
 returns : tie.Need-returns
-returns c = let e = ap lookup.told (c .before .before .before .before .r .given .1) in (given-number e, (given-cell foundFields _ e (c .before .store-fields .ensures), (given-cell foundPlace _ e refl, (given-both foundOffset atOffset _ e (c .number .ensures), given-both foundHeaders afterHeaders _ e refl))))
+returns c =
+    let e = ap lookup.told (c .before .before .before .before .r .given .1) in (
+      given-number e,
+      (
+        given-cell foundFields _ e (c .before .store-fields .ensures),
+        (given-cell foundPlace _ e refl, (given-both foundOffset atOffset _ e (c .number .ensures), given-both foundHeaders afterHeaders _ e refl)),
+      ),
+    )
 
 returns-2 : tie.Need-returns-2
 unfolding isIn
-returns-2 c = let e = ap lookup.told (c .enum-told .given .1) in (refused-number e, (refused-cell foundFields _ e, (refused-cell foundPlace _ e, (refused-cell foundOffset _ e ∙ refused-other atOffset _ e refl, refused-cell foundHeaders _ e ∙ refused-other afterHeaders _ e refl))))
+returns-2 c =
+    let e = ap lookup.told (c .enum-told .given .1) in (
+      refused-number e,
+      (
+        refused-cell foundFields _ e,
+        (
+          refused-cell foundPlace _ e,
+          (refused-cell foundOffset _ e ∙ refused-other atOffset _ e refl, refused-cell foundHeaders _ e ∙ refused-other afterHeaders _ e refl),
+        ),
+      ),
+    )
 
 returns-3 : tie.Need-returns-3
 unfolding isIn
-returns-3 c = let e = ap lookup.told (c .enum-told2 .given .1) in (refused-number e, (refused-cell foundFields _ e, (refused-cell foundPlace _ e, (refused-cell foundOffset _ e ∙ refused-other atOffset _ e refl, refused-cell foundHeaders _ e ∙ refused-other afterHeaders _ e refl))))
+returns-3 c =
+    let e = ap lookup.told (c .enum-told2 .given .1) in (
+      refused-number e,
+      (
+        refused-cell foundFields _ e,
+        (
+          refused-cell foundPlace _ e,
+          (refused-cell foundOffset _ e ∙ refused-other atOffset _ e refl, refused-cell foundHeaders _ e ∙ refused-other afterHeaders _ e refl),
+        ),
+      ),
+    )
 
 returns-4 : tie.Need-returns-4
 unfolding isIn
-returns-4 c = let e = ap lookup.told (c .before .r2 .given .1) in (refused-number e, (refused-cell foundFields _ e, (refused-cell foundPlace _ e, (refused-cell foundOffset _ e ∙ refused-other atOffset _ e refl, refused-value afterHeaders _ e refl refl))))
+returns-4 c =
+    let e = ap lookup.told (c .before .r2 .given .1) in (
+      refused-number e,
+      (
+        refused-cell foundFields _ e,
+        (refused-cell foundPlace _ e, (refused-cell foundOffset _ e ∙ refused-other atOffset _ e refl, refused-value afterHeaders _ e refl refl)),
+      ),
+    )
 
 returns-5 : tie.Need-returns-5
 unfolding isIn
-returns-5 c = let e = ap lookup.told (c .before .before .r3 .given .1) in (refused-number e, (refused-cell foundFields _ e, (refused-cell foundPlace _ e, (refused-value atOffset _ e refl (c .number2 .ensures), refused-cell foundHeaders _ e ∙ refused-other afterHeaders _ e refl))))
+returns-5 c =
+    let e = ap lookup.told (c .before .before .r3 .given .1) in (
+      refused-number e,
+      (
+        refused-cell foundFields _ e,
+        (
+          refused-cell foundPlace _ e,
+          (refused-value atOffset _ e refl (c .number2 .ensures), refused-cell foundHeaders _ e ∙ refused-other afterHeaders _ e refl),
+        ),
+      ),
+    )
 
 returns-6 : tie.Need-returns-6
 unfolding isIn
-returns-6 c = let e = ap lookup.told (c .before .before .r4 .given .1) in (refused-number e, (refused-cell foundFields _ e, (refused-cell foundPlace _ e, (refused-value atOffset _ e refl (c .number3 .ensures), refused-cell foundHeaders _ e ∙ refused-other afterHeaders _ e refl))))
+returns-6 c =
+    let e = ap lookup.told (c .before .before .r4 .given .1) in (
+      refused-number e,
+      (
+        refused-cell foundFields _ e,
+        (
+          refused-cell foundPlace _ e,
+          (refused-value atOffset _ e refl (c .number3 .ensures), refused-cell foundHeaders _ e ∙ refused-other afterHeaders _ e refl),
+        ),
+      ),
+    )
 
 returns-7 : tie.Need-returns-7
 unfolding isIn
-returns-7 c = let e = ap lookup.told (c .enum-told3 .given .1) in (refused-number e, (refused-cell foundFields _ e, (refused-cell foundPlace _ e, (refused-cell foundOffset _ e ∙ refused-other atOffset _ e refl, refused-cell foundHeaders _ e ∙ refused-other afterHeaders _ e refl))))
+returns-7 c =
+    let e = ap lookup.told (c .enum-told3 .given .1) in (
+      refused-number e,
+      (
+        refused-cell foundFields _ e,
+        (
+          refused-cell foundPlace _ e,
+          (refused-cell foundOffset _ e ∙ refused-other atOffset _ e refl, refused-cell foundHeaders _ e ∙ refused-other afterHeaders _ e refl),
+        ),
+      ),
+    )
 
 pub store-looked-spec : {M : Type 1} → statement M
 store-looked-spec = tie.close (tie.spec (λ c. search needs) (λ c κs. search needs) (λ c κs. search needs)

@@ -8,7 +8,15 @@ use Rattle.capi_cells.proofs.store_taken.Statement.{statement}
 use Rattle.capi_cells.proofs.store_taken.Tie as tie
 
 returns : tie.Need-returns
-returns c = let e = ap sectors.told (c .before .before .before .before .r .given .1) in (given-number e, (given-cell runFree _ e (c .before .number .ensures ∙ c .before .before .next-free .ensures), given-cell runStart _ e (c .number2 .ensures)))
+returns c =
+    let e = ap sectors.told (c .before .before .before .before .r .given .1) in (
+      given-number e,
+      (
+        given-cell runFree _ e (c .before .number .ensures ∙ c .before .before .next-free .ensures),
+        given-cell runStart _ e
+            (c .number2 .ensures),
+      ),
+    )
 
 returns-2 : tie.Need-returns-2
 returns-2 c = let e = ap sectors.told (c .enum-told .given .1) in (refused-number e, (refused-cell runFree _ e, refused-cell runStart _ e))

@@ -26,7 +26,8 @@ write-held-requires c κs =
 
 returns : tie.Need-returns
 returns c =
-    let z = c .before .before .before .before .before .before .before .before .before .before .before .before .before .before .before .before .before .before .before .before .before .before .before .before .before .before .before .before .before .before .before .before .before in
+    let z = c .before .before .before .before .before .before .before .before .before .before .before .before .before .before .before .before .before .before
+    .before .before .before .before .before .before .before .before .before .before .before .before .before .before .before in
     let a = z .args in
     let A = arena (a .tree .root) (a .tree .count) (columns (a .left .now) (a .right .now) (a .parent .now) (a .height .now) (a .start .now) (a .len .now) (a .size .now) (a .kind .now)) (a .names .now) in
     let is = c .before .before .before .before .before .before .before .before .before .before .before .before .before .before .before .before .before .before .before .before .is-arena in
@@ -42,7 +43,12 @@ returns c =
     let room = c .before .before .before .before .before .before .before .before .before .before .before .before .before .before .before .before .before .before .if1 .taken in
     let g = z .good .0 in
     let small : a .tree .count ≤ 65535 = omega arith in
-    let held = rooted A (sym (is .ensures) ∙ yes) small (λ j. omega (arith, c .before .before .before .before .before .before .before .before .before .before .before .before .before .before .before .before .before .before .before .before .before .before .before .before .before .before .shared-slice-known7 .given j)) in
+    let held = rooted A (sym (is .ensures) ∙ yes) small
+    (λ j. omega (
+      arith,
+      c .before .before .before .before .before .before .before .before .before .before .before .before .before .before .before .before
+          .before .before .before .before .before .before .before .before .before .before .shared-slice-known7 .given j,
+    )) in
     let w = c .before .before .before .before .before .before .before .before .before .before .before .before .before .write-held in
     let k = c .before .before .before .before .clear-both in (
       held-answer A s n m y f ye fe room yes (w .result) (length (a .out .now)) (w .ensures .0 (treeOf A) held),

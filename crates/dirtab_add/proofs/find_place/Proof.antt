@@ -8,56 +8,36 @@ use borrow.Author.Needs.{needs}
 use Rattle.dirtab_add.proofs.find_place.Statement.{statement}
 use Rattle.dirtab_add.proofs.find_place.Tie as tie
 
-widen-requires : tie.Need-widen-requires
-widen-requires c κs = search needs
-
-widen-place-requires : tie.Need-widen-place-requires
-widen-place-requires c κs = search needs
-
-widen-place-requires-2 : tie.Need-widen-place-requires-2
-widen-place-requires-2 c κs = search needs
-
-add-to : tie.Need-add-to
-add-to c = search needs
-
 slice-aggregate-find-spot : tie.Need-slice-aggregate-find-spot
-slice-aggregate-find-spot c = let s = c .before .before .before .before .before .before .before .before .before in sym (length-take-le (c .before .before .before .widen .result) (s .args .left .now) (omega (arith, s .pre .0, c .before .before .before .widen .ensures)))
+slice-aggregate-find-spot c =
+    let s = c .before .before .before .before .before .before .before .before .before in
+    sym (length-take-le (c .before .before .before .widen .result) (s .args .left .now) (omega (arith, s .pre .0, c .before .before .before .widen .ensures)))
 
 slice-aggregate-find-spot-2 : tie.Need-slice-aggregate-find-spot-2
-slice-aggregate-find-spot-2 c = let s = c .before .before .before .before .before .before .before .before .before .before in sym (length-take-le (c .before .before .before .before .widen .result) (s .args .right .now) (omega (arith, s .pre .0, c .before .before .before .before .widen .ensures)))
-
-sub-find-spot : tie.Need-sub-find-spot
-sub-find-spot c = search needs
-
-part-find-spot-start : tie.Need-part-find-spot-start
-part-find-spot-start c = search needs
-
-part-find-spot-end : tie.Need-part-find-spot-end
-part-find-spot-end c = search needs
+slice-aggregate-find-spot-2 c =
+    let s = c .before .before .before .before .before .before .before .before .before .before in
+    sym (length-take-le (c .before .before .before .before .widen .result) (s .args .right .now)
+    (omega (arith, s .pre .0, c .before .before .before .before .widen .ensures)))
 
 find-spot-requires : tie.Need-find-spot-requires
 find-spot-requires c κs = let s = c .before .before .before .before .before .before .before .before .before .before .before in
     let a = s .args in (
-      sought-at (a .left .now) (a .right .now) (a .tree .root) (a .tree .count) (c .before .before .before .before .before .widen .result) (names (a .bytes .now) (a .start .now) (a .len .now)) (c .before .before .before .before .before .widen .ensures) (s .pre .1),
-      name-short (a .left .now) (a .right .now) (a .tree .root) (a .tree .count) (c .before .before .before .before .before .widen .result) (names (a .bytes .now) (a .start .now) (a .len .now)) (c .before .before .before .before .before .widen .ensures) (a .bytes .now) (a .entry) (c .before .before .before .before .widen-place .result) (c .before .before .before .widen-place2 .result) (c .before .before .before .before .widen-place .ensures) (c .before .before .before .widen-place2 .ensures) (s .pre .0 .3),
+      sought-at (a .left .now) (a .right .now) (a .tree .root) (a .tree .count) (c .before .before .before .before .before .widen .result)
+          (names (a .bytes .now) (a .start .now) (a .len .now)) (c .before .before .before .before .before .widen .ensures) (s .pre .1),
+      name-short (a .left .now) (a .right .now) (a .tree .root) (a .tree .count) (c .before .before .before .before .before .widen .result)
+          (names (a .bytes .now) (a .start .now) (a .len .now)) (c .before .before .before .before .before .widen .ensures) (a .bytes .now) (a .entry)
+          (c .before .before .before .before .widen-place .result) (c .before .before .before .widen-place2 .result)
+          (c .before .before .before .before .widen-place .ensures) (c .before .before .before .widen-place2 .ensures) (s .pre .0 .3),
     )
 
 returns : tie.Need-returns
 returns c = let a = c .before .before .before .before .before .before .before .before .before .before .before .before .args in
-    found-at (a .left .now) (a .right .now) (a .tree .root) (a .tree .count) (c .before .before .before .before .before .before .widen .result) (names (a .bytes .now) (a .start .now) (a .len .now)) (c .before .before .before .before .before .before .widen .ensures) (a .bytes .now) (a .entry) (c .before .before .before .before .before .widen-place .result) (c .before .before .before .before .widen-place2 .result) (c .before .before .before .before .before .widen-place .ensures) (c .before .before .before .before .widen-place2 .ensures) (c .find-spot .ensures)
+    found-at (a .left .now) (a .right .now) (a .tree .root) (a .tree .count) (c .before .before .before .before .before .before .widen .result)
+    (names (a .bytes .now) (a .start .now) (a .len .now)) (c .before .before .before .before .before .before .widen .ensures) (a .bytes .now) (a .entry)
+    (c .before .before .before .before .before .widen-place .result) (c .before .before .before .before .widen-place2 .result)
+    (c .before .before .before .before .before .widen-place .ensures) (c .before .before .before .before .widen-place2 .ensures) (c .find-spot .ensures)
 
 pub find-place-spec : {M : Type 1} → statement M
-find-place-spec =
-    tie.close
-    (tie.spec
-    widen-requires
-    widen-place-requires
-    widen-place-requires-2
-    add-to
-    slice-aggregate-find-spot
-    slice-aggregate-find-spot-2
-    sub-find-spot
-    part-find-spot-start
-    part-find-spot-end
-    find-spot-requires
-    returns)
+find-place-spec = tie.close (tie.spec (λ c κs. search needs) (λ c κs. search needs) (λ c κs. search needs)
+    (λ c. search needs) slice-aggregate-find-spot slice-aggregate-find-spot-2 (λ c. search needs) (λ c. search needs)
+    (λ c. search needs) find-spot-requires returns)

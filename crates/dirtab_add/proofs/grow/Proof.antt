@@ -9,77 +9,46 @@ use borrow.Author.Needs.{needs}
 use Rattle.dirtab_add.proofs.grow.Statement.{statement}
 use Rattle.dirtab_add.proofs.grow.Tie as tie
 
-widen-requires : tie.Need-widen-requires
-widen-requires c κs = search needs
-
-add-m : tie.Need-add-m
-add-m c = search needs
-
-slice-relend-prefix-put-in : tie.Need-slice-relend-prefix-put-in
-slice-relend-prefix-put-in c = search needs
-
 slice-aggregate-put-in : tie.Need-slice-aggregate-put-in
-slice-aggregate-put-in c = let s = c .before .before .before .before .before .before .before in sym (length-take-le (c .before .before .widen .result + 1) (s .args .left .now) (omega (arith, s .pre .0, c .before .before .widen .ensures)))
-
-slice-relend-prefix-put-in-2 : tie.Need-slice-relend-prefix-put-in-2
-slice-relend-prefix-put-in-2 c = search needs
+slice-aggregate-put-in c =
+    let s = c .before .before .before .before .before .before .before in
+    sym (length-take-le (c .before .before .widen .result + 1) (s .args .left .now) (omega (arith, s .pre .0, c .before .before .widen .ensures)))
 
 slice-aggregate-put-in-2 : tie.Need-slice-aggregate-put-in-2
-slice-aggregate-put-in-2 c = let s = c .before .before .before .before .before .before .before .before in sym (length-take-le (c .before .before .before .widen .result + 1) (s .args .right .now) (omega (arith, s .pre .0, c .before .before .before .widen .ensures)))
-
-slice-relend-prefix-put-in-3 : tie.Need-slice-relend-prefix-put-in-3
-slice-relend-prefix-put-in-3 c = search needs
+slice-aggregate-put-in-2 c =
+    let s = c .before .before .before .before .before .before .before .before in
+    sym (length-take-le (c .before .before .before .widen .result + 1) (s .args .right .now)
+    (omega (arith, s .pre .0, c .before .before .before .widen .ensures)))
 
 slice-aggregate-put-in-3 : tie.Need-slice-aggregate-put-in-3
-slice-aggregate-put-in-3 c = let s = c .before .before .before .before .before .before .before .before .before in sym (length-take-le (c .before .before .before .before .widen .result + 1) (s .args .parent .now) (omega (arith, s .pre .0, c .before .before .before .before .widen .ensures)))
-
-slice-relend-prefix-put-in-4 : tie.Need-slice-relend-prefix-put-in-4
-slice-relend-prefix-put-in-4 c = search needs
+slice-aggregate-put-in-3 c =
+    let s = c .before .before .before .before .before .before .before .before .before in
+    sym (length-take-le (c .before .before .before .before .widen .result + 1) (s .args .parent .now)
+    (omega (arith, s .pre .0, c .before .before .before .before .widen .ensures)))
 
 slice-aggregate-put-in-4 : tie.Need-slice-aggregate-put-in-4
-slice-aggregate-put-in-4 c = let s = c .before .before .before .before .before .before .before .before .before .before in sym (length-take-le (c .before .before .before .before .before .widen .result + 1) (s .args .height .now) (omega (arith, s .pre .0, c .before .before .before .before .before .widen .ensures)))
+slice-aggregate-put-in-4 c =
+    let s = c .before .before .before .before .before .before .before .before .before .before in
+    sym (length-take-le (c .before .before .before .before .before .widen .result + 1) (s .args .height .now)
+    (omega (arith, s .pre .0, c .before .before .before .before .before .widen .ensures)))
 
 put-in-requires : tie.Need-put-in-requires
 put-in-requires c κs = let s = c .before .before .before .before .before .before .before .before .before .before in
     let a = s .args in
-    placed-at (lists (a .tree .root) (a .left .now) (a .right .now) (a .parent .now) (a .height .now)) (a .tree .count) (c .before .before .before .before .before .widen .result) (c .before .before .before .before .before .widen .ensures) (a .place) (s .pre .1)
-
-same-length : tie.Need-same-length
-same-length c = search needs
-
-same-length-2 : tie.Need-same-length-2
-same-length-2 c = search needs
-
-same-length-3 : tie.Need-same-length-3
-same-length-3 c = search needs
-
-same-length-4 : tie.Need-same-length-4
-same-length-4 c = search needs
+    placed-at (lists (a .tree .root) (a .left .now) (a .right .now) (a .parent .now) (a .height .now)) (a .tree .count)
+    (c .before .before .before .before .before .widen .result) (c .before .before .before .before .before .widen .ensures) (a .place) (s .pre .1)
 
 returns : tie.Need-returns
 returns c = let s = c .before .before .before .before .before .before .before .before .before .before .before .before .before .before .before .before .before .before .before in
     let a = s .args in
-    grown-at (lists (a .tree .root) (a .left .now) (a .right .now) (a .parent .now) (a .height .now)) (a .tree .count) (c .before .before .before .before .before .before .before .before .before .before .before .before .before .before .widen .result) (c .before .before .before .before .before .before .before .before .before .before .before .before .before .before .widen .ensures) (a .place)
+    grown-at (lists (a .tree .root) (a .left .now) (a .right .now) (a .parent .now) (a .height .now)) (a .tree .count)
+    (c .before .before .before .before .before .before .before .before .before .before .before .before .before .before .widen .result)
+    (c .before .before .before .before .before .before .before .before .before .before .before .before .before .before .widen .ensures) (a .place)
     (record { l = omega (arith, s .pre .0); r = omega (arith, s .pre .0); p = omega (arith, s .pre .0); h = omega (arith, s .pre .0) })
     (c .before .before .before .before .before .before .before .before .put-in .ensures)
 
 pub grow-spec : {M : Type 1} → statement M
-grow-spec =
-    tie.close
-    (tie.spec
-    widen-requires
-    add-m
-    slice-relend-prefix-put-in
-    slice-aggregate-put-in
-    slice-relend-prefix-put-in-2
-    slice-aggregate-put-in-2
-    slice-relend-prefix-put-in-3
-    slice-aggregate-put-in-3
-    slice-relend-prefix-put-in-4
-    slice-aggregate-put-in-4
-    put-in-requires
-    same-length
-    same-length-2
-    same-length-3
-    same-length-4
-    returns)
+grow-spec = tie.close (tie.spec (λ c κs. search needs) (λ c. search needs) (λ c. search needs) slice-aggregate-put-in
+    (λ c. search needs) slice-aggregate-put-in-2 (λ c. search needs) slice-aggregate-put-in-3 (λ c. search needs)
+    slice-aggregate-put-in-4 put-in-requires (λ c. search needs) (λ c. search needs) (λ c. search needs)
+    (λ c. search needs) returns)

@@ -7,69 +7,48 @@ use borrow.Author.Needs.{needs}
 use Rattle.dirtab_add.proofs.judge.Statement.{statement}
 use Rattle.dirtab_add.proofs.judge.Tie as tie
 
-is-arena-requires : tie.Need-is-arena-requires
-is-arena-requires c κs = search needs
-
-check-entry-requires : tie.Need-check-entry-requires
-check-entry-requires c κs = search needs
-
-enum-told : tie.Need-enum-told
-enum-told c = search needs
-
 judge-name-requires : tie.Need-judge-name-requires
 judge-name-requires c κs = let a = c .before .before .before .before .before .before .before .before .before .before .before .before .before .before .args in
-    good-entry (arena (a .tree .root) (a .tree .count) (columns (a .left .now) (a .right .now) (a .parent .now) (a .height .now) (a .start .now) (a .len .now) (a .size .now) (a .kind .now)) (a .names .now)) (a .entry) (sym (c .before .before .before .before .is-arena .ensures) ∙ c .before .before .before .if1 .taken) (c .before .before .check-entry .ensures) (c .enum-told .given .1) refl
-
-returns : tie.Need-returns
-returns c = search needs
-
-enum-told-2 : tie.Need-enum-told-2
-enum-told-2 c = search needs
+    good-entry (arena (a .tree .root) (a .tree .count)
+    (columns (a .left .now) (a .right .now) (a .parent .now) (a .height .now) (a .start .now) (a .len .now) (a .size .now) (a .kind .now)) (a .names .now))
+    (a .entry) (sym (c .before .before .before .before .is-arena .ensures) ∙ c .before .before .before .if1 .taken)
+    (c .before .before .check-entry .ensures) (c .enum-told .given .1) refl
 
 returns-2 : tie.Need-returns-2
 returns-2 c = let a = c .before .before .before .before .before .before .before .before .before .before .before .before .before .before .args in
-    bad-entry (arena (a .tree .root) (a .tree .count) (columns (a .left .now) (a .right .now) (a .parent .now) (a .height .now) (a .start .now) (a .len .now) (a .size .now) (a .kind .now)) (a .names .now)) (a .entry) (sym (c .before .before .before .before .is-arena .ensures) ∙ c .before .before .before .if1 .taken) (c .before .before .check-entry .ensures) (c .enum-told2 .given .1) 1 added.EmptyName refl refl
-
-enum-told-3 : tie.Need-enum-told-3
-enum-told-3 c = search needs
+    bad-entry (arena (a .tree .root) (a .tree .count)
+    (columns (a .left .now) (a .right .now) (a .parent .now) (a .height .now) (a .start .now) (a .len .now) (a .size .now) (a .kind .now)) (a .names .now))
+    (a .entry) (sym (c .before .before .before .before .is-arena .ensures) ∙ c .before .before .before .if1 .taken)
+    (c .before .before .check-entry .ensures) (c .enum-told2 .given .1) 1 added.EmptyName refl refl
 
 returns-3 : tie.Need-returns-3
 returns-3 c = let a = c .before .before .before .before .before .before .before .before .before .before .before .before .before .before .args in
-    bad-entry (arena (a .tree .root) (a .tree .count) (columns (a .left .now) (a .right .now) (a .parent .now) (a .height .now) (a .start .now) (a .len .now) (a .size .now) (a .kind .now)) (a .names .now)) (a .entry) (sym (c .before .before .before .before .is-arena .ensures) ∙ c .before .before .before .if1 .taken) (c .before .before .check-entry .ensures) (c .enum-told3 .given .1) 2 added.BadByte refl refl
-
-enum-told-4 : tie.Need-enum-told-4
-enum-told-4 c = search needs
+    bad-entry (arena (a .tree .root) (a .tree .count)
+    (columns (a .left .now) (a .right .now) (a .parent .now) (a .height .now) (a .start .now) (a .len .now) (a .size .now) (a .kind .now)) (a .names .now))
+    (a .entry) (sym (c .before .before .before .before .is-arena .ensures) ∙ c .before .before .before .if1 .taken)
+    (c .before .before .check-entry .ensures) (c .enum-told3 .given .1) 2 added.BadByte refl refl
 
 returns-4 : tie.Need-returns-4
 returns-4 c = let a = c .before .before .before .before .before .before .before .before .before .before .before .before .before .before .args in
-    bad-entry (arena (a .tree .root) (a .tree .count) (columns (a .left .now) (a .right .now) (a .parent .now) (a .height .now) (a .start .now) (a .len .now) (a .size .now) (a .kind .now)) (a .names .now)) (a .entry) (sym (c .before .before .before .before .is-arena .ensures) ∙ c .before .before .before .if1 .taken) (c .before .before .check-entry .ensures) (c .enum-told4 .given .1) 3 added.NameTooLong refl refl
-
-enum-told-5 : tie.Need-enum-told-5
-enum-told-5 c = search needs
+    bad-entry (arena (a .tree .root) (a .tree .count)
+    (columns (a .left .now) (a .right .now) (a .parent .now) (a .height .now) (a .start .now) (a .len .now) (a .size .now) (a .kind .now)) (a .names .now))
+    (a .entry) (sym (c .before .before .before .before .is-arena .ensures) ∙ c .before .before .before .if1 .taken)
+    (c .before .before .check-entry .ensures) (c .enum-told4 .given .1) 3 added.NameTooLong refl refl
 
 returns-5 : tie.Need-returns-5
 returns-5 c = let a = c .before .before .before .before .before .before .before .before .before .before .before .before .before .before .args in
-    bad-entry (arena (a .tree .root) (a .tree .count) (columns (a .left .now) (a .right .now) (a .parent .now) (a .height .now) (a .start .now) (a .len .now) (a .size .now) (a .kind .now)) (a .names .now)) (a .entry) (sym (c .before .before .before .before .is-arena .ensures) ∙ c .before .before .before .if1 .taken) (c .before .before .check-entry .ensures) (c .enum-told5 .given .1) 5 added.SizeOverflow refl refl
+    bad-entry (arena (a .tree .root) (a .tree .count)
+    (columns (a .left .now) (a .right .now) (a .parent .now) (a .height .now) (a .start .now) (a .len .now) (a .size .now) (a .kind .now)) (a .names .now))
+    (a .entry) (sym (c .before .before .before .before .is-arena .ensures) ∙ c .before .before .before .if1 .taken)
+    (c .before .before .check-entry .ensures) (c .enum-told5 .given .1) 5 added.SizeOverflow refl refl
 
 returns-6 : tie.Need-returns-6
 returns-6 c = let a = c .before .before .before .before .before .before .before .before .before .before .before .args in
-    bad-arena (arena (a .tree .root) (a .tree .count) (columns (a .left .now) (a .right .now) (a .parent .now) (a .height .now) (a .start .now) (a .len .now) (a .size .now) (a .kind .now)) (a .names .now)) (a .entry) (c .before .is-arena .ensures) (c .if1 .left)
+    bad-arena (arena (a .tree .root) (a .tree .count)
+    (columns (a .left .now) (a .right .now) (a .parent .now) (a .height .now) (a .start .now) (a .len .now) (a .size .now) (a .kind .now)) (a .names .now))
+    (a .entry) (c .before .is-arena .ensures) (c .if1 .left)
 
 pub judge-spec : {M : Type 1} → statement M
-judge-spec =
-    tie.close
-    (tie.spec
-    is-arena-requires
-    check-entry-requires
-    enum-told
-    judge-name-requires
-    returns
-    enum-told-2
-    returns-2
-    enum-told-3
-    returns-3
-    enum-told-4
-    returns-4
-    enum-told-5
-    returns-5
-    returns-6)
+judge-spec = tie.close (tie.spec (λ c κs. search needs) (λ c κs. search needs) (λ c. search needs) judge-name-requires
+    (λ c. search needs) (λ c. search needs) returns-2 (λ c. search needs) returns-3 (λ c. search needs) returns-4
+    (λ c. search needs) returns-5 returns-6)

@@ -20,70 +20,25 @@ abbrev μ-loop : tie.MeasureT-loop
 loop-holds : tie.Need-loop-holds Inv-loop μ-loop
 loop-holds c = (omega arith, refl)
 
-mul-t10 : tie.Need-mul-t10 Inv-loop μ-loop
-mul-t10 c = search needs
-
-shared-slice-read-t12 : tie.Need-shared-slice-read-t12 Inv-loop μ-loop
-shared-slice-read-t12 c = search needs
-
-mul-t13 : tie.Need-mul-t13 Inv-loop μ-loop
-mul-t13 c = search needs
-
-shared-slice-read-t15 : tie.Need-shared-slice-read-t15 Inv-loop μ-loop
-shared-slice-read-t15 c = search needs
-
-shared-slice-read-kind-of : tie.Need-shared-slice-read-kind-of Inv-loop μ-loop
-shared-slice-read-kind-of c = search needs
-
-kind-of-requires : tie.Need-kind-of-requires Inv-loop μ-loop
-kind-of-requires c κs = search needs
-
-mul-t19 : tie.Need-mul-t19 Inv-loop μ-loop
-mul-t19 c = search needs
-
-shared-slice-read-t21 : tie.Need-shared-slice-read-t21 Inv-loop μ-loop
-shared-slice-read-t21 c = search needs
-
-is-taken-requires : tie.Need-is-taken-requires Inv-loop μ-loop
-is-taken-requires c κs = search needs
-
 returns : tie.Need-returns Inv-loop μ-loop
 returns c =
     let a = c .before .before .before .before .before .before .before .before .before .before .before .before .before .before .args in
-    one-not (a .start .now) (a .len .now) (a .size .now) (a .kind .now) (a .names .now) (c .before .before .before .before .before .before .before .before .loop .i) (c .before .before .before .kind-of .result) (c .before .before .before .kind-of .ensures) (c .before .is-taken .result) (c .before .is-taken .ensures) (a .n) (omega arith) (c .if1 .taken)
-
-add-i : tie.Need-add-i Inv-loop μ-loop
-add-i c = search needs
-
-loop-less : tie.Need-loop-less Inv-loop μ-loop
-loop-less c = search needs
+    one-not (a .start .now) (a .len .now) (a .size .now) (a .kind .now) (a .names .now)
+    (c .before .before .before .before .before .before .before .before .loop .i) (c .before .before .before .kind-of .result)
+    (c .before .before .before .kind-of .ensures) (c .before .is-taken .result) (c .before .is-taken .ensures) (a .n) (omega arith) (c .if1 .taken)
 
 loop-again : tie.Need-loop-again Inv-loop μ-loop
 loop-again c =
-    let a = c .before .before .before .before .before .before .before .before .before .before .before .before .before .before .args in
-    (omega arith, one-more (a .start .now) (a .len .now) (a .size .now) (a .kind .now) (a .names .now) (c .before .before .before .before .before .before .before .before .loop .i) (c .before .before .before .kind-of .result) (c .before .before .before .kind-of .ensures) (c .before .is-taken .result) (c .before .is-taken .ensures) (c .before .before .before .before .before .before .before .before .loop .inv .1) (c .if1 .left))
-
-returns-2 : tie.Need-returns-2 Inv-loop μ-loop
-returns-2 c = search all-were
+    let a = c .before .before .before .before .before .before .before .before .before .before .before .before .before .before .args in (
+      omega arith,
+      one-more (a .start .now) (a .len .now) (a .size .now) (a .kind .now) (a .names .now)
+          (c .before .before .before .before .before .before .before .before .loop .i) (c .before .before .before .kind-of .result)
+          (c .before .before .before .kind-of .ensures) (c .before .is-taken .result) (c .before .is-taken .ensures)
+          (c .before .before .before .before .before .before .before .before .loop .inv .1) (c .if1 .left),
+    )
 
 pub are-taken-spec : {M : Type 1} → statement M
-are-taken-spec =
-    tie.close
-    (tie.spec
-    Inv-loop
-    μ-loop
-    loop-holds
-    mul-t10
-    shared-slice-read-t12
-    mul-t13
-    shared-slice-read-t15
-    shared-slice-read-kind-of
-    kind-of-requires
-    mul-t19
-    shared-slice-read-t21
-    is-taken-requires
-    returns
-    add-i
-    loop-less
-    loop-again
-    returns-2)
+are-taken-spec = tie.close (tie.spec Inv-loop μ-loop loop-holds (λ c. search needs) (λ c. search needs)
+    (λ c. search needs) (λ c. search needs) (λ c. search needs) (λ c κs. search needs) (λ c. search needs)
+    (λ c. search needs) (λ c κs. search needs) returns (λ c. search needs) (λ c. search needs) loop-again
+    (λ c. search all-were))

@@ -5,24 +5,6 @@ use borrow.Author.Needs.{needs}
 use Rattle.dirtab_arena.proofs.is_taken.Statement.{statement}
 use Rattle.dirtab_arena.proofs.is_taken.Tie as tie
 
-check-entry-requires : tie.Need-check-entry-requires
-check-entry-requires c κs = search needs
-
-enum-told : tie.Need-enum-told
-enum-told c = search needs
-
-enum-told-2 : tie.Need-enum-told-2
-enum-told-2 c = search needs
-
-enum-told-3 : tie.Need-enum-told-3
-enum-told-3 c = search needs
-
-enum-told-4 : tie.Need-enum-told-4
-enum-told-4 c = search needs
-
-enum-told-5 : tie.Need-enum-told-5
-enum-told-5 c = search needs
-
 returns : tie.Need-returns
 returns c = let a = c .before .before .before .before .args in is-told (a .names .now) (a .entry) (c .before .before .check-entry .result) Good (c .before .before .check-entry .ensures) (c .enum-told .given .1)
 
@@ -36,20 +18,10 @@ returns-4 : tie.Need-returns-4
 returns-4 c = let a = c .before .before .before .before .args in is-told (a .names .now) (a .entry) (c .before .before .check-entry .result) NameTooLong (c .before .before .check-entry .ensures) (c .enum-told4 .given .1)
 
 returns-5 : tie.Need-returns-5
-returns-5 c = let a = c .before .before .before .before .args in is-told (a .names .now) (a .entry) (c .before .before .check-entry .result) SizeOverflow (c .before .before .check-entry .ensures) (c .enum-told5 .given .1)
+returns-5 c =
+    let a = c .before .before .before .before .args in
+    is-told (a .names .now) (a .entry) (c .before .before .check-entry .result) SizeOverflow (c .before .before .check-entry .ensures) (c .enum-told5 .given .1)
 
 pub is-taken-spec : {M : Type 1} → statement M
-is-taken-spec =
-    tie.close
-    (tie.spec
-    check-entry-requires
-    enum-told
-    enum-told-2
-    enum-told-3
-    enum-told-4
-    enum-told-5
-    returns
-    returns-2
-    returns-3
-    returns-4
-    returns-5)
+is-taken-spec = tie.close (tie.spec (λ c κs. search needs) (λ c. search needs) (λ c. search needs) (λ c. search needs)
+    (λ c. search needs) (λ c. search needs) returns returns-2 returns-3 returns-4 returns-5)

@@ -15,12 +15,7 @@ abbrev μ-loop : tie.MeasureT-loop
 loop-holds : tie.Need-loop-holds Inv-loop μ-loop
 loop-holds c = none-added _
 
-loop-again : tie.Need-loop-again Inv-loop μ-loop
-loop-again c = search one-added
-
-returns : tie.Need-returns Inv-loop μ-loop
-returns c = search all-added
-
 pub add-shares-spec : {M : Type 1} → statement M
 add-shares-spec = tie.close (tie.spec Inv-loop μ-loop loop-holds (λ c. search needs) (λ c. search needs)
-    (λ c κs. search needs) (λ c. search needs) (λ c. search needs) (λ c. search needs) loop-again returns)
+    (λ c κs. search needs) (λ c. search needs) (λ c. search needs) (λ c. search needs) (λ c. search one-added)
+    (λ c. search all-added))

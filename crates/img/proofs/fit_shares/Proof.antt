@@ -15,15 +15,7 @@ abbrev μ-loop : tie.MeasureT-loop
 loop-holds : tie.Need-loop-holds Inv-loop μ-loop
 loop-holds c = none-fitted _ _ _
 
-returns : tie.Need-returns Inv-loop μ-loop
-returns c = search one-too-long
-
-loop-again : tie.Need-loop-again Inv-loop μ-loop
-loop-again c = search one-fitted
-
-returns-2 : tie.Need-returns-2 Inv-loop μ-loop
-returns-2 c = search all-fitted
-
 pub fit-shares-spec : {M : Type 1} → statement M
 fit-shares-spec = tie.close (tie.spec Inv-loop μ-loop loop-holds (λ c. search needs) (λ c. search needs)
-    (λ c κs. search needs) (λ c κs. search needs) returns (λ c. search needs) (λ c. search needs) loop-again returns-2)
+    (λ c κs. search needs) (λ c κs. search needs) (λ c. search one-too-long) (λ c. search needs) (λ c. search needs)
+    (λ c. search one-fitted) (λ c. search all-fitted))

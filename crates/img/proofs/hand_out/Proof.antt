@@ -8,8 +8,14 @@ use Rattle.img.proofs.hand_out.Tie as tie
 take-tables-requires : tie.Need-take-tables-requires
 take-tables-requires c κs =
     let k = c .before .before .before .before .before .before .before .before .before .before .before .before in
-    let s = k .before .before .before .before .before .before .before .before .before .before .before .before in
-    ((widened (s .pre .0 .0) (search needs), taken _ _ (k .check-tables .ensures (s .pre .0 .0) (s .args .tables .now) (s .args .sectors .now)) [] _ (c .before .before .before .before .before .before .before .before .free .given .1)), search needs)
+    let s = k .before .before .before .before .before .before .before .before .before .before .before .before in (
+      (
+        widened (s .pre .0 .0) (search needs),
+        taken _ _ (k .check-tables .ensures (s .pre .0 .0) (s .args .tables .now) (s .args .sectors .now)) [] _
+            (c .before .before .before .before .before .before .before .before .free .given .1),
+      ),
+      search needs,
+    )
 
 returns : tie.Need-returns
 returns c = λ w.
@@ -27,7 +33,9 @@ returns-3 : tie.Need-returns-3
 returns-3 c = λ w.
     let k = c .before .before .before .before .before .before .before .before .before .before .before .before .before .before .before .before .before .before .before in
     let s = k .before .before .before .before .before .before .before .before .before .before .before .before in
-    all-out _ _ (k .check-tables .ensures w (s .args .tables .now) (s .args .sectors .now)) _ _ _ _ _ _ _ _ (c .before .before .before .before .before .before .before .before .before .before .before .before .before .before .before .free .given .1) (c .before .before .before .before .before .before .before .before .before .before .before .before .copy-words .ensures)
+    all-out _ _ (k .check-tables .ensures w (s .args .tables .now) (s .args .sectors .now)) _ _ _ _ _ _ _ _
+    (c .before .before .before .before .before .before .before .before .before .before .before .before .before .before .before .free .given .1)
+    (c .before .before .before .before .before .before .before .before .before .before .before .before .copy-words .ensures)
     (c .before .before .before .before .before .before .take-tables .ensures (widened w (search needs)))
 
 pub hand-out-spec : {M : Type 1} → statement M

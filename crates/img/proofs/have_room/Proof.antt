@@ -7,19 +7,11 @@ use Rattle.img.proofs.Rooming.{few-directories, few-entries, enough-of-
 use Rattle.img.proofs.have_room.Statement.{statement}
 use Rattle.img.proofs.have_room.Tie as tie
 
-returns : tie.Need-returns
-returns c = search few-directories
-
-returns-2 : tie.Need-returns-2
-returns-2 c = search few-entries
-
 slice-aggregate-fit-shares : tie.Need-slice-aggregate-fit-shares
 slice-aggregate-fit-shares c =
     let s = c .before .before .before .before in
     sym (length-take-le (s .args .directories) (s .args .share .now) (omega (arith, s .pre)))
 
-returns-3 : tie.Need-returns-3
-returns-3 c = search enough-of-both
-
 pub have-room-spec : {M : Type 1} → statement M
-have-room-spec = tie.close (tie.spec returns returns-2 slice-aggregate-fit-shares (λ c κs. search needs) returns-3)
+have-room-spec = tie.close (tie.spec (λ c. search few-directories) (λ c. search few-entries) slice-aggregate-fit-shares
+    (λ c κs. search needs) (λ c. search enough-of-both))

@@ -4,9 +4,6 @@ use Rattle.img.proofs.Fewest.{least-of-five}
 use Rattle.img.proofs.measure_directories.Statement.{statement}
 use Rattle.img.proofs.measure_directories.Tie as tie
 
-returns : tie.Need-returns
-returns c = search least-of-five
-
 pub measure-directories-spec : {M : Type 1} → statement M
 measure-directories-spec = tie.close (tie.spec (λ c κs. search needs) (λ c κs. search needs) (λ c κs. search needs)
-    (λ c κs. search needs) returns)
+    (λ c κs. search needs) (λ c. search least-of-five))

@@ -4,9 +4,6 @@ use Rattle.img.proofs.Fewest.{least-of-six}
 use Rattle.img.proofs.measure_nodes.Statement.{statement}
 use Rattle.img.proofs.measure_nodes.Tie as tie
 
-returns : tie.Need-returns
-returns c = search least-of-six
-
 pub measure-nodes-spec : {M : Type 1} → statement M
 measure-nodes-spec = tie.close (tie.spec (λ c κs. search needs) (λ c κs. search needs) (λ c κs. search needs)
-    (λ c κs. search needs) (λ c κs. search needs) returns)
+    (λ c κs. search needs) (λ c κs. search needs) (λ c. search least-of-six))

@@ -37,7 +37,9 @@ slice-aggregate-plan-counted-6 c =
     sym (length-take-le (s .args .entries) (s .args .value .now) (in-value _ _ (s .pre)))
 
 slice-relend-prefix-plan-counted : tie.Need-slice-relend-prefix-plan-counted
-slice-relend-prefix-plan-counted c = in-sized _ _ (c .before .before .before .before .before .before .before .before .before .before .before .before .before .before .before .before .before .before .before .before .before .before .before .before .pre)
+slice-relend-prefix-plan-counted c =
+    in-sized _ _ (c .before .before .before .before .before .before .before .before .before .before .before .before .before .before .before .before .before
+    .before .before .before .before .before .before .before .pre)
 
 slice-aggregate-plan-counted-7 : tie.Need-slice-aggregate-plan-counted-7
 slice-aggregate-plan-counted-7 c =
@@ -45,32 +47,42 @@ slice-aggregate-plan-counted-7 c =
     sym (length-take-le (s .args .directories) (s .args .sized .now) (in-sized _ _ (s .pre)))
 
 slice-relend-prefix-plan-counted-2 : tie.Need-slice-relend-prefix-plan-counted-2
-slice-relend-prefix-plan-counted-2 c = in-sizes _ _ (c .before .before .before .before .before .before .before .before .before .before .before .before .before .before .before .before .before .before .before .before .before .before .before .before .before .before .before .before .before .before .before .before .pre)
+slice-relend-prefix-plan-counted-2 c =
+    in-sizes _ _ (c .before .before .before .before .before .before .before .before .before .before .before .before .before .before .before .before .before
+    .before .before .before .before .before .before .before .before .before .before .before .before .before .before .before .pre)
 
 slice-aggregate-plan-counted-8 : tie.Need-slice-aggregate-plan-counted-8
 slice-aggregate-plan-counted-8 c =
-    let s = c .before .before .before .before .before .before .before .before .before .before .before .before .before .before .before .before .before .before .before .before .before .before .before .before .before .before .before .before .before .before .before .before .before in
+    let s = c .before .before .before .before .before .before .before .before .before .before .before .before .before .before .before .before .before .before
+    .before .before .before .before .before .before .before .before .before .before .before .before .before .before .before in
     sym (length-take-le (s .args .directories) (s .args .sizes .now) (in-sizes _ _ (s .pre)))
 
 slice-relend-prefix-plan-counted-3 : tie.Need-slice-relend-prefix-plan-counted-3
-slice-relend-prefix-plan-counted-3 c = in-tables _ _ (c .before .before .before .before .before .before .before .before .before .before .before .before .before .before .before .before .before .before .before .before .before .before .before .before .before .before .before .before .before .before .before .before .before .pre)
+slice-relend-prefix-plan-counted-3 c =
+    in-tables _ _ (c .before .before .before .before .before .before .before .before .before .before .before .before .before .before .before .before .before
+    .before .before .before .before .before .before .before .before .before .before .before .before .before .before .before .before .pre)
 
 slice-aggregate-plan-counted-9 : tie.Need-slice-aggregate-plan-counted-9
 slice-aggregate-plan-counted-9 c =
-    let s = c .before .before .before .before .before .before .before .before .before .before .before .before .before .before .before .before .before .before .before .before .before .before .before .before .before .before .before .before .before .before .before .before .before .before in
+    let s = c .before .before .before .before .before .before .before .before .before .before .before .before .before .before .before .before .before .before
+    .before .before .before .before .before .before .before .before .before .before .before .before .before .before .before .before in
     sym (length-take-le (s .args .directories) (s .args .tables .now) (in-tables _ _ (s .pre)))
 
 slice-relend-prefix-plan-counted-4 : tie.Need-slice-relend-prefix-plan-counted-4
-slice-relend-prefix-plan-counted-4 c = in-sectors _ _ (c .before .before .before .before .before .before .before .before .before .before .before .before .before .before .before .before .before .before .before .before .before .before .before .before .before .before .before .before .before .before .before .before .before .before .pre)
+slice-relend-prefix-plan-counted-4 c =
+    in-sectors _ _ (c .before .before .before .before .before .before .before .before .before .before .before .before .before .before .before .before .before
+    .before .before .before .before .before .before .before .before .before .before .before .before .before .before .before .before .before .pre)
 
 slice-aggregate-plan-counted-10 : tie.Need-slice-aggregate-plan-counted-10
 slice-aggregate-plan-counted-10 c =
-    let s = c .before .before .before .before .before .before .before .before .before .before .before .before .before .before .before .before .before .before .before .before .before .before .before .before .before .before .before .before .before .before .before .before .before .before .before in
+    let s = c .before .before .before .before .before .before .before .before .before .before .before .before .before .before .before .before .before .before
+    .before .before .before .before .before .before .before .before .before .before .before .before .before .before .before .before .before in
     sym (length-take-le (s .args .entries) (s .args .sectors .now) (in-sectors _ _ (s .pre)))
 
 plan-counted-requires : tie.Need-plan-counted-requires
 plan-counted-requires c κs =
-    let s = c .before .before .before .before .before .before .before .before .before .before .before .before .before .before .before .before .before .before .before .before .before .before .before .before .before .before .before .before .before .before .before .before .before .before .before in
+    let s = c .before .before .before .before .before .before .before .before .before .before .before .before .before .before .before .before .before .before
+    .before .before .before .before .before .before .before .before .before .before .before .before .before .before .before .before .before in
     (exact-cut _ _ (s .pre), wide-cut _ _ (s .pre))
 
 same-length : tie.Need-same-length
@@ -107,7 +119,9 @@ same-length-11 : tie.Need-same-length-11
 same-length-11 c = search needs
 
 returns : tie.Need-returns
-returns c = planned-in _ _ _ _ _ _ (c .before .before .before .before .before .before .before .before .before .before .before .before .before .before .before .before .before .before .before .before .before .before .plan-counted .ensures)
+returns c = planned-in _ _ _ _ _ _
+    (c .before .before .before .before .before .before .before .before .before .before .before .before .before .before .before .before .before .before .before
+    .before .before .before .plan-counted .ensures)
 
 pub plan-cut-spec : {M : Type 1} → statement M
 plan-cut-spec =

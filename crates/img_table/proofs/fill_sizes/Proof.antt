@@ -13,13 +13,29 @@ use Rattle.img_table.proofs.fill_sizes.Statement.{statement}
 use Rattle.img_table.proofs.fill_sizes.Tie as tie
 
 abbrev Inv-loop : tie.InvT-loop
-Inv-loop kind value sized size₀ i₀ size i = (i ≤ length kind) × ((length size ≡ length size₀) × ((fitting (sizeAt (shareBy [] [] kind value []) (tableIn sized)) (length kind) 0 ≡ fitting (sizeAt (shareBy [] [] kind value []) (tableIn sized)) (length kind - i) i) × ((j : ℕ) → j < i → getD size j 0 ≡ sizeAt (shareBy [] [] kind value []) (tableIn sized) j)))
+Inv-loop kind value sized size₀ i₀ size i =
+    (i ≤ length kind) × ((length size ≡ length size₀)
+    × ((fitting (sizeAt (shareBy [] [] kind value []) (tableIn sized)) (length kind) 0
+    ≡ fitting (sizeAt (shareBy [] [] kind value []) (tableIn sized)) (length kind - i) i)
+    × ((j : ℕ) → j < i → getD size j 0 ≡ sizeAt (shareBy [] [] kind value []) (tableIn sized) j)))
 
 abbrev μ-loop : tie.MeasureT-loop
 μ-loop kind value sized size₀ i₀ size i = length kind - i
 
 loop-holds : tie.Need-loop-holds Inv-loop μ-loop
-loop-holds c = (omega arith, (refl, (let a = c .before .before .before .before .args in ap (λ (k : ℕ). fitting (sizeAt (shareBy [] [] (a .kind .now) (a .value .now) []) (tableIn (a .sized .now))) k 0) {x = length (a .kind .now)} {y = length (a .kind .now) - 0} (omega arith), λ j h. absurd (omega arith))))
+loop-holds c = (
+  omega arith,
+  (
+    refl,
+    (
+      let a =
+          c .before .before .before .before .args in
+          ap (λ (k : ℕ). fitting (sizeAt (shareBy [] [] (a .kind .now) (a .value .now) []) (tableIn (a .sized .now))) k 0) {x = length (a .kind .now)} {y =
+          length (a .kind .now) - 0} (omega arith),
+      λ j h. absurd (omega arith),
+    ),
+  ),
+)
 
 size-for-requires : tie.Need-size-for-requires Inv-loop μ-loop
 size-for-requires c κs = c .before .before .before .before .before .before .before .before .pre .known (c .before .before .before .loop .i) (c .before .before .loop-test .taken)
@@ -28,7 +44,20 @@ returns : tie.Need-returns Inv-loop μ-loop
 returns c = (search fit-stop, search needs)
 
 loop-again : tie.Need-loop-again Inv-loop μ-loop
-loop-again c = (search needs, (simp length-set (search needs), (search fit-next, let a = c .before .before .before .before .before .before .before .before .before .before .args in let l = c .before .before .before .before .before .loop in stored (sizeAt (shareBy [] [] (a .kind .now) (a .value .now) []) (tableIn (a .sized .now))) (l .size) (l .i) _ (c .before .size-for .result) _ (l .inv .1 .1 .1) refl (search needs) (c .before .size-for .ensures) refl)))
+loop-again c = (
+  search needs,
+  (
+    simp length-set (search needs),
+    (
+      search fit-next,
+      let a =
+          c .before .before .before .before .before .before .before .before .before .before .args in let l =
+          c .before .before .before .before .before .loop in
+          stored (sizeAt (shareBy [] [] (a .kind .now) (a .value .now) []) (tableIn (a .sized .now))) (l .size) (l .i) _ (c .before .size-for .result) _
+          (l .inv .1 .1 .1) refl (search needs) (c .before .size-for .ensures) refl,
+    ),
+  ),
+)
 
 returns-2 : tie.Need-returns-2 Inv-loop μ-loop
 returns-2 c = (search fit-last, search needs)

@@ -8,22 +8,46 @@ use Rattle.img_table.proofs.size_table.Statement.{statement}
 use Rattle.img_table.proofs.size_table.Tie as tie
 
 measure-requires : tie.Need-measure-requires
-measure-requires c κs = let s = c .before .before .before .before .before .before .before .before .before .before .before .before .before .before .before .before .before .before .before .before .before .before .before .before .before .before .before .before .before .before .before .before .before .before .before .before .before .before in let a = s .args in let r = c .before .before .before .before .before .before .before .before .before .before .before .before .before .before .before .before .before .arrange in
+measure-requires c κs =
+    let s = c .before .before .before .before .before .before .before .before .before .before .before .before .before .before .before .before .before .before
+    .before .before .before .before .before .before .before .before .before .before .before .before .before .before .before .before .before .before .before
+    .before in
+    let a = s .args in
+    let r = c .before .before .before .before .before .before .before .before .before .before .before .before .before .before .before .before .before .arrange
+    in
     let S = shareBy (a .start .now) (a .len .now) (a .kind .now) (a .value .now) (a .names .now) in let tab = tableIn (a .sized .now) in let o = r .last .1 .1 .1 .1 .1 .1 .1 .1 .1 .1 .1 .1 .0 in
     measurable S tab o (was-done (treeIn S tab) o (c .before .enum-told .given .1) (r .ensures)) (s .pre .named) (r .kept .1 .1 .1 .1 .1 .1 .1 .1 .1 .1 .1 .1 .0 ∙ s .pre .o)
 
 returns : tie.Need-returns
-returns c = let s = c .before .before .before .before .before .before .before .before .before .before .before .before .before .before .before .before .before .before .before .before .before .before .before .before .before .before .before .before .before .before .before .before .before .before .before .before .before .before in let a = s .args in let r = c .before .before .before .before .before .before .before .before .before .before .before .before .before .before .before .before .before .arrange in
+returns c =
+    let s = c .before .before .before .before .before .before .before .before .before .before .before .before .before .before .before .before .before .before
+    .before .before .before .before .before .before .before .before .before .before .before .before .before .before .before .before .before .before .before
+    .before in
+    let a = s .args in
+    let r = c .before .before .before .before .before .before .before .before .before .before .before .before .before .before .before .before .before .arrange
+    in
     let S = shareBy (a .start .now) (a .len .now) (a .kind .now) (a .value .now) (a .names .now) in let tab = tableIn (a .sized .now) in let o = r .last .1 .1 .1 .1 .1 .1 .1 .1 .1 .1 .1 .1 .0 in
     was-refused (treeIn S tab) o (c .before .cause .given .1) (r .ensures)
 
 returns-2 : tie.Need-returns-2
-returns-2 c = let s = c .before .before .before .before .before .before .before .before .before .before .before .before .before .before .before .before .before .before .before .before .before .before .before .before .before .before .before .before .before .before .before .before .before .before .before .before .before .before in let a = s .args in let r = c .before .before .before .before .before .before .before .before .before .before .before .before .before .before .before .before .before .arrange in
+returns-2 c =
+    let s = c .before .before .before .before .before .before .before .before .before .before .before .before .before .before .before .before .before .before
+    .before .before .before .before .before .before .before .before .before .before .before .before .before .before .before .before .before .before .before
+    .before in
+    let a = s .args in
+    let r = c .before .before .before .before .before .before .before .before .before .before .before .before .before .before .before .before .before .arrange
+    in
     let S = shareBy (a .start .now) (a .len .now) (a .kind .now) (a .value .now) (a .names .now) in let tab = tableIn (a .sized .now) in let o = r .last .1 .1 .1 .1 .1 .1 .1 .1 .1 .1 .1 .1 .0 in
     was-large (treeIn S tab) o (c .before .i .given .1) (r .ensures)
 
 returns-3 : tie.Need-returns-3
-returns-3 c = let s = c .before .before .before .before .before .before .before .before .before .before .before .before .before .before .before .before .before .before .before .before .before .before .before .before .before .before .before .before .before .before .before .before .before .before .before .before .before .before .before in let a = s .args in let r = c .before .before .before .before .before .before .before .before .before .before .before .before .before .before .before .before .before .before .arrange in
+returns-3 c =
+    let s = c .before .before .before .before .before .before .before .before .before .before .before .before .before .before .before .before .before .before
+    .before .before .before .before .before .before .before .before .before .before .before .before .before .before .before .before .before .before .before
+    .before .before in
+    let a = s .args in
+    let r = c .before .before .before .before .before .before .before .before .before .before .before .before .before .before .before .before .before .before
+    .arrange in
     let S = shareBy (a .start .now) (a .len .now) (a .kind .now) (a .value .now) (a .names .now) in let tab = tableIn (a .sized .now) in let o = r .last .1 .1 .1 .1 .1 .1 .1 .1 .1 .1 .1 .1 .0 in
     measured S tab o (was-done (treeIn S tab) o (c .before .before .enum-told .given .1) (r .ensures)) _ (c .measure .ensures)
 

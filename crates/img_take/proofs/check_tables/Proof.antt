@@ -10,7 +10,9 @@ use Rattle.img_take.proofs.check_tables.Statement.{statement}
 use Rattle.img_take.proofs.check_tables.Tie as tie
 
 abbrev Inv-loop : tie.InvT-loop
-Inv-loop from share kind value sized order size₀ end free₀ to₀ d₀ size free to d = (to ≡ total (drop d share)) × ((length size ≡ length size₀) × Checked from share kind value sized order (length size₀) d (33 + sectorsFor (getD sized 0 0)) (free .0))
+Inv-loop from share kind value sized order size₀ end free₀ to₀ d₀ size free to d =
+    (to ≡ total (drop d share))
+    × ((length size ≡ length size₀) × Checked from share kind value sized order (length size₀) d (33 + sectorsFor (getD sized 0 0)) (free .0))
 
 abbrev μ-loop : tie.MeasureT-loop
 μ-loop from share kind value sized order size₀ end free₀ to₀ d₀ size free to d = length from - d
@@ -31,7 +33,17 @@ sub-to : tie.Need-sub-to Inv-loop μ-loop
 sub-to c = search to-room
 
 loop-again : tie.Need-loop-again Inv-loop μ-loop
-loop-again c = (search to-next, (search needs, checked-next (c .before .before .before .before .before .before .before .before .before .before .loop .inv .1 .1) (c .before .before .before .before .before .before .before .check-table .result) (c .before .before .before .before .before .before .before .check-table .ensures) (c .before .before .before .before .before .before .before .before .before .before .loop .inv .1 .0) (c .before .before .before .before .before .before .before .before .before .loop-test .taken) (c .before .before .before .next .given .1) refl))
+loop-again c = (
+  search to-next,
+  (
+    search needs,
+    checked-next (c .before .before .before .before .before .before .before .before .before .before .loop .inv .1 .1)
+        (c .before .before .before .before .before .before .before .check-table .result)
+        (c .before .before .before .before .before .before .before .check-table .ensures)
+        (c .before .before .before .before .before .before .before .before .before .before .loop .inv .1 .0)
+        (c .before .before .before .before .before .before .before .before .before .loop-test .taken) (c .before .before .before .next .given .1) refl,
+  ),
+)
 
 returns-3 : tie.Need-returns-3 Inv-loop μ-loop
 returns-3 c = λ w tables sectors. search checked-end

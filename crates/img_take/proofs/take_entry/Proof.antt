@@ -6,7 +6,11 @@ use Rattle.img_take.proofs.take_entry.Statement.{statement}
 use Rattle.img_take.proofs.take_entry.Tie as tie
 
 add-result : tie.Need-add-result
-add-result c = omega (arith, one-low _ _ _ _ (c .sectors-for .ensures .0) (c .before .stored-at .ensures) (c .before .before .before .before .before .before .before .before .before .before .before .before .before .pre .1))
+add-result c = omega (
+  arith,
+  one-low _ _ _ _ (c .sectors-for .ensures .0) (c .before .stored-at .ensures)
+      (c .before .before .before .before .before .before .before .before .before .before .before .before .before .pre .1),
+)
 
 returns : tie.Need-returns
 returns c = search one-taken

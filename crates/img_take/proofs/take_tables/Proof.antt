@@ -13,7 +13,12 @@ use Rattle.img_take.proofs.take_tables.Statement.{statement}
 use Rattle.img_take.proofs.take_tables.Tie as tie
 
 abbrev Inv-loop : tie.InvT-loop
-Inv-loop from share kind value sized order size₀ end tables₀ sectors₀ free₀ to₀ d₀ size tables sectors free to d = (to ≡ total (drop d share)) × ((length size ≡ length size₀) × ((length tables ≡ length from) × ((length sectors ≡ length kind) × TakenSo from share kind value sized order (length size₀) d (taking tables₀ sectors₀ (33 + sectorsFor (getD sized 0 0))) (taking tables sectors free))))
+Inv-loop from share kind value sized order size₀ end tables₀ sectors₀ free₀ to₀ d₀ size tables sectors free to d =
+    (to ≡ total (drop d share))
+    × ((length size ≡ length size₀)
+    × ((length tables ≡ length from)
+    × ((length sectors ≡ length kind)
+    × TakenSo from share kind value sized order (length size₀) d (taking tables₀ sectors₀ (33 + sectorsFor (getD sized 0 0))) (taking tables sectors free))))
 
 abbrev μ-loop : tie.MeasureT-loop
 μ-loop from share kind value sized order size₀ end tables₀ sectors₀ free₀ to₀ d₀ size tables sectors free to d = length from - d
@@ -22,16 +27,43 @@ loop-holds : tie.Need-loop-holds Inv-loop μ-loop
 loop-holds c = (search needs, (refl, (search needs, (search needs, taken-start (c .number .ensures ∙ c .before .free-after-root .ensures)))))
 
 take-table-requires : tie.Need-take-table-requires Inv-loop μ-loop
-take-table-requires c κs = let z = c .before .before .before .before .before .before .before .before .before .before .before .before .before .before .before .before .before in let v = c .before .before .before .before .loop .inv in let h = c .before .before .before .loop-test .taken in let s = taken-split (v .1 .1 .1 .1) h (z .pre .0 .0) (z .pre .0 .1 .0) (z .pre .0 .1 .1) in ((turn-at (z .pre .0 .0) (v .1 .0) h (v .0), (v .1 .1 .0, v .1 .1 .1 .0)), (re-place (z .pre .0 .0) (sym (v .1 .0)), (s .0, s .1 .0)))
+take-table-requires c κs =
+    let z = c .before .before .before .before .before .before .before .before .before .before .before .before .before .before .before .before .before in
+    let v = c .before .before .before .before .loop .inv in
+    let h = c .before .before .before .loop-test .taken in
+    let s = taken-split (v .1 .1 .1 .1) h (z .pre .0 .0) (z .pre .0 .1 .0) (z .pre .0 .1 .1) in
+    ((turn-at (z .pre .0 .0) (v .1 .0) h (v .0), (v .1 .1 .0, v .1 .1 .1 .0)), (re-place (z .pre .0 .0) (sym (v .1 .0)), (s .0, s .1 .0)))
 
 shared-slice-read-widen : tie.Need-shared-slice-read-widen Inv-loop μ-loop
-shared-slice-read-widen c = omega (arith, c .before .before .before .before .before .before .before .before .before .before .before .before .before .before .before .before .before .before .before .before .before .before .before .before .before .pre .0 .0 .sizeable .shared, c .before .before .before .before .before .before .before .before .before .before .before .loop-test .taken)
+shared-slice-read-widen c =
+    omega (
+      arith,
+      c .before .before .before .before .before .before .before .before .before .before .before .before .before .before .before .before .before
+          .before .before .before .before .before .before .before .before .pre .0 .0 .sizeable .shared,
+      c .before .before .before .before .before .before .before
+          .before .before .before .before .loop-test .taken,
+    )
 
 sub-to : tie.Need-sub-to Inv-loop μ-loop
 sub-to c = search to-room
 
 loop-again : tie.Need-loop-again Inv-loop μ-loop
-loop-again c = (search to-next, (search needs, (search needs, (search needs, taken-next (c .before .before .before .before .before .before .before .before .before .before .before .before .before .loop .inv .1 .1 .1 .1) (c .before .before .before .before .before .before .before .before .before .before .before .before .loop-test .taken) (c .before .before .before .before .before .before .before .before .take-table .ensures) (c .before .before .before .before .before .before .before .before .before .before .before .before .before .loop .inv .1 .0) refl))))
+loop-again c = (
+  search to-next,
+  (
+    search needs,
+    (
+      search needs,
+      (
+        search needs,
+        taken-next (c .before .before .before .before .before .before .before .before .before .before .before .before .before .loop .inv .1 .1 .1 .1)
+            (c .before .before .before .before .before .before .before .before .before .before .before .before .loop-test .taken)
+            (c .before .before .before .before .before .before .before .before .take-table .ensures)
+            (c .before .before .before .before .before .before .before .before .before .before .before .before .before .loop .inv .1 .0) refl,
+      ),
+    ),
+  ),
+)
 
 returns : tie.Need-returns Inv-loop μ-loop
 returns c = λ w p e. let q = taken-end (c .before .loop .inv .1 .1 .1 .1) (c .loop-test .left) w p e in (ap (λ (y : Taking). y .tables) q, ap (λ (y : Taking). y .sectors) q)

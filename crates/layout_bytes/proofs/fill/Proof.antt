@@ -8,8 +8,6 @@ use lib.ListN.{length, drop, set, replicate, length-set}
 use Rattle.layout_bytes.proofs.Turns.{fill-turn}
 use Rattle.layout_bytes.proofs.fill.Statement.{statement}
 use Rattle.layout_bytes.proofs.fill.Tie as tie
-use Rattle.layout_bytes.proofs.fill.Reads as reads
-use Rattle.layout_bytes.proofs.fill.Lts as lts
 
 abbrev Inv-loop : tie.InvT-loop
 Inv-loop out₀ n b i₀ out i = (i ≤ n) × (length out ≡ length out₀) × (out ≡ replicate i b ++ drop i out₀)
@@ -17,26 +15,11 @@ Inv-loop out₀ n b i₀ out i = (i ≤ n) × (length out ≡ length out₀) × 
 abbrev μ-loop : tie.MeasureT-loop
 μ-loop out₀ n b i₀ out i = n - i
 
-loop-holds : tie.Need-loop-holds Inv-loop μ-loop
-loop-holds c = search needs
-
-slice-write-out : tie.Need-slice-write-out Inv-loop μ-loop
-slice-write-out c = search needs
-
-add-i : tie.Need-add-i Inv-loop μ-loop
-add-i c = search needs
-
-loop-less : tie.Need-loop-less Inv-loop μ-loop
-loop-less c = search needs
-
 loop-again : tie.Need-loop-again Inv-loop μ-loop
 loop-again c = let k = c .before .loop .inv in
     let i = c .before .loop .i in
     let a = c .before .before .args in
     (omega arith, simp length-set (omega arith), ap (λ (l : List ℕ). set l i (a .b)) (k .2) ∙ fill-turn (a .out .now) i (a .b) (omega arith))
-
-same-length : tie.Need-same-length Inv-loop μ-loop
-same-length c = search needs
 
 returns : tie.Need-returns Inv-loop μ-loop
 returns c = let e : c .before .loop .i ≡ c .before .before .args .n = omega arith in
@@ -44,15 +27,5 @@ returns c = let e : c .before .loop .i ≡ c .before .before .args .n = omega ar
     c .before .loop .inv .2 ∙ ap (λ (m : ℕ). replicate m (a .b) ++ drop m (a .out .now)) e
 
 pub fill-spec : {M : Type 1} → statement M
-fill-spec =
-    tie.close
-    (tie.spec
-    Inv-loop
-    μ-loop
-    loop-holds
-    slice-write-out
-    add-i
-    loop-less
-    loop-again
-    same-length
-    returns)
+fill-spec = tie.close (tie.spec Inv-loop μ-loop (λ c. search needs) (λ c. search needs) (λ c. search needs)
+    (λ c. search needs) loop-again (λ c. search needs) returns)

@@ -9,8 +9,6 @@ use lib.Seq.{paste, paste-zero}
 use Rattle.layout_bytes.proofs.Turns.{copy-turn, copy-done}
 use Rattle.layout_bytes.proofs.put_bytes.Statement.{statement}
 use Rattle.layout_bytes.proofs.put_bytes.Tie as tie
-use Rattle.layout_bytes.proofs.put_bytes.Reads as reads
-use Rattle.layout_bytes.proofs.put_bytes.Lts as lts
 
 abbrev Inv-loop : tie.InvT-loop
 Inv-loop out₀ at s i₀ out i = (i ≤ length s) × (length out ≡ length out₀) × (out ≡ paste out₀ at s i)
@@ -21,45 +19,15 @@ abbrev μ-loop : tie.MeasureT-loop
 loop-holds : tie.Need-loop-holds Inv-loop μ-loop
 loop-holds c = (omega arith, refl, paste-zero (c .args .out .now) (c .args .at) (c .args .s .now))
 
-shared-slice-read-out : tie.Need-shared-slice-read-out Inv-loop μ-loop
-shared-slice-read-out c = search needs
-
-add-out : tie.Need-add-out Inv-loop μ-loop
-add-out c = search needs
-
-slice-write-out : tie.Need-slice-write-out Inv-loop μ-loop
-slice-write-out c = search needs
-
-add-i : tie.Need-add-i Inv-loop μ-loop
-add-i c = search needs
-
-loop-less : tie.Need-loop-less Inv-loop μ-loop
-loop-less c = search needs
-
 loop-again : tie.Need-loop-again Inv-loop μ-loop
 loop-again c = let k = c .before .before .loop .inv in
     let i = c .before .before .loop .i in
     let a = c .before .before .before .args in
     (omega arith, simp length-set (omega arith), ap (λ (l : List ℕ). set l (a .at + i) (getD (a .s .now) i 0)) (k .2) ∙ copy-turn (a .out .now) (a .at) (a .s .now) i (omega arith) (omega arith))
 
-same-length : tie.Need-same-length Inv-loop μ-loop
-same-length c = search needs
-
 returns : tie.Need-returns Inv-loop μ-loop
 returns c = c .before .loop .inv .2 ∙ copy-done (c .before .before .args .out .now) (c .before .before .args .at) (c .before .before .args .s .now) (c .before .loop .i) (omega arith)
 
 pub put-bytes-spec : {M : Type 1} → statement M
-put-bytes-spec =
-    tie.close
-    (tie.spec
-    Inv-loop
-    μ-loop
-    loop-holds
-    shared-slice-read-out
-    add-out
-    slice-write-out
-    add-i
-    loop-less
-    loop-again
-    same-length
-    returns)
+put-bytes-spec = tie.close (tie.spec Inv-loop μ-loop loop-holds (λ c. search needs) (λ c. search needs)
+    (λ c. search needs) (λ c. search needs) (λ c. search needs) loop-again (λ c. search needs) returns)

@@ -12,16 +12,6 @@ use Rattle.layout_bytes.proofs.Put.{put-then}
 use Rattle.layout_node.specs.Header.{headerBytes}
 use Rattle.layout_node.proofs.put_header.Statement.{statement}
 use Rattle.layout_node.proofs.put_header.Tie as tie
-use Rattle.layout_node.proofs.put_header.Reads as reads
-use Rattle.layout_node.proofs.put_header.Lts as lts
-use Rattle.layout_bytes.proofs.put16.Reads as put16-reads
-use Rattle.layout_bytes.proofs.put32.Reads as put32-reads
-use Rattle.layout_bytes.proofs.put_two.Reads as put-two-reads
-use Rattle.units.proofs.Link.number.Reads as Link-number-reads
-use Rattle.units.proofs.Sector.number.Reads as Sector-number-reads
-
-number-requires : tie.Need-number-requires
-number-requires c κs = search needs
 
 -- what five puts leave
 module _ (at : ℕ) (h : Header) (l₀ l₁ l₂ l₃ l₄ l₅ : List ℕ) (a b d : ℕ) (fits : at + 14 ≤ length l₀) where
@@ -37,42 +27,6 @@ module _ (at : ℕ) (h : Header) (l₀ l₁ l₂ l₃ l₄ l₅ : List ℕ) (a b
       let r₄ = put-then _ _ _ at (at + 8) _ _ (omega arith) refl r₃ p₄ in
       put-then _ _ _ at (at + 12) _ _ (omega arith) refl r₄ p₅
 
-put16-requires : tie.Need-put16-requires
-put16-requires c κs = search needs
-
-add-put16 : tie.Need-add-put16
-add-put16 c = search needs
-
-number-requires-2 : tie.Need-number-requires-2
-number-requires-2 c κs = search needs
-
-put16-requires-2 : tie.Need-put16-requires-2
-put16-requires-2 c κs = search needs
-
-add-put32 : tie.Need-add-put32
-add-put32 c = search needs
-
-number-requires-3 : tie.Need-number-requires-3
-number-requires-3 c κs = search needs
-
-put32-requires : tie.Need-put32-requires
-put32-requires c κs = search needs
-
-add-put32-2 : tie.Need-add-put32-2
-add-put32-2 c = search needs
-
-put32-requires-2 : tie.Need-put32-requires-2
-put32-requires-2 c κs = search needs
-
-add-put-two : tie.Need-add-put-two
-add-put-two c = search needs
-
-put-two-requires : tie.Need-put-two-requires
-put-two-requires c κs = search needs
-
-same-length : tie.Need-same-length
-same-length c = search needs
-
 returns : tie.Need-returns
 returns c =
     let k₅ = c .before .before in
@@ -85,20 +39,6 @@ returns c =
     (k₃ .before .number3 .ensures) (k₃ .put32 .ensures) (k₄ .put322 .ensures) (k₅ .put-two .ensures)
 
 pub put-header-spec : {M : Type 1} → statement M
-put-header-spec =
-    tie.close
-    (tie.spec
-    number-requires
-    put16-requires
-    add-put16
-    number-requires-2
-    put16-requires-2
-    add-put32
-    number-requires-3
-    put32-requires
-    add-put32-2
-    put32-requires-2
-    add-put-two
-    put-two-requires
-    same-length
-    returns)
+put-header-spec = tie.close (tie.spec (λ c κs. search needs) (λ c κs. search needs) (λ c. search needs)
+    (λ c κs. search needs) (λ c κs. search needs) (λ c. search needs) (λ c κs. search needs) (λ c κs. search needs)
+    (λ c. search needs) (λ c κs. search needs) (λ c. search needs) (λ c κs. search needs) (λ c. search needs) returns)

@@ -20,11 +20,6 @@ use Rattle.read_entry.specs.declared.Read.the-variants.{OutOfBounds, Tru
 use Rattle.read_entry.specs.Entry.{Placed, told, readHere, readAt}
 use Rattle.read_entry.proofs.read_at.Statement.{statement}
 use Rattle.read_entry.proofs.read_at.Tie as tie
-use Rattle.read_entry.proofs.read_at.Reads as reads
-use Rattle.read_entry.proofs.read_at.Lts as lts
-use Rattle.read_entry.proofs.read_here.Reads as read-here-reads
-use Rattle.units.proofs.Region.locate.Reads as locate-reads
-use Rattle.units.proofs.Sector.start.Reads as start-reads
 
 module _ (w : List ℕ) (first : Sector) (t : Region) (o : Offset) (l : Located) (is : region.told l ≡ locateOf t o) where
   outside : (p : Offset) → l ≡ located.OutOfBounds p → told (OutOfBounds p) ≡ readAt w first t (o .0)
@@ -43,39 +38,6 @@ module _ (w : List ℕ) (first : Sector) (t : Region) (o : Offset) (l : Located)
   small : (byte from : ℕ) → l ≡ located.Byte byte → t .sector .0 < 2 ^ 32 → o .0 < 2 ^ 32 → byte - from < 2 ^ 45
   small byte from at s h = omega (arith, byte-is t o l is byte at .1)
 
-locate-requires : tie.Need-locate-requires
-locate-requires c κs = search needs
-
-enum-known-o : tie.Need-enum-known-o
-enum-known-o c = search needs
-
-enum-known-byte : tie.Need-enum-known-byte
-enum-known-byte c = search needs
-
-start-requires : tie.Need-start-requires
-start-requires c κs = search needs
-
-returns : tie.Need-returns
-returns c = search before
-
-read-here-requires : tie.Need-read-here-requires
-read-here-requires c κs = search small
-
-returns-2 : tie.Need-returns-2
-returns-2 c = search outside
-
-returns-3 : tie.Need-returns-3
-returns-3 c = search within
-
 pub read-at-spec : {M : Type 1} → statement M
-read-at-spec =
-    tie.close
-    (tie.spec
-    locate-requires
-    enum-known-o
-    enum-known-byte
-    start-requires
-    returns
-    read-here-requires
-    returns-2
-    returns-3)
+read-at-spec = tie.close (tie.spec (λ c κs. search needs) (λ c. search needs) (λ c. search needs) (λ c κs. search needs)
+    (λ c. search before) (λ c κs. search small) (λ c. search outside) (λ c. search within))

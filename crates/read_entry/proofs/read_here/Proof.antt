@@ -15,11 +15,6 @@ use Rattle.read_entry.specs.declared.Read.the-variants.{Entry, Nothing, 
 use Rattle.read_entry.specs.Entry.{told, readHere}
 use Rattle.read_entry.proofs.read_here.Statement.{statement}
 use Rattle.read_entry.proofs.read_here.Tie as tie
-use Rattle.read_entry.proofs.read_here.Reads as reads
-use Rattle.read_entry.proofs.read_here.Lts as lts
-use Rattle.layout_node.proofs.header_of.Reads as header-of-reads
-use Rattle.layout_node.proofs.is_blank.Reads as is-blank-reads
-use Rattle.read_entry.proofs.wide.Reads as wide-reads
 
 module _ (w : List ℕ) (p : ℕ) (o : Offset) where
   cut : length w < p + 14 → told (Truncated o) ≡ readHere w p (o .0)
@@ -41,63 +36,7 @@ module _ (w : List ℕ) (p : ℕ) (o : Offset) where
       unfolding readHere
       entry k = rw (le-ltb _ _ held, ← (rw (add-sub-cancel-left p 14) at blank), not-blank, ← (rw (add-sub-cancel-left p 14) at is), ← (long .0), le-ltb _ _ k)
 
-add-if1 : tie.Need-add-if1
-add-if1 c = search needs
-
-returns : tie.Need-returns
-returns c = search cut
-
-add-e : tie.Need-add-e
-add-e c = search needs
-
-sub-h : tie.Need-sub-h
-sub-h c = search needs
-
-part-h-start : tie.Need-part-h-start
-part-h-start c = search needs
-
-part-h-end : tie.Need-part-h-end
-part-h-end c = search needs
-
-is-blank-requires : tie.Need-is-blank-requires
-is-blank-requires c κs = search needs
-
-returns-2 : tie.Need-returns-2
-returns-2 c = search nothing
-
-header-of-requires : tie.Need-header-of-requires
-header-of-requires c κs = search needs
-
-wide-requires : tie.Need-wide-requires
-wide-requires c κs = search needs
-
-add-if3 : tie.Need-add-if3
-add-if3 c = search needs
-
-add-if3-2 : tie.Need-add-if3-2
-add-if3-2 c = search needs
-
-returns-3 : tie.Need-returns-3
-returns-3 c = search name-cut
-
-returns-4 : tie.Need-returns-4
-returns-4 c = search entry
-
 pub read-here-spec : {M : Type 1} → statement M
-read-here-spec =
-    tie.close
-    (tie.spec
-    add-if1
-    returns
-    add-e
-    sub-h
-    part-h-start
-    part-h-end
-    is-blank-requires
-    returns-2
-    header-of-requires
-    wide-requires
-    add-if3
-    add-if3-2
-    returns-3
-    returns-4)
+read-here-spec = tie.close (tie.spec (λ c. search needs) (λ c. search cut) (λ c. search needs) (λ c. search needs)
+    (λ c. search needs) (λ c. search needs) (λ c κs. search needs) (λ c. search nothing) (λ c κs. search needs)
+    (λ c κs. search needs) (λ c. search needs) (λ c. search needs) (λ c. search name-cut) (λ c. search entry))

@@ -12,8 +12,6 @@ use lib.Seq.{drop-cons}
 use Rattle.read_lookup.specs.Lookup.{anyHigh}
 use Rattle.read_lookup.proofs.any_high.Statement.{statement}
 use Rattle.read_lookup.proofs.any_high.Tie as tie
-use Rattle.read_lookup.proofs.any_high.Reads as reads
-use Rattle.read_lookup.proofs.any_high.Lts as lts
 
 abbrev Inv-loop : tie.InvT-loop
 Inv-loop s i₀ i = (i ≤ length s) × (anyHigh s ≡ anyHigh (drop i s))
@@ -37,34 +35,9 @@ module _ (s : List ℕ) (i : ℕ) (so-far : anyHigh s ≡ anyHigh (drop i s)) wh
 loop-holds : tie.Need-loop-holds Inv-loop μ-loop
 loop-holds c = (omega arith, refl)
 
-shared-slice-read-if1 : tie.Need-shared-slice-read-if1 Inv-loop μ-loop
-shared-slice-read-if1 c = search needs
-
-returns : tie.Need-returns Inv-loop μ-loop
-returns c = search high
-
-add-i : tie.Need-add-i Inv-loop μ-loop
-add-i c = search needs
-
-loop-less : tie.Need-loop-less Inv-loop μ-loop
-loop-less c = search needs
-
 loop-again : tie.Need-loop-again Inv-loop μ-loop
 loop-again c = (search needs, search one-more)
 
-returns-2 : tie.Need-returns-2 Inv-loop μ-loop
-returns-2 c = search ended
-
 pub any-high-spec : {M : Type 1} → statement M
-any-high-spec =
-    tie.close
-    (tie.spec
-    Inv-loop
-    μ-loop
-    loop-holds
-    shared-slice-read-if1
-    returns
-    add-i
-    loop-less
-    loop-again
-    returns-2)
+any-high-spec = tie.close (tie.spec Inv-loop μ-loop loop-holds (λ c. search needs) (λ c. search high)
+    (λ c. search needs) (λ c. search needs) loop-again (λ c. search ended))

@@ -11,10 +11,6 @@ use Rattle.read_lookup.specs.Lookup.{byLink}
 use Rattle.read_lookup.specs.inner.Lookup.{leading}
 use Rattle.read_lookup.proofs.by_link.Statement.{statement}
 use Rattle.read_lookup.proofs.by_link.Tie as tie
-use Rattle.read_lookup.proofs.by_link.Reads as reads
-use Rattle.read_lookup.proofs.by_link.Lts as lts
-use Rattle.units.proofs.Link.number.Reads as number-reads
-use Rattle.units.proofs.Link.offset.Reads as offset-reads
 
 module _ (l : Link) (n : ℕ) (is : n ≡ l .0) where
   zero-link : n ≡ 0 → leading Absent ≡ byLink lookupAbsent (l .0)
@@ -30,20 +26,6 @@ module _ (l : Link) (n : ℕ) (is : n ≡ l .0) where
     unfolding byLink isIn
     link o d e = rw (e, ← is, ne-eqb _ _ not-zero, ne-eqb _ _ d)
 
-number-requires : tie.Need-number-requires
-number-requires c κs = search needs
-
-returns : tie.Need-returns
-returns c = search zero-link
-
-returns-2 : tie.Need-returns-2
-returns-2 c = search ones-link
-
-offset-requires : tie.Need-offset-requires
-offset-requires c κs = search needs
-
-returns-3 : tie.Need-returns-3
-returns-3 c = search link
-
 pub by-link-spec : {M : Type 1} → statement M
-by-link-spec = tie.close (tie.spec number-requires returns returns-2 offset-requires returns-3)
+by-link-spec = tie.close (tie.spec (λ c κs. search needs) (λ c. search zero-link) (λ c. search ones-link)
+    (λ c κs. search needs) (λ c. search link))

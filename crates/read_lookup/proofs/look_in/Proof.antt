@@ -21,11 +21,6 @@ use Rattle.read_lookup.specs.Lookup.{Leads, stepAt, anyHigh, ending, cha
 use Rattle.read_lookup.specs.inner.Lookup.{leading}
 use Rattle.read_lookup.proofs.look_in.Statement.{statement}
 use Rattle.read_lookup.proofs.look_in.Tie as tie
-use Rattle.read_lookup.proofs.look_in.Reads as reads
-use Rattle.read_lookup.proofs.look_in.Lts as lts
-use Rattle.read_lookup.proofs.any_high.Reads as any-high-reads
-use Rattle.read_lookup.proofs.step_at.Reads as step-at-reads
-use Rattle.units.proofs.Offset.new.Reads as new-reads
 
 abbrev Inv-loop : tie.InvT-loop
 Inv-loop w first table name size at₀ headers₀ at headers = (headers ≤ 65536) × (lookupOf w first table name ≡ chainFrom (stepAt lookupAbsent w first table name) (65536 - headers) headers (at .0))
@@ -83,85 +78,14 @@ module _ (w : List ℕ) (first : Sector) (t : Region) (name : List ℕ) (n : ℕ
     goes-on : (p : Offset) → s ≡ step.Next p → lookupOf w first t name ≡ chainFrom (stepAt lookupAbsent w first t name) (65536 - m) m (p .0)
     goes-on p e = rw e at went
 
-any-high-requires : tie.Need-any-high-requires Inv-loop μ-loop
-any-high-requires c κs = search needs
-
-returns : tie.Need-returns Inv-loop μ-loop
-returns c = search bad
-
-returns-2 : tie.Need-returns-2 Inv-loop μ-loop
-returns-2 c = search empty
-
-new-requires : tie.Need-new-requires Inv-loop μ-loop
-new-requires c κs = search needs
-
 loop-holds : tie.Need-loop-holds Inv-loop μ-loop
 loop-holds c = (omega arith, search begins)
-
-add-headers : tie.Need-add-headers Inv-loop μ-loop
-add-headers c = search needs
-
-step-at-requires : tie.Need-step-at-requires Inv-loop μ-loop
-step-at-requires c κs = search needs
-
-enum-known-h : tie.Need-enum-known-h Inv-loop μ-loop
-enum-known-h c = search needs
-
-returns-3 : tie.Need-returns-3 Inv-loop μ-loop
-returns-3 c = search found
-
-enum-told : tie.Need-enum-told Inv-loop μ-loop
-enum-told c = search needs
-
-returns-4 : tie.Need-returns-4 Inv-loop μ-loop
-returns-4 c = search absent
-
-enum-known-o : tie.Need-enum-known-o Inv-loop μ-loop
-enum-known-o c = search needs
-
-returns-5 : tie.Need-returns-5 Inv-loop μ-loop
-returns-5 c = search outside
-
-enum-known-o-2 : tie.Need-enum-known-o-2 Inv-loop μ-loop
-enum-known-o-2 c = search needs
-
-returns-6 : tie.Need-returns-6 Inv-loop μ-loop
-returns-6 c = search truncated
-
-enum-known-o-3 : tie.Need-enum-known-o-3 Inv-loop μ-loop
-enum-known-o-3 c = search needs
-
-loop-less : tie.Need-loop-less Inv-loop μ-loop
-loop-less c = search needs
 
 loop-again : tie.Need-loop-again Inv-loop μ-loop
 loop-again c = (search needs, search goes-on)
 
-returns-7 : tie.Need-returns-7 Inv-loop μ-loop
-returns-7 c = search at-end
-
 pub look-in-spec : {M : Type 1} → statement M
-look-in-spec =
-    tie.close
-    (tie.spec
-    Inv-loop
-    μ-loop
-    any-high-requires
-    returns
-    returns-2
-    new-requires
-    loop-holds
-    add-headers
-    step-at-requires
-    enum-known-h
-    returns-3
-    enum-told
-    returns-4
-    enum-known-o
-    returns-5
-    enum-known-o-2
-    returns-6
-    enum-known-o-3
-    loop-less
-    loop-again
-    returns-7)
+look-in-spec = tie.close (tie.spec Inv-loop μ-loop (λ c κs. search needs) (λ c. search bad) (λ c. search empty)
+    (λ c κs. search needs) loop-holds (λ c. search needs) (λ c κs. search needs) (λ c. search needs) (λ c. search found)
+    (λ c. search needs) (λ c. search absent) (λ c. search needs) (λ c. search outside) (λ c. search needs)
+    (λ c. search truncated) (λ c. search needs) (λ c. search needs) loop-again (λ c. search at-end))

@@ -5,29 +5,6 @@ use native.Mathlib.Omega.{arith}
 use borrow.Author.Needs.{needs}
 use Rattle.read_lookup.proofs.look_up.Statement.{statement}
 use Rattle.read_lookup.proofs.look_up.Tie as tie
-use Rattle.read_lookup.proofs.look_up.Reads as reads
-use Rattle.read_lookup.proofs.look_up.Lts as lts
-use Rattle.read_entry.proofs.part_of.Reads as part-of-reads
-use Rattle.read_lookup.proofs.look_in.Reads as look-in-reads
-use Rattle.units.proofs.Sector.new.Reads as new-reads
-
-part-of-requires : tie.Need-part-of-requires
-part-of-requires c κs = search needs
-
-sub-base : tie.Need-sub-base
-sub-base c = search part-short
-
-new-requires : tie.Need-new-requires
-new-requires c κs = search needs
-
-new-requires-2 : tie.Need-new-requires-2
-new-requires-2 c κs = search needs
-
-look-in-requires : tie.Need-look-in-requires
-look-in-requires c κs = search needs
-
-enum-known-h : tie.Need-enum-known-h
-enum-known-h c = search needs
 
 add-t22 : tie.Need-add-t22
 add-t22 c =
@@ -35,66 +12,50 @@ add-t22 c =
     let z = place-held _ _ _ _ _ (k .before .before .before .part-of .ensures) _ _ (k .before .before .new .ensures) (k .before .new2 .ensures) _ (k .look-in .ensures) _ _ _ _ (c .before .h .given .1) in
     omega (arith, z, k .before .before .before .before .before .before .good .0)
 
-enum-told : tie.Need-enum-told
-enum-told c = search needs
-
-enum-told-2 : tie.Need-enum-told-2
-enum-told-2 c = search needs
-
-enum-known-n : tie.Need-enum-known-n
-enum-known-n c = search needs
-
-enum-known-o : tie.Need-enum-known-o
-enum-known-o c = search needs
-
-enum-known-o-2 : tie.Need-enum-known-o-2
-enum-known-o-2 c = search needs
-
-enum-told-3 : tie.Need-enum-told-3
-enum-told-3 c = search needs
-
 returns : tie.Need-returns
-returns c = let k = c .before .before .before in found-there _ _ _ _ _ (k .before .before .before .part-of .ensures) _ _ (k .before .before .new .ensures) (k .before .new2 .ensures) _ (k .look-in .ensures) _ refl _ _ _ _ (c .before .h .given .1) _ refl
+returns c =
+    let k = c .before .before .before in
+    found-there _ _ _ _ _ (k .before .before .before .part-of .ensures) _ _ (k .before .before .new .ensures) (k .before .new2 .ensures) _ (k .look-in .ensures)
+    _ refl _ _ _ _ (c .before .h .given .1) _ refl
 
 returns-2 : tie.Need-returns-2
-returns-2 c = let k = c .before .before in bad-byte _ _ _ _ _ (k .before .before .before .part-of .ensures) _ _ (k .before .before .new .ensures) (k .before .new2 .ensures) _ (k .look-in .ensures) _ refl (c .enum-told .given .1)
+returns-2 c =
+    let k = c .before .before in
+    bad-byte _ _ _ _ _ (k .before .before .before .part-of .ensures) _ _ (k .before .before .new .ensures) (k .before .new2 .ensures) _ (k .look-in .ensures) _
+    refl (c .enum-told .given .1)
 
 returns-3 : tie.Need-returns-3
-returns-3 c = let k = c .before .before in empty-there _ _ _ _ _ (k .before .before .before .part-of .ensures) _ _ (k .before .before .new .ensures) (k .before .new2 .ensures) _ (k .look-in .ensures) _ refl (c .enum-told2 .given .1)
+returns-3 c =
+    let k = c .before .before in
+    empty-there _ _ _ _ _ (k .before .before .before .part-of .ensures) _ _ (k .before .before .new .ensures) (k .before .new2 .ensures) _ (k .look-in .ensures)
+    _ refl (c .enum-told2 .given .1)
 
 returns-4 : tie.Need-returns-4
-returns-4 c = let k = c .before .before .before in not-there _ _ _ _ _ (k .before .before .before .part-of .ensures) _ _ (k .before .before .new .ensures) (k .before .new2 .ensures) _ (k .look-in .ensures) _ refl _ (c .before .n .given .1)
+returns-4 c =
+    let k = c .before .before .before in
+    not-there _ _ _ _ _ (k .before .before .before .part-of .ensures) _ _ (k .before .before .new .ensures) (k .before .new2 .ensures) _ (k .look-in .ensures) _
+    refl _ (c .before .n .given .1)
 
 returns-5 : tie.Need-returns-5
-returns-5 c = let k = c .before .before .before in out-there _ _ _ _ _ (k .before .before .before .part-of .ensures) _ _ (k .before .before .new .ensures) (k .before .new2 .ensures) _ (k .look-in .ensures) _ refl _ (c .before .o .given .1)
+returns-5 c =
+    let k = c .before .before .before in
+    out-there _ _ _ _ _ (k .before .before .before .part-of .ensures) _ _ (k .before .before .new .ensures) (k .before .new2 .ensures) _ (k .look-in .ensures) _
+    refl _ (c .before .o .given .1)
 
 returns-6 : tie.Need-returns-6
-returns-6 c = let k = c .before .before .before in cut-there _ _ _ _ _ (k .before .before .before .part-of .ensures) _ _ (k .before .before .new .ensures) (k .before .new2 .ensures) _ (k .look-in .ensures) _ refl _ (c .before .o2 .given .1)
+returns-6 c =
+    let k = c .before .before .before in
+    cut-there _ _ _ _ _ (k .before .before .before .part-of .ensures) _ _ (k .before .before .new .ensures) (k .before .new2 .ensures) _ (k .look-in .ensures) _
+    refl _ (c .before .o2 .given .1)
 
 returns-7 : tie.Need-returns-7
-returns-7 c = let k = c .before .before in looped-there _ _ _ _ _ (k .before .before .before .part-of .ensures) _ _ (k .before .before .new .ensures) (k .before .new2 .ensures) _ (k .look-in .ensures) _ refl (c .enum-told3 .given .1)
+returns-7 c =
+    let k = c .before .before in
+    looped-there _ _ _ _ _ (k .before .before .before .part-of .ensures) _ _ (k .before .before .new .ensures) (k .before .new2 .ensures) _
+    (k .look-in .ensures) _ refl (c .enum-told3 .given .1)
 
 pub look-up-spec : {M : Type 1} → statement M
-look-up-spec =
-    tie.close
-    (tie.spec
-    part-of-requires
-    sub-base
-    new-requires
-    new-requires-2
-    look-in-requires
-    enum-known-h
-    add-t22
-    enum-told
-    enum-told-2
-    enum-known-n
-    enum-known-o
-    enum-known-o-2
-    enum-told-3
-    returns
-    returns-2
-    returns-3
-    returns-4
-    returns-5
-    returns-6
-    returns-7)
+look-up-spec = tie.close (tie.spec (λ c κs. search needs) (λ c. search part-short) (λ c κs. search needs)
+    (λ c κs. search needs) (λ c κs. search needs) (λ c. search needs) add-t22 (λ c. search needs) (λ c. search needs)
+    (λ c. search needs) (λ c. search needs) (λ c. search needs) (λ c. search needs) returns returns-2 returns-3
+    returns-4 returns-5 returns-6 returns-7)

@@ -20,12 +20,6 @@ use Rattle.read_lookup.specs.inner.Lookup.{leading}
 use borrow.Author.Needs.{needs}
 use Rattle.read_lookup.proofs.step_at.Statement.{statement}
 use Rattle.read_lookup.proofs.step_at.Tie as tie
-use Rattle.read_lookup.proofs.step_at.Reads as reads
-use Rattle.read_lookup.proofs.step_at.Lts as lts
-use Rattle.layout_name.proofs.compare.Reads as compare-reads
-use Rattle.read_entry.proofs.name_of.Reads as name-of-reads
-use Rattle.read_entry.proofs.read_at.Reads as read-at-reads
-use Rattle.read_lookup.proofs.by_link.Reads as by-link-reads
 
 module _ (w : List ℕ) (first : Sector) (t : Region) (name : List ℕ) (o : Offset) (r : Read) (reading : told r ≡ readAt w first t (o .0)) where
   module _ (h : Header) (place : ℕ) (is-entry : r ≡ read.Entry h place) (nm : List ℕ) (named : nm ≡ nameOf w place (h .«name_len»)) (p : Order) (compared : p ≡ nameOrder name nm) where
@@ -53,79 +47,8 @@ module _ (w : List ℕ) (first : Sector) (t : Region) (name : List ℕ) (o : Off
   unfolding stepAt
   truncated q e = rw (← reading, e)
 
-read-at-requires : tie.Need-read-at-requires
-read-at-requires c κs = search needs
-
-enum-known-h : tie.Need-enum-known-h
-enum-known-h c = search needs
-
-name-of-requires : tie.Need-name-of-requires
-name-of-requires c κs = search needs
-
-compare-requires : tie.Need-compare-requires
-compare-requires c κs = search needs
-
-enum-told : tie.Need-enum-told
-enum-told c = search needs
-
-by-link-requires : tie.Need-by-link-requires
-by-link-requires c κs = search needs
-
-enum-told-2 : tie.Need-enum-told-2
-enum-told-2 c = search needs
-
-enum-told-3 : tie.Need-enum-told-3
-enum-told-3 c = search needs
-
-by-link-requires-2 : tie.Need-by-link-requires-2
-by-link-requires-2 c κs = search needs
-
-enum-told-4 : tie.Need-enum-told-4
-enum-told-4 c = search needs
-
-enum-known-o : tie.Need-enum-known-o
-enum-known-o c = search needs
-
-enum-known-o-2 : tie.Need-enum-known-o-2
-enum-known-o-2 c = search needs
-
-returns : tie.Need-returns
-returns c = search less
-
-returns-2 : tie.Need-returns-2
-returns-2 c = search same
-
-returns-3 : tie.Need-returns-3
-returns-3 c = search greater
-
-returns-4 : tie.Need-returns-4
-returns-4 c = search nothing
-
-returns-5 : tie.Need-returns-5
-returns-5 c = search outside
-
-returns-6 : tie.Need-returns-6
-returns-6 c = search truncated
-
 pub step-at-spec : {M : Type 1} → statement M
-step-at-spec =
-    tie.close
-    (tie.spec
-    read-at-requires
-    enum-known-h
-    name-of-requires
-    compare-requires
-    enum-told
-    by-link-requires
-    enum-told-2
-    enum-told-3
-    by-link-requires-2
-    enum-told-4
-    enum-known-o
-    enum-known-o-2
-    returns
-    returns-2
-    returns-3
-    returns-4
-    returns-5
-    returns-6)
+step-at-spec = tie.close (tie.spec (λ c κs. search needs) (λ c. search needs) (λ c κs. search needs)
+    (λ c κs. search needs) (λ c. search needs) (λ c κs. search needs) (λ c. search needs) (λ c. search needs)
+    (λ c κs. search needs) (λ c. search needs) (λ c. search needs) (λ c. search needs) (λ c. search less)
+    (λ c. search same) (λ c. search greater) (λ c. search nothing) (λ c. search outside) (λ c. search truncated))

@@ -11,8 +11,6 @@ use Rattle.read_path.specs.Path.{lastOf, told}
 use borrow.Author.Needs.{needs}
 use Rattle.read_path.proofs.last_of.Statement.{statement}
 use Rattle.read_path.proofs.last_of.Tie as tie
-use Rattle.read_path.proofs.last_of.Reads as reads
-use Rattle.read_path.proofs.last_of.Lts as lts
 
 module _ (a : Looked) where
   entry : (h : Header) (place : ℕ) (o : Offset) (n : ℕ) → a ≡ looked.Found h place o n → told (path-found.Entry h place) ≡ lastOf (lookup.told a)
@@ -24,63 +22,7 @@ module _ (a : Looked) where
   truncated : (o : Offset) → a ≡ looked.Truncated o → told (path-found.Truncated o) ≡ lastOf (lookup.told a)
   truncated o e = rw e
 
-enum-known-a : tie.Need-enum-known-a
-enum-known-a c = search needs
-
-enum-told : tie.Need-enum-told
-enum-told c = search needs
-
-enum-told-2 : tie.Need-enum-told-2
-enum-told-2 c = search needs
-
-enum-told-3 : tie.Need-enum-told-3
-enum-told-3 c = search needs
-
-enum-known-a-2 : tie.Need-enum-known-a-2
-enum-known-a-2 c = search needs
-
-enum-known-a-3 : tie.Need-enum-known-a-3
-enum-known-a-3 c = search needs
-
-enum-told-4 : tie.Need-enum-told-4
-enum-told-4 c = search needs
-
-returns : tie.Need-returns
-returns c = search entry
-
-returns-2 : tie.Need-returns-2
-returns-2 c = search needs
-
-returns-3 : tie.Need-returns-3
-returns-3 c = search needs
-
-returns-4 : tie.Need-returns-4
-returns-4 c = search needs
-
-returns-5 : tie.Need-returns-5
-returns-5 c = search outside
-
-returns-6 : tie.Need-returns-6
-returns-6 c = search truncated
-
-returns-7 : tie.Need-returns-7
-returns-7 c = search needs
-
 pub last-of-spec : {M : Type 1} → statement M
-last-of-spec =
-    tie.close
-    (tie.spec
-    enum-known-a
-    enum-told
-    enum-told-2
-    enum-told-3
-    enum-known-a-2
-    enum-known-a-3
-    enum-told-4
-    returns
-    returns-2
-    returns-3
-    returns-4
-    returns-5
-    returns-6
-    returns-7)
+last-of-spec = tie.close (tie.spec (λ c. search needs) (λ c. search needs) (λ c. search needs) (λ c. search needs)
+    (λ c. search needs) (λ c. search needs) (λ c. search needs) (λ c. search entry) (λ c. search needs)
+    (λ c. search needs) (λ c. search needs) (λ c. search outside) (λ c. search truncated) (λ c. search needs))

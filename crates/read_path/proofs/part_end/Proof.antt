@@ -12,8 +12,6 @@ use lib.Seq.{drop-cons}
 use Rattle.read_path.specs.inner.Path.{firstLen}
 use Rattle.read_path.proofs.part_end.Statement.{statement}
 use Rattle.read_path.proofs.part_end.Tie as tie
-use Rattle.read_path.proofs.part_end.Reads as reads
-use Rattle.read_path.proofs.part_end.Lts as lts
 
 abbrev Inv-loop : tie.InvT-loop
 Inv-loop s from i₀ i = (i ≤ length s) × (from + firstLen (drop from s) ≡ i + firstLen (drop i s))
@@ -37,17 +35,8 @@ module _ (s : List ℕ) (f i : ℕ) (so-far : f + firstLen (drop f s) ≡ i + fi
 loop-holds : tie.Need-loop-holds Inv-loop μ-loop
 loop-holds c = (search needs, refl)
 
-shared-slice-read-if1 : tie.Need-shared-slice-read-if1 Inv-loop μ-loop
-shared-slice-read-if1 c = search needs
-
 returns : tie.Need-returns Inv-loop μ-loop
 returns c = (search slash, search needs)
-
-add-i : tie.Need-add-i Inv-loop μ-loop
-add-i c = search needs
-
-loop-less : tie.Need-loop-less Inv-loop μ-loop
-loop-less c = search needs
 
 loop-again : tie.Need-loop-again Inv-loop μ-loop
 loop-again c = (search needs, search other)
@@ -56,15 +45,5 @@ returns-2 : tie.Need-returns-2 Inv-loop μ-loop
 returns-2 c = (search ended, search needs)
 
 pub part-end-spec : {M : Type 1} → statement M
-part-end-spec =
-    tie.close
-    (tie.spec
-    Inv-loop
-    μ-loop
-    loop-holds
-    shared-slice-read-if1
-    returns
-    add-i
-    loop-less
-    loop-again
-    returns-2)
+part-end-spec = tie.close (tie.spec Inv-loop μ-loop loop-holds (λ c. search needs) returns (λ c. search needs)
+    (λ c. search needs) loop-again returns-2)

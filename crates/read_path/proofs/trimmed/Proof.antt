@@ -11,8 +11,6 @@ use lib.Seq.{drop-cons}
 use Rattle.read_path.specs.Path.{trim}
 use Rattle.read_path.proofs.trimmed.Statement.{statement}
 use Rattle.read_path.proofs.trimmed.Tie as tie
-use Rattle.read_path.proofs.trimmed.Reads as reads
-use Rattle.read_path.proofs.trimmed.Lts as lts
 
 abbrev Inv-loop : tie.InvT-loop
 Inv-loop s i₀ i = (i ≤ length s) × (trim s ≡ trim (drop i s))
@@ -36,17 +34,8 @@ module _ (s : List ℕ) (i : ℕ) (so-far : trim s ≡ trim (drop i s)) where
 loop-holds : tie.Need-loop-holds Inv-loop μ-loop
 loop-holds c = (omega arith, refl)
 
-shared-slice-read-if1 : tie.Need-shared-slice-read-if1 Inv-loop μ-loop
-shared-slice-read-if1 c = search needs
-
 returns : tie.Need-returns Inv-loop μ-loop
 returns c = (search needs, search other)
-
-add-i : tie.Need-add-i Inv-loop μ-loop
-add-i c = search needs
-
-loop-less : tie.Need-loop-less Inv-loop μ-loop
-loop-less c = search needs
 
 loop-again : tie.Need-loop-again Inv-loop μ-loop
 loop-again c = (search needs, search slash)
@@ -55,15 +44,5 @@ returns-2 : tie.Need-returns-2 Inv-loop μ-loop
 returns-2 c = (search needs, search ended)
 
 pub trimmed-spec : {M : Type 1} → statement M
-trimmed-spec =
-    tie.close
-    (tie.spec
-    Inv-loop
-    μ-loop
-    loop-holds
-    shared-slice-read-if1
-    returns
-    add-i
-    loop-less
-    loop-again
-    returns-2)
+trimmed-spec = tie.close (tie.spec Inv-loop μ-loop loop-holds (λ c. search needs) returns (λ c. search needs)
+    (λ c. search needs) loop-again returns-2)

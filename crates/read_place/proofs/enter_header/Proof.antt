@@ -18,14 +18,5 @@ module _ (h : Header) (b : Bool) (kind : b ≡ isDirectory h) where
   unfolding headerEntered
   other e = rw (← kind, e)
 
-is-directory-requires : tie.Need-is-directory-requires
-is-directory-requires c κs = search needs
-
-returns : tie.Need-returns
-returns c = search directory
-
-returns-2 : tie.Need-returns-2
-returns-2 c = search other
-
 pub enter-header-spec : {M : Type 1} → statement M
-enter-header-spec = tie.close (tie.spec is-directory-requires returns returns-2)
+enter-header-spec = tie.close (tie.spec (λ c κs. search needs) (λ c. search directory) (λ c. search other))

@@ -4,47 +4,7 @@ use Rattle.read_place.proofs.ByRead.{by-left}
 use Rattle.read_place.proofs.left_at.Statement.{statement}
 use Rattle.read_place.proofs.left_at.Tie as tie
 
-read-at-requires : tie.Need-read-at-requires
-read-at-requires c κs = search needs
-
-enum-known-h : tie.Need-enum-known-h
-enum-known-h c = search needs
-
-by-link-requires : tie.Need-by-link-requires
-by-link-requires c κs = search needs
-
-enum-told : tie.Need-enum-told
-enum-told c = search needs
-
-enum-known-o : tie.Need-enum-known-o
-enum-known-o c = search needs
-
-enum-known-o-2 : tie.Need-enum-known-o-2
-enum-known-o-2 c = search needs
-
-returns : tie.Need-returns
-returns c = search by-left
-
-returns-2 : tie.Need-returns-2
-returns-2 c = search by-left
-
-returns-3 : tie.Need-returns-3
-returns-3 c = search by-left
-
-returns-4 : tie.Need-returns-4
-returns-4 c = search by-left
-
 pub left-at-spec : {M : Type 1} → statement M
-left-at-spec =
-    tie.close
-    (tie.spec
-    read-at-requires
-    enum-known-h
-    by-link-requires
-    enum-told
-    enum-known-o
-    enum-known-o-2
-    returns
-    returns-2
-    returns-3
-    returns-4)
+left-at-spec = tie.close (tie.spec (λ c κs. search needs) (λ c. search needs) (λ c κs. search needs) (λ c. search needs)
+    (λ c. search needs) (λ c. search needs) (λ c. search by-left) (λ c. search by-left) (λ c. search by-left)
+    (λ c. search by-left))

@@ -15,11 +15,6 @@ use Rattle.read_walk.proofs.Stack.{stack-push}
 use borrow.Author.Needs.{needs}
 use Rattle.read_walk.proofs.push_link.Statement.{statement}
 use Rattle.read_walk.proofs.push_link.Tie as tie
-use Rattle.read_walk.proofs.push_link.Reads as reads
-use Rattle.read_walk.proofs.push_link.Lts as lts
-use Rattle.units.proofs.Link.number.Reads as Link-number-reads
-use Rattle.units.proofs.Link.offset.Reads as offset-reads
-use Rattle.units.proofs.Offset.number.Reads as Offset-number-reads
 
 module _ (s : List ℕ) (top k : ℕ) (l : Link) (k-is : k ≡ l .0) where
   zero-link : k ≡ 0 → Pushed walkAbsent (l .0) s top s top
@@ -39,47 +34,7 @@ module _ (s : List ℕ) (top k : ℕ) (l : Link) (k-is : k ≡ l .0) where
       kept = length-set s top o;
     }
 
-number-requires : tie.Need-number-requires
-number-requires c κs = search needs
-
-returns : tie.Need-returns
-returns c = search zero-link
-
-returns-2 : tie.Need-returns-2
-returns-2 c = search ones-link
-
-offset-requires : tie.Need-offset-requires
-offset-requires c κs = search needs
-
-number-requires-2 : tie.Need-number-requires-2
-number-requires-2 c κs = search needs
-
-mul-scratch : tie.Need-mul-scratch
-mul-scratch c = search needs
-
-slice-write-scratch : tie.Need-slice-write-scratch
-slice-write-scratch c = search needs
-
-add-result : tie.Need-add-result
-add-result c = search needs
-
-same-length : tie.Need-same-length
-same-length c = search needs
-
-returns-3 : tie.Need-returns-3
-returns-3 c = search link
-
 pub push-link-spec : {M : Type 1} → statement M
-push-link-spec =
-    tie.close
-    (tie.spec
-    number-requires
-    returns
-    returns-2
-    offset-requires
-    number-requires-2
-    mul-scratch
-    slice-write-scratch
-    add-result
-    same-length
-    returns-3)
+push-link-spec = tie.close (tie.spec (λ c κs. search needs) (λ c. search zero-link) (λ c. search ones-link)
+    (λ c κs. search needs) (λ c κs. search needs) (λ c. search needs) (λ c. search needs) (λ c. search needs)
+    (λ c. search needs) (λ c. search link))

@@ -20,12 +20,6 @@ use Rattle.read_walk.proofs.Moved.{runs-moved}
 use borrow.Author.Needs.{needs}
 use Rattle.read_walk.proofs.walk.Statement.{statement}
 use Rattle.read_walk.proofs.walk.Tie as tie
-use Rattle.read_walk.proofs.walk.Reads as reads
-use Rattle.read_walk.proofs.walk.Lts as lts
-use Rattle.read_entry.proofs.part_of.Reads as part-of-reads
-use Rattle.read_walk.proofs.kept.Reads as kept-reads
-use Rattle.read_walk.proofs.run.Reads as run-reads
-use Rattle.units.proofs.Sector.new.Reads as new-reads
 
 -- a list whose kept part is empty, with zeros from there on
 none-kept : (l : List ℕ) (n : ℕ) → take n l ≡ [] → n ≤ length l → _≡_ {A = List ℕ} (replicate (length l - n) 0) (replicate (length l) 0)
@@ -79,47 +73,8 @@ within x r l s n e = rw e (s .within)
 returns : tie.Need-returns
 returns c = no-room _ _ _ _ _ (search needs)
 
-clear-words-requires : tie.Need-clear-words-requires
-clear-words-requires c κs = search needs
-
-clear-words-requires-2 : tie.Need-clear-words-requires-2
-clear-words-requires-2 c κs = search needs
-
-same-length : tie.Need-same-length
-same-length c = search needs
-
-same-length-2 : tie.Need-same-length-2
-same-length-2 c = search needs
-
 returns-2 : tie.Need-returns-2
 returns-2 c = empty _ _ _ _ _ (search needs) (search needs) _ _ (c .before .before .before .before .before .before .clear-words .ensures) (c .before .before .clear-words2 .ensures)
-
-part-of-requires : tie.Need-part-of-requires
-part-of-requires c κs = search needs
-
-new-requires : tie.Need-new-requires
-new-requires c κs = search needs
-
-new-requires-2 : tie.Need-new-requires-2
-new-requires-2 c κs = search needs
-
-run-requires : tie.Need-run-requires
-run-requires c κs = search needs
-
-kept-requires : tie.Need-kept-requires
-kept-requires c κs = search needs
-
-clear-from-requires : tie.Need-clear-from-requires
-clear-from-requires c κs = search within
-
-clear-words-requires-3 : tie.Need-clear-words-requires-3
-clear-words-requires-3 c κs = search needs
-
-same-length-3 : tie.Need-same-length-3
-same-length-3 c = search needs
-
-same-length-4 : tie.Need-same-length-4
-same-length-4 c = search needs
 
 returns-3 : tie.Need-returns-3
 returns-3 c = let c4 = c .before .before in
@@ -132,22 +87,7 @@ returns-3 c = let c4 = c .before .before in
     (cr .run .kept .1 .1 .1 .0) (cr .run .kept .1 .1 .1 .1 .0) _ _ (c3 .clear-from .ensures) (c4 .clear-words3 .ensures)
 
 pub walk-spec : {M : Type 1} → statement M
-walk-spec =
-    tie.close
-    (tie.spec
-    returns
-    clear-words-requires
-    clear-words-requires-2
-    same-length
-    same-length-2
-    returns-2
-    part-of-requires
-    new-requires
-    new-requires-2
-    run-requires
-    kept-requires
-    clear-from-requires
-    clear-words-requires-3
-    same-length-3
-    same-length-4
-    returns-3)
+walk-spec = tie.close (tie.spec returns (λ c κs. search needs) (λ c κs. search needs) (λ c. search needs)
+    (λ c. search needs) returns-2 (λ c κs. search needs) (λ c κs. search needs) (λ c κs. search needs)
+    (λ c κs. search needs) (λ c κs. search needs) (λ c κs. search within) (λ c κs. search needs) (λ c. search needs)
+    (λ c. search needs) returns-3)

@@ -70,7 +70,8 @@ module _ {M : Type 1} (𝓤 : URA M) (H : Heap 𝓤) (A : Atoms 𝓤) (W : Given
   Kept = owns (typesAt (find .params) κs) args at
 
   beside : ent 𝓤 (sem 𝓤 H A Kept) (sep 𝓤 (sem 𝓤 H A Kept) (sem 𝓤 H A (Named 𝓤 H A W (κs .0) (qs .0) (κs .1 .0) (qs .1 .0) name)))
-  beside = beside-name 𝓤 H A W (κs .0) (qs .0) (κs .1 .0) (qs .1 .0) name (ShrSlice (named 0) (κs .0) u8 ∷ S.the-row ∷ R.the-row ∷ []) (s, (first, (table, tt))) (v ∷ [], (S′.lowered first ∷ [], (R′.lowered table ∷ [], tt)))
+  beside = beside-name 𝓤 H A W (κs .0) (qs .0) (κs .1 .0) (qs .1 .0) name (ShrSlice (named 0) (κs .0) u8 ∷ S.the-row ∷ R.the-row
+      ∷ []) (s, (first, (table, tt))) (v ∷ [], (S′.lowered first ∷ [], (R′.lowered table ∷ [], tt)))
 
   module _ (C : Calls 𝓤 H) (Λ : Loops 𝓤 H) (fm : FmC 𝓤 H (W .laws) C) (known-new : Triple 𝓤 (C new-def.name) (triple 𝓤 H A new)) (known : Triple 𝓤 (C asked-def.name) (triple 𝓤 H A look-up)) where
     walk : Is (ShrSlice (named 0) (κs .0) u8) s (v ∷ []) → Is S.the-row first (S′.lowered first ∷ []) → Is R.the-row table (R′.lowered table ∷ []) → Is (ShrSlice (named 1) (κs .1 .0) u8) name (x ∷ [])
@@ -81,7 +82,9 @@ module _ {M : Type 1} (𝓤 : URA M) (H : Heap 𝓤) (A : Atoms 𝓤) (W : Given
         pass1 ! (init ! 8 refl (shr-slice-lawful 𝓤 H A W (named 0) (κs .0) u8 .typed s (v ∷ []) p .0)) $ pass1 ! (init ! 6 refl (LL.lawful S.the-type S′.the-laws 𝓤 H A W .typed first _ known-first .0)) $
         pass1 ! (init ! 4 refl (LL.lawful R.the-type R′.the-laws 𝓤 H A W .typed table _ known-table .0)) $ pass1 ! (init ! 2 refl (shr-slice-lawful 𝓤 H A W (named 1) (κs .1 .0) u8 .typed name (x ∷ []) p′ .0)) $ pass0 ! $
         -- local i stands at 2 · (5 − i)
-        move ! (12 ∷ []) $ use1 W (raw (entry 𝓤 H A new (κs .0, tt) (qs .0, tt) (to-new 𝓤 H A W (κs .0) (qs .0) s first table) (new-vals 𝓤 H A W (κs .0) (qs .0) s first table)) ⊛ ((‵ (flft (κs .1 .0) (qs .1 .0)) ⊛ ‵ ftrue) ⊛ ‵ Kept))
+        move ! (12 ∷ []) $ use1 W
+        (raw (entry 𝓤 H A new (κs .0, tt) (qs .0, tt) (to-new 𝓤 H A W (κs .0) (qs .0) s first table) (new-vals 𝓤 H A W (κs .0) (qs .0) s first table)) ⊛
+        ((‵ (flft (κs .1 .0) (qs .1 .0)) ⊛ ‵ ftrue) ⊛ ‵ Kept))
         (opens-beside 𝓤 H A W (κs .0) (qs .0) (κs .1 .0) (qs .1 .0) s first table Rest known-first known-table) $ split ! $
         asks-at ! fm new known-new (κs .0, tt) (qs .0, tt) (to-new 𝓤 H A W (κs .0) (qs .0) s first table) (new-vals 𝓤 H A W (κs .0) (qs .0) s first table)
         (and-then ! (copied ! 10 refl) (and-then ! (copied ! 8 refl) (and-then ! (copied ! 6 refl) (no-more !)))) (λ u r e is.

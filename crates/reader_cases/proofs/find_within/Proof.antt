@@ -83,24 +83,32 @@ module _ {M : Type 1} (𝓤 : URA M) (H : Heap 𝓤) (A : Atoms 𝓤) (W : Given
   Kept = owns (typesAt (find-in .params) κs) args at
 
   beside : ent 𝓤 (sem 𝓤 H A Kept) (sep 𝓤 (sem 𝓤 H A Kept) (sem 𝓤 H A (Named 𝓤 H A W (κs .0) (qs .0) (κs .1 .0) (qs .1 .0) name)))
-  beside = beside-name 𝓤 H A W (κs .0) (qs .0) (κs .1 .0) (qs .1 .0) name (ShrSlice (named 0) (κs .0) u8 ∷ S.the-row ∷ R.the-row ∷ R.the-row ∷ []) (s, (first, (table, (inner, tt)))) (v ∷ [], (S′.lowered first ∷ [], (R′.lowered table ∷ [], (R′.lowered inner ∷ [], tt))))
+  beside = beside-name 𝓤 H A W (κs .0) (qs .0) (κs .1 .0) (qs .1 .0) name (ShrSlice (named 0) (κs .0) u8 ∷ S.the-row ∷ R.the-row ∷ R.the-row
+      ∷ []) (s, (first, (table, (inner, tt)))) (v ∷ [], (S′.lowered first ∷ [], (R′.lowered table ∷ [], (R′.lowered inner ∷ [], tt))))
 
-  module _ (C : Calls 𝓤 H) (Λ : Loops 𝓤 H) (fm : FmC 𝓤 H (W .laws) C) (known-new : Triple 𝓤 (C new-def.name) (triple 𝓤 H A new)) (known-within : Triple 𝓤 (C within-def.name) (triple 𝓤 H A within)) (known : Triple 𝓤 (C asked-def.name) (triple 𝓤 H A look-up)) where
-    walk : Is (ShrSlice (named 0) (κs .0) u8) s (v ∷ []) → Is S.the-row first (S′.lowered first ∷ []) → Is R.the-row table (R′.lowered table ∷ []) → Is R.the-row inner (R′.lowered inner ∷ []) → Is (ShrSlice (named 1) (κs .1 .0) u8) name (x ∷ [])
+  module _ (C : Calls 𝓤 H) (Λ : Loops 𝓤 H) (fm : FmC 𝓤 H (W .laws) C) (known-new : Triple 𝓤 (C new-def.name) (triple 𝓤 H A new))
+      (known-within : Triple 𝓤 (C within-def.name) (triple 𝓤 H A within)) (known : Triple 𝓤 (C asked-def.name) (triple 𝓤 H A look-up)) where
+    walk : Is (ShrSlice (named 0) (κs .0) u8) s (v ∷ []) → Is S.the-row first (S′.lowered first ∷ []) → Is R.the-row table (R′.lowered table ∷ [])
+        → Is R.the-row inner (R′.lowered inner ∷ []) → Is (ShrSlice (named 1) (κs .1 .0) u8) name (x ∷ [])
         → ent 𝓤 (entry 𝓤 H A find-in κs qs args at) (WpFn 𝓤 H C Λ code.function (v ∷ S′.lowered first ∷ R′.lowered table ∷ R′.lowered inner ∷ x ∷ []) (Post 𝓤 H A find-in κs qs args at))
     walk p known-first known-table known-inner p′ =
         qed W (raw (entry 𝓤 H A find-in κs qs args at) ∷ []) ∵ enter ! C Λ code.function (v ∷ S′.lowered first ∷ R′.lowered table ∷ R′.lowered inner ∷ x ∷ []) _ $
         allocs-all ! _ (λ l. params1 ! $
         pass1 ! (init ! 12 refl (shr-slice-lawful 𝓤 H A W (named 0) (κs .0) u8 .typed s (v ∷ []) p .0)) $ pass1 ! (init ! 10 refl (LL.lawful S.the-type S′.the-laws 𝓤 H A W .typed first _ known-first .0)) $
-        pass1 ! (init ! 8 refl (LL.lawful R.the-type R′.the-laws 𝓤 H A W .typed table _ known-table .0)) $ pass1 ! (init ! 6 refl (LL.lawful R.the-type R′.the-laws 𝓤 H A W .typed inner _ known-inner .0)) $ pass1 ! (init ! 4 refl (shr-slice-lawful 𝓤 H A W (named 1) (κs .1 .0) u8 .typed name (x ∷ []) p′ .0)) $ pass0 ! $
+        pass1 ! (init ! 8 refl (LL.lawful R.the-type R′.the-laws 𝓤 H A W .typed table _ known-table .0)) $ pass1 !
+        (init ! 6 refl (LL.lawful R.the-type R′.the-laws 𝓤 H A W .typed inner _ known-inner .0)) $ pass1 !
+        (init ! 4 refl (shr-slice-lawful 𝓤 H A W (named 1) (κs .1 .0) u8 .typed name (x ∷ []) p′ .0)) $ pass0 ! $
         -- local i stands at 2 · (7 − i)
-        move ! (16 ∷ []) $ use1 W (raw (entry 𝓤 H A new (κs .0, tt) (qs .0, tt) (to-new 𝓤 H A W (κs .0) (qs .0) s first table) (new-vals 𝓤 H A W (κs .0) (qs .0) s first table)) ⊛ ((‵ (flft (κs .1 .0) (qs .1 .0)) ⊛ ‵ ftrue) ⊛ ‵ Kept))
+        move ! (16 ∷ []) $ use1 W
+        (raw (entry 𝓤 H A new (κs .0, tt) (qs .0, tt) (to-new 𝓤 H A W (κs .0) (qs .0) s first table) (new-vals 𝓤 H A W (κs .0) (qs .0) s first table)) ⊛
+        ((‵ (flft (κs .1 .0) (qs .1 .0)) ⊛ ‵ ftrue) ⊛ ‵ Kept))
         (opens-beside 𝓤 H A W (κs .0) (qs .0) (κs .1 .0) (qs .1 .0) s first table Rest known-first known-table) $ split ! $
         asks-at ! fm new known-new (κs .0, tt) (qs .0, tt) (to-new 𝓤 H A W (κs .0) (qs .0) s first table) (new-vals 𝓤 H A W (κs .0) (qs .0) s first table)
         (and-then ! (copied ! 14 refl) (and-then ! (copied ! 12 refl) (and-then ! (copied ! 10 refl) (no-more !)))) (λ u r e is.
         -- [what the reader owns; its token; the name's token and what the parameters own; room for _7; …; _0; …]
         land ! (from ! (stop !)) (init ! 3 refl (typed-held 𝓤 H A W (κs .0) r u is)) $
-        use2 W (raw (entry 𝓤 H A within (κs .0, tt) (qs .0, tt) (r, (inner, tt)) (u ∷ [], (R′.lowered inner ∷ [], tt)))) (moves-it 𝓤 H A W (κs .0) (qs .0) r u R.the-row inner (R′.lowered inner ∷ []) (LL.makes R.the-type R′.the-plain 𝓤 H A inner _ known-inner)) $
+        use2 W (raw (entry 𝓤 H A within (κs .0, tt) (qs .0, tt) (r, (inner, tt)) (u ∷ [], (R′.lowered inner ∷ [], tt))))
+        (moves-it 𝓤 H A W (κs .0) (qs .0) r u R.the-row inner (R′.lowered inner ∷ []) (LL.makes R.the-type R′.the-plain 𝓤 H A inner _ known-inner)) $
         asks-at ! fm within known-within (κs .0, tt) (qs .0, tt) (r, (inner, tt)) (u ∷ [], (R′.lowered inner ∷ [], tt)) (and-then ! (copied ! 2 refl) (and-then ! (copied ! 8 refl) (no-more !))) (λ u₂ r₂ e₂ is₂.
         land ! (from ! (stop !)) (init ! 5 refl (typed-held 𝓤 H A W (κs .0) r₂ u₂ is₂)) $
         use3 W (raw (entry 𝓤 H A look-up κs qs (r₂, (name, tt)) (u₂ ∷ [], (x ∷ [], tt))) ⊛ ‵ Kept) (looks-up 𝓤 H A W (κs .0) (qs .0) (κs .1 .0) (qs .1 .0) name Kept beside r₂ u₂) $ split ! $

@@ -81,7 +81,8 @@ module _ {M : Type 1} (𝓤 : URA M) (H : Heap 𝓤) (A : Atoms 𝓤) (W : Given
       nothing ! $ move ! (2 ∷ 0 ∷ []) $ fjoin ! $ move ! (2 ∷ 0 ∷ []) $ fjoin ! $ move ! (2 ∷ 1 ∷ []) $ join ! $ frame ! $ done !
 
   module _ (C : Calls 𝓤 H) (Λ : Loops 𝓤 H) (fm : FmC 𝓤 H (W .laws) C) (known : Triple 𝓤 (C find-def.name) (triple 𝓤 H A find)) where
-    walk : Holds (hasTy (T′.mir (named 0)) mach) × WT mach → Is (ShrSlice (named 1) (κs .1 .0) u8) name (v ∷ []) → ent 𝓤 (entry 𝓤 H A look-up κs qs (d, (name, tt)) at) (WpFn 𝓤 H C Λ code.function (mach ∷ v ∷ []) (Post 𝓤 H A look-up κs qs (d, (name, tt)) at))
+    walk : Holds (hasTy (T′.mir (named 0)) mach) × WT mach → Is (ShrSlice (named 1) (κs .1 .0) u8) name (v ∷ [])
+        → ent 𝓤 (entry 𝓤 H A look-up κs qs (d, (name, tt)) at) (WpFn 𝓤 H C Λ code.function (mach ∷ v ∷ []) (Post 𝓤 H A look-up κs qs (d, (name, tt)) at))
     walk wt p =
         qed W (raw (entry 𝓤 H A look-up κs qs (d, (name, tt)) at) ∷ []) ∵ enter ! C Λ code.function (mach ∷ v ∷ []) _ $
         allocs-all ! _ (λ l. params1 ! $ pass1 ! (init ! 8 refl wt) $ pass1 ! (init ! 6 refl (shr-slice-lawful 𝓤 H A W (named 1) (κs .1 .0) u8 .typed name (v ∷ []) p .0)) $ pass0 ! $

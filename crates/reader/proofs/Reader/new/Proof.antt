@@ -92,7 +92,9 @@ module _ {M : Type 1} (𝓤 : URA M) (H : Heap 𝓤) (A : Atoms 𝓤) (W : Given
   module _ (known-first : Is S.the-row first (S′.lowered first ∷ [])) (known-table : Is R.the-row table (R′.lowered table ∷ [])) where
     exits : (o : Offset) → o .0 ≡ 0 → Is O.the-row o (O′.lowered o ∷ []) → ent 𝓤 (entry 𝓤 H A new κs qs args at) (Post 𝓤 H A new κs qs args at (T′.lowered (made o)))
     exits o e ok =
-        qed W (raw (tokens 𝓤 H A new κs qs) ∷ ‵ Kept ∷ []) ∵ move ! (1 ∷ []) $ fsplit ! $ use1 W (‵ Lent ⊛ ‵ Lent) (shr-slice-copy 𝓤 H A W (named 0) (κs .0) u8 .twice s (v ∷ [])) $ split ! $ move ! (0 ∷ 2 ∷ []) $ fjoin ! $
+        qed W (raw (tokens 𝓤 H A new κs qs) ∷ ‵ Kept ∷ []) ∵ move ! (1
+        ∷ []) $ fsplit ! $ use1 W (‵ Lent ⊛ ‵ Lent) (shr-slice-copy 𝓤 H A W (named 0) (κs .0) u8 .twice s (v ∷ [])) $ split ! $ move ! (0 ∷ 2
+        ∷ []) $ fjoin ! $
         -- [what the parameters own; what the window owns; the tokens]: what the fields own together, of it and of the others' facts, is what the reader owns
         nothing ! $ owned ! O.the-row (Is O.the-row) (LL.makes O.the-type O′.the-plain 𝓤 H A) o _ ok $ fjoin ! $
         owned ! R.the-row (Is R.the-row) (LL.makes R.the-type R′.the-plain 𝓤 H A) table _ known-table $ fjoin ! $
@@ -114,11 +116,23 @@ module _ {M : Type 1} (𝓤 : URA M) (H : Heap 𝓤) (A : Atoms 𝓤) (W : Given
           allocs-all ! _ (λ l. params1 ! $
           pass1 ! (init ! 6 refl (shr-slice-lawful 𝓤 H A W (named 0) (κs .0) u8 .typed s (v ∷ []) p .0)) $ pass1 ! (init ! 4 refl typed-first) $ pass1 ! (init ! 2 refl typed-table) $ pass0 ! $
           -- local i stands at 2 · (4 − i)
-          use0 W (raw (entry 𝓤 H A offset-new tt tt (0, tt) (vint w32 0 ∷ [], tt))) zero-passed $ asks-at ! fm offset-new known tt tt (0, tt) (vint w32 0 ∷ [], tt) (and-then ! (lit ! tt) (no-more !)) (λ u r e is. drop ! $ drop ! $
+          use0 W (raw (entry 𝓤 H A offset-new tt tt (0, tt) (vint w32 0 ∷ [], tt))) zero-passed $ asks-at ! fm offset-new known tt tt (0, tt) (
+            vint w32 0
+                ∷ [],
+            tt,
+          ) (and-then ! (lit ! tt) (no-more !)) (λ u r e is. drop ! $ drop ! $
           -- [room for _4; …; _3; …; _2; …; _1; …; room for _0; …]
-          land ! (from ! (stop !)) (init ! 0 refl (LL.lawful O.the-type O′.the-laws 𝓤 H A W .typed r _ is .0)) $ rewrite ! 0 (λ (x : Val). ‵ (fat fullShare O′.mir (l .1 .1 .1 .1 .0) 0 x)) (ap only (tells-offset r u is)) refl $
+          land ! (from ! (stop !)) (init ! 0 refl (LL.lawful O.the-type O′.the-laws 𝓤 H A W .typed r _ is .0)) $ rewrite ! 0
+          (λ (x : Val). ‵ (fat fullShare O′.mir (l .1 .1 .1 .1 .0) 0 x)) (ap only (tells-offset r u is)) refl $
           assigns ! (agg ! (and-then ! (copied ! 6 refl) (and-then ! (copied ! 4 refl) (and-then ! (copied ! 2 refl) (and-then ! (copied ! 0 refl) (no-more !))))))
-          (from ! (stop !)) (init ! 8 refl (tt, (shr-slice-lawful 𝓤 H A W (named 0) (κs .0) u8 .typed s (v ∷ []) p .0 .1, (typed-first .1, (typed-table .1, (LL.lawful O.the-type O′.the-laws 𝓤 H A W .typed r _ (offset-is r u is) .0 .1, tt)))))) $
+          (from ! (stop !)) (init ! 8 refl (
+            tt,
+            (
+              shr-slice-lawful 𝓤 H A W (named 0) (κs .0) u8 .typed s (v
+                  ∷ []) p .0 .1,
+              (typed-first .1, (typed-table .1, (LL.lawful O.the-type O′.the-laws 𝓤 H A W .typed r _ (offset-is r u is) .0 .1, tt))),
+            ),
+          )) $
           returns ! (look ! 8 refl) $ move ! (10 ∷ []) $ frees-all ! 1 (_, (_, (_, (_, (_, tt))))) refl $ by ! (exits r e (offset-is r u is))))
 
 pub new-spec : {M : Type 1} → stated.statement M

@@ -67,7 +67,9 @@ module _ {M : Type 1} (𝓤 : URA M) (H : Heap 𝓤) (A : Atoms 𝓤) (W : Given
         takes ! 8 0 4 refl refl refl refl (tt, wt .1 .0) $
         takes ! 8 1 2 refl refl refl refl (tt, wt .1 .1 .0) $
         takes ! 8 2 0 refl refl refl refl (tt, wt .1 .1 .1 .0) $
-        assigns ! (agg ! (and-then ! (copied ! 4 refl) (and-then ! (copied ! 2 refl) (and-then ! (copied ! 0 refl) (and-then ! (copied ! 6 refl) (no-more !)))))) (from ! (stop !)) (init ! 10 refl (tt, (wt .1 .0, (wt .1 .1 .0, (wt .1 .1 .1 .0, (wto .1, tt)))))) $
+        assigns ! (agg ! (and-then ! (copied ! 4 refl)
+        (and-then ! (copied ! 2 refl) (and-then ! (copied ! 0 refl) (and-then ! (copied ! 6 refl) (no-more !)))))) (from ! (stop !))
+        (init ! 10 refl (tt, (wt .1 .0, (wt .1 .1 .0, (wt .1 .1 .1 .0, (wto .1, tt)))))) $
         returns ! (look ! 10 refl) $ move ! (12 ∷ []) $ frees-all ! 1 (_, (_, (_, (_, (_, (_, tt)))))) refl $ by ! (exits ok))
 
 pub placed-spec : {M : Type 1} → stated.statement M

@@ -68,7 +68,8 @@ module _ {M : Type 1} (𝓤 : URA M) (H : Heap 𝓤) (A : Atoms 𝓤) (W : Given
       move ! (1 ∷ 2 ∷ []) $ fjoin ! $ move ! (2 ∷ 1 ∷ []) $ join ! $ frame ! $ done !
 
   module _ (C : Calls 𝓤 H) (Λ : Loops 𝓤 H) (fm : FmC 𝓤 H (W .laws) C) (known : Triple 𝓤 (C new-def.name) (triple 𝓤 H A new)) where
-    walk : Holds (hasTy (T′.mir (named 0)) mach) × WT mach → Is R.the-row t (R′.lowered t ∷ []) → ent 𝓤 (entry 𝓤 H A within κs qs (d, (t, tt)) at) (WpFn 𝓤 H C Λ code.function (mach ∷ R′.lowered t ∷ []) (Post 𝓤 H A within κs qs (d, (t, tt)) at))
+    walk : Holds (hasTy (T′.mir (named 0)) mach) × WT mach → Is R.the-row t (R′.lowered t ∷ [])
+        → ent 𝓤 (entry 𝓤 H A within κs qs (d, (t, tt)) at) (WpFn 𝓤 H C Λ code.function (mach ∷ R′.lowered t ∷ []) (Post 𝓤 H A within κs qs (d, (t, tt)) at))
     walk wt known-table =
         qed W (raw (entry 𝓤 H A within κs qs (d, (t, tt)) at) ∷ []) ∵ enter ! C Λ code.function (mach ∷ R′.lowered t ∷ []) _ $
         allocs-all ! _ (λ l. params1 ! $ pass1 ! (init ! 6 refl wt) $ pass1 ! (init ! 4 refl (LL.lawful R.the-type R′.the-laws 𝓤 H A W .typed t _ known-table .0)) $ pass0 ! $

@@ -9,9 +9,6 @@ use Rattle.units.specs.Told.{gives}
 use Rattle.units.specs.Region.{locateOf}
 use Rattle.units.proofs.Region.locate.Statement.{statement}
 use Rattle.units.proofs.Region.locate.Tie as tie
-use Rattle.units.proofs.Region.locate.Reads as reads
-use Rattle.units.proofs.Region.locate.Lts as lts
-use Rattle.units.proofs.Sector.start.Reads as start-reads
 
 inside : (t : Region) (o : Offset) (b : ℕ) → o .0 < t .size → b ≡ 2048 * t .sector .0 → gives (b + o .0) ≡ locateOf t o
 unfolding locateOf
@@ -21,17 +18,6 @@ returns : tie.Need-returns
 unfolding locateOf
 returns c = simp (le-leb _ _ (c .if1 .taken))
 
-start-requires : tie.Need-start-requires
-start-requires c κs = search needs
-
-cast-t7 : tie.Need-cast-t7
-cast-t7 c = search needs
-
-add-t8 : tie.Need-add-t8
-add-t8 c = search needs
-
-returns-2 : tie.Need-returns-2
-returns-2 c = search inside
-
 pub locate-spec : {M : Type 1} → statement M
-locate-spec = tie.close (tie.spec returns start-requires cast-t7 add-t8 returns-2)
+locate-spec = tie.close (tie.spec returns (λ c κs. search needs) (λ c. search needs) (λ c. search needs)
+    (λ c. search inside))
