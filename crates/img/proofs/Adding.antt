@@ -10,7 +10,7 @@ use lib.ListN.{length, getD, drop}
 use lib.Seq.{drop-cons, drop-length}
 use Rattle.img_model.specs.Plan.{total}
 use Rattle.img_size.proofs.Orders.{total-step, total-none}
-use Rattle.img.specs.Image.{fits}
+use Rattle.img_model.specs.Image.{fits}
 
 -- the first d shares are added up
 pub record Added (share : List ℕ) (d sum : ℕ) : Type 0 where

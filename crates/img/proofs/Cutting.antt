@@ -13,7 +13,7 @@ use Rattle.units.specs.Told.{Told, gives, refuses}
 use Rattle.img_model.specs.Shares.{countOf}
 use Rattle.img_model.specs.declared.Planned.{Planned}
 use Rattle.img_model.specs.Plan.{Plan, planOf}
-use Rattle.img.specs.Image.{Asked, Lent, byDirectory, byEntry, byNode, fits, hasRoom, requestIn, columnAfter}
+use Rattle.img_model.specs.Image.{Asked, Lent, byDirectory, byEntry, byNode, fits, hasRoom, requestIn, columnAfter}
 use Rattle.img.specs.inner.Steps.{Holds, Exact, Wide, after, PlannedBy, Cut, planIn, PlannedIn}
 
 -- the least of five numbers, and of six, is none the greater

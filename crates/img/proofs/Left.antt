@@ -8,7 +8,7 @@ use Rattle.units.specs.Told.{Told, refuses, pick}
 use Rattle.img_model.specs.declared.Planned.{Planned}
 use Rattle.img_model.specs.declared.Planned.the-variants as planned
 use Rattle.img_model.specs.Plan.{Plan, told, planOf}
-use Rattle.img.specs.Image.{Asked, Lent, asked, lent, hasRoom, requestIn, imageOf, answerOf, columnAfter, scratchAfter, lentAfter}
+use Rattle.img_model.specs.Image.{Asked, Lent, asked, lent, hasRoom, requestIn, imageOf, answerOf, columnAfter, scratchAfter, lentAfter}
 use Rattle.img.specs.inner.Steps.{planIn, PlannedIn}
 
 -- what is left, where it is known whether there is room and what is told

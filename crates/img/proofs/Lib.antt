@@ -1,4 +1,4 @@
--- Laws of the steps of planning, and plans at small images.
+-- Laws of the steps of planning.
 pub mod Adding
 pub mod Fewest
 pub mod Rooming
@@ -7,5 +7,3 @@ pub mod Handing
 pub mod Planning
 pub mod Cutting
 pub mod Left
-pub mod Told
-pub mod Cases

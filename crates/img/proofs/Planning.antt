@@ -20,7 +20,7 @@ use Rattle.img_table.specs.declared.Arranged.the-variants as arranged
 use Rattle.img_size.specs.inner.Sizing.{Sizeable, Roomy, TablesIn, toldSizes}
 use Rattle.img_size.proofs.Asked.{tree-sizeable, sizes-any}
 use Rattle.img_take.specs.inner.Forward.{Sized}
-use Rattle.img.specs.Image.{answerOf}
+use Rattle.img_model.specs.Image.{answerOf}
 use Rattle.img.specs.inner.Steps.{Exact, Wide, Holds, after, HandedOut, PlannedBy}
 
 -- the same with a column of as many sizes

@@ -6,7 +6,7 @@ use borrow.Author.Tests.{lt-leb, le-leb}
 use native.Mathlib.Omega.{arith}
 use lib.Dec.{leb}
 use lib.ListN.{take}
-use Rattle.img.specs.Image.{Asked, Lent, byDirectory, byEntry, byNode, fits, hasRoom}
+use Rattle.img_model.specs.Image.{Asked, Lent, byDirectory, byEntry, byNode, fits, hasRoom}
 use Rattle.img.specs.inner.Steps.{Cut}
 
 module _ (directories entries d e : ℕ) (fit : Bool) where

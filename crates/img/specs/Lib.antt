@@ -1,3 +1,2 @@
--- What planning an image answers, and leaves of what was lent.
-pub mod Image
+-- What the code of planning cites of itself alone.
 pub mod inner

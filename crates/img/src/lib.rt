@@ -24,7 +24,7 @@ ghost use Rattle.img_model.specs.Shares.{columns, isTree};
 ghost use Rattle.img_model.specs.inner.Shares.{columnsIn};
 ghost use Rattle.img_model.specs.Plan.{told, total, takingUp, rooted, planOf};
 ghost use Rattle.img_take.specs.inner.Forward.{Sized, requestOf};
-ghost use Rattle.img.specs.Image.{asked, asking, lent, memory, fits, answerIn, lentAfter};
+ghost use Rattle.img_model.specs.Image.{asked, asking, lent, memory, fits, answerIn, lentAfter};
 ghost use Rattle.img.specs.inner.Steps.{Exact, Wide, HandedOut, PlannedBy, Cut, PlannedIn};
 
 // A count of four bytes as an index.

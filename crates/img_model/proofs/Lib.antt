@@ -6,3 +6,5 @@ pub mod Sizes
 pub mod Passed
 pub mod Takings
 pub mod Cases
+pub mod Told
+pub mod Plans

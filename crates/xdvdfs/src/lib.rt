@@ -40,7 +40,7 @@ ghost use Rattle.dirtab.specs.Serialise as serialising;
 ghost use Rattle.dirtab_add.specs.Add as adding;
 ghost use Rattle.dirtab_arena.specs.Arena.{arenaIn, lentColumns};
 ghost use Rattle.dirtab_list.specs.Whole as whole;
-ghost use Rattle.img.specs.Image as image;
+ghost use Rattle.img_model.specs.Image as image;
 ghost use Rattle.img_model.specs.Plan as planning;
 ghost use Rattle.layout_volume.specs.Descriptor as volume;
 ghost use Rattle.read_entry.specs.Entry as entry;

@@ -2,7 +2,7 @@
 use mathlib.Core.Path.{_∙_}
 use borrow.Author.Needs.{needs}
 use Rattle.img_model.specs.declared.Planned.the-variants as planned
-use Rattle.img.specs.Image.{asked, lent}
+use Rattle.img_model.specs.Image.{asked, lent}
 use Rattle.img.proofs.Rooming.{room-is, cut-of}
 use Rattle.img.proofs.Left.{answer-none, left-none, answer-some, left-some, cleared, as-asked}
 use Rattle.img.proofs.plan.Statement.{statement}

@@ -9,7 +9,7 @@ use Rattle.img_model.specs.Shares.{Request, directoriesOf, entriesOf, countOf}
 use Rattle.img_model.specs.declared.Planned.{Planned}
 use Rattle.img_model.specs.Plan.{Plan, Taking, told, planOf}
 use Rattle.img_take.specs.inner.Forward.{freeTold}
-use Rattle.img.specs.Image.{Asked, Lent, hasRoom, requestIn, answerOf, columnAfter}
+use Rattle.img_model.specs.Image.{Asked, Lent, hasRoom, requestIn, answerOf, columnAfter}
 
 -- a column of n has a place for each entry of a share that lies in the list
 abbrev pub Holds : Request → ℕ → Type 0

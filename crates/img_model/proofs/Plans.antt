@@ -9,9 +9,9 @@ use Rattle.avl_model.specs.Tree.{bal}
 use Rattle.table_model.specs.Place.{items, endOf, freeOf, startAfter}
 use Rattle.table_model.specs.Table.{anyFar, placeOf}
 use Rattle.dirtab_grow.specs.Grow.{growFrom}
 use Rattle.img_model.specs.Shares.{isTree}
 use Rattle.img_model.specs.Plan.{total, treeIn, sizesDown, takingAll, takingUp, planOf}
-use Rattle.img.specs.Image.{Asked, Lent, asked, lent, fits, hasRoom, imageOf, answerOf, lentAfter}
+use Rattle.img_model.specs.Image.{Asked, Lent, asked, lent, fits, hasRoom, imageOf, answerOf, lentAfter}
 
 -- a root with the files `a` and `b` of a byte each. What is lent has two places in each column, and nines in them
 abbrev twoFiles : Asked
