@@ -24,7 +24,7 @@ fn image() -> (Vec<u8>, Table) {
 }
 
 #[test]
-fn document_01_first_cases() {
+fn the_first_cases_of_the_scope() {
     assert_eq!(write_table(&[], 33).unwrap(), (vec![0xff; 2048], Written { size: 2048, next_free: 33 }));
     let (bytes, w) = write_table(&[NewEntry { name: b"ab", kind: Kind::File, size: 5 }], 33).unwrap();
     assert_eq!(bytes[..16], [0, 0, 0, 0, 0x21, 0, 0, 0, 5, 0, 0, 0, 0x20, 2, 0x61, 0x62]);
@@ -228,7 +228,10 @@ fn words() {
         "entry 2 of the list: an entry of that name is there already, upper and lower case being one"
     );
     assert_eq!(Error::Truncated { offset: 16 }.to_string(), "the entry at offset 16 of its table is not whole in the bytes at hand");
-    assert_eq!(Error::DoesNotExist { headers: Some(3) }.to_string(), "no entry has that name (3 headers read)");
+    assert_eq!(
+        Error::DoesNotExist { headers: Some(3) }.to_string(),
+        "the name was not found; what stands below a link of 255 is not found either, though a walk lists it (3 headers read)"
+    );
     let numbers = (1..=12).chain(20..=28).chain(30..=32);
     for n in numbers {
         let e = match n {
