@@ -1,7 +1,7 @@
 /*
- * tests: what include/xdvdfs.h says of empty slices, of the numbers' texts and of a kind that is neither 0 nor 1. For every slice of every function a call is made in which that slice is NULL
- * with length 0 and the others are there, and one in which all are; each number, each [out] cell and all lent memory are compared with what the header says. bin/test-bindings builds
- * and runs it. It prints each difference; its last line counts.
+ * tests: what include/xdvdfs.h says of empty slices, of names that are listed and not found, of rings, of shares that overlap, of a kind that is neither 0 nor 1 and of the numbers' texts.
+ * For every slice of every function a call is made in which that slice is NULL with length 0 and the others are there, and one in which all are; each number, each [out] cell and all
+ * lent memory are compared with what the header says. bin/test-bindings builds and runs it. It prints each difference; its last line counts.
  */
 #include <stdio.h>
 #include <string.h>
@@ -341,6 +341,94 @@ static void planning(void)
             }
 }
 
+/* A root with the directory `d` and the file `a`; the share of `d` is `a` once more, or, with 2 for its first, an entry of its own. `entries` is how many there are, `places` how many
+ * the column of orders has, `nodes` how many those of the tree have. */
+static uint32_t plan_two(uint32_t first_of_d, uint32_t entries, size_t places, size_t nodes, uint32_t *sectors, uint32_t *next_free, uint32_t *entry)
+{
+    const uint32_t first[2] = {0, first_of_d}, share[2] = {first_of_d == 2 ? 1 : 2, 1}, start[3] = {0, 1, 1}, len[3] = {1, 1, 1};
+    const uint8_t kind[3] = {XDVDFS_KIND_DIRECTORY, XDVDFS_KIND_FILE, XDVDFS_KIND_FILE};
+    const uint64_t value[3] = {1, 1, 1};
+    uint32_t sizes[2], tables[2], sized[2], key[3], size[3], directory = UNTOUCHED;
+    uint16_t left[3], right[3], parent[3], order[3];
+    uint8_t height[3];
+    return xdvdfs_plan(2, entries, first, 2, share, 2, start, 3, len, 3, kind, 3, value, 3, (const uint8_t *)"da", 2, sizes, 2, tables, 2, sectors, 3, sized, 2, left,
+                       nodes, right, nodes, parent, nodes, height, nodes, key, nodes, size, nodes, order, places, next_free, entry, &directory);
+}
+
+static void shares(void)
+{
+    uint32_t sectors[3] = {UNTOUCHED, UNTOUCHED, UNTOUCHED}, next_free = UNTOUCHED, entry = UNTOUCHED;
+    int missing = NONE;
+    /* the file lies in both shares: it takes 35 in the root's and 36 in that of `d`, and keeps the later */
+    EXPECT("plan of two shares", plan_two(1, 2, 3, 3, sectors, &next_free, &entry), XDVDFS_DONE);
+    EXPECT("plan of two shares: d", sectors[0], 34);
+    EXPECT("plan of two shares: a", sectors[1], 36);
+    EXPECT("plan of two shares: next_free", next_free, 37);
+    /* the orders have three entries together */
+    EXPECT("plan of two shares in two places", plan_two(1, 2, 2, 3, sectors, &next_free, &entry), XDVDFS_ROOM);
+    EXPECT("plan of two shares in two places: entry", entry, UNTOUCHED);
+    /* entry 1 lies in no share: its sector stays as it was. The tree's columns need a place for the largest share alone */
+    sectors[1] = UNTOUCHED;
+    EXPECT("plan with an entry in no share", plan_two(2, 3, 3, 1, sectors, &next_free, &entry), XDVDFS_DONE);
+    EXPECT("plan with an entry in no share: d", sectors[0], 34);
+    EXPECT("plan with an entry in no share: it", sectors[1], UNTOUCHED);
+    EXPECT("plan with an entry in no share: the file", sectors[2], 35);
+    EXPECT("plan with an entry in no share: next_free", next_free, 36);
+}
+
+/* Names that are listed and not found, in tables that the strict check accepts */
+static void hidden(void)
+{
+    /* m, its left child c, and c's right child z */
+    static const uint8_t mcz[48] = {4, 0, 0, 0, 34, 0, 0, 0, 1, 0, 0, 0, 32, 1, 'm', 255, 0, 0, 8, 0, 35, 0, 0, 0,
+                                    1, 0, 0, 0, 32, 1, 'c', 255, 0, 0, 0, 0, 36, 0, 0, 0, 1, 0, 0, 0, 32, 1, 'z', 255};
+    /* m, and at 1,020 its right child z: the link is 255 */
+    static uint8_t far_child[1036];
+    uint32_t list[4], scratch[5], offset = UNTOUCHED, headers = UNTOUCHED;
+    uint64_t wide[5];
+    struct xdvdfs_fields fields;
+    size_t count = UNTOUCHED, place;
+    int missing = NONE;
+    memset(far_child, 0xff, sizeof far_child);
+    memcpy(far_child, mcz, 16);
+    memcpy(far_child + 1020, mcz + 32, 16);
+    far_child[0] = 0;
+    far_child[2] = 255;
+    far_child[3] = 0;
+    EXPECT("check m c z", xdvdfs_check_table(mcz, 48, 0, 0, 48, list, 4, wide, 5, &count, &offset), XDVDFS_DONE);
+    EXPECT("check m c z: count", count, 3);
+    EXPECT("look z up", xdvdfs_look_up(mcz, 48, 0, 0, 48, (const uint8_t *)"z", 1, &fields, &place, &offset, &headers), XDVDFS_DOES_NOT_EXIST);
+    EXPECT("check m z", xdvdfs_check_table(far_child, 1036, 0, 0, 1036, list, 4, wide, 5, &count, &offset), XDVDFS_DONE);
+    EXPECT("check m z: listed", count == 2 && list[1] == 1020, 1);
+    EXPECT("walk m z", xdvdfs_walk(far_child, 1036, 0, 0, 1036, list, 4, scratch, 5, &count, &offset), XDVDFS_DONE);
+    EXPECT("walk m z: listed", count == 2 && list[1] == 1020, 1);
+    EXPECT("look z up at 1,020", xdvdfs_look_up(far_child, 1036, 0, 0, 1036, (const uint8_t *)"z", 1, &fields, &place, &offset, &headers), XDVDFS_DOES_NOT_EXIST);
+    EXPECT("find z at 1,020", xdvdfs_find_path(far_child, 1036, 0, 0, 1036, (const uint8_t *)"/z", 2, &fields, &place, &offset), XDVDFS_DOES_NOT_EXIST);
+}
+
+/* A ring of two entries: the list is full however long it is */
+static void ringed(void)
+{
+    static uint8_t ring[48];
+    static uint32_t list[5000], scratch[5001];
+    static uint64_t wide[5001];
+    uint32_t offset = UNTOUCHED;
+    size_t count = UNTOUCHED, n;
+    int missing = NONE;
+    memcpy(ring, abc, 48);
+    ring[16] = 8; /* a's left child is c, and c's left child is a */
+    ring[32] = 4;
+    for (n = 0; n <= 5000; n += 1000) {
+        EXPECT("walk a ring", xdvdfs_walk(ring, 48, 0, 0, 48, list, n, scratch, n + 1, &count, &offset), XDVDFS_WALK_FULL);
+        EXPECT("walk a ring: count", count, UNTOUCHED);
+    }
+    /* the strict check meets a second time what it listed: a's left child is a itself */
+    ring[16] = 4;
+    EXPECT("check a ring", xdvdfs_check_table(ring, 48, 0, 0, 48, list, 5000, wide, 5001, &count, &offset), XDVDFS_SHARED);
+    EXPECT("check a ring: offset", offset, 16);
+    EXPECT("check a ring with one place", xdvdfs_check_table(ring, 48, 0, 0, 48, list, 1, wide, 2, &count, &offset), XDVDFS_WALK_FULL);
+}
+
 static void others(void)
 {
     uint32_t next = 33, start = UNTOUCHED;
@@ -387,6 +475,9 @@ int main(void)
     serialising();
     listing();
     planning();
+    shares();
+    hidden();
+    ringed();
     others();
     texts();
     printf("bindings/c/tests: %d compared, %d differ\n", tried, wrong);

@@ -238,9 +238,10 @@ fn plans() {
                 )
             };
             let one_is = |which: &[usize]| which.iter().any(|&i| is_empty(missing, i));
-            let number = if (directories == 1 && one_is(&[0, 1, 7, 8, 10])) || (entries == 1 && one_is(&[2, 3, 4, 5, 9, 17])) {
-                6
-            } else if directories == 1 && entries == 1 && one_is(&[11, 12, 13, 14, 15, 16]) {
+            let short = (directories == 1 && one_is(&[0, 1, 7, 8, 10]))
+                || (entries == 1 && one_is(&[2, 3, 4, 5, 9, 17]))
+                || (directories == 1 && entries == 1 && one_is(&[11, 12, 13, 14, 15, 16]));
+            let number = if short {
                 6
             } else if directories == 0 {
                 11

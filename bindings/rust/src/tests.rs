@@ -110,8 +110,24 @@ fn strict_faults() {
     assert_eq!(check(&bytes), Err(Error::BadPlace { offset: 32 }));
 }
 
+/// `f` is the root's right child and stands at 1,020, so its link is 255: a table that is written here, listed, accepted, and in which a lookup does not find the name.
 #[test]
-fn a_circle() {
+fn a_listed_name_may_not_be_found() {
+    let long = |first: char, n: usize| format!("{first}{}", "x".repeat(n));
+    let names = [long('d', 254), long('b', 254), "f".to_string(), long('a', 254), long('c', 189)];
+    let (bytes, w) = table_of(&names.iter().map(String::as_str).collect::<Vec<_>>(), 33);
+    let (window, table) = (Window { bytes: &bytes, first: 0 }, Table { sector: 0, size: w.size });
+    let listed = window.list(table, 5).unwrap();
+    assert_eq!(listed.iter().filter(|e| e.name == b"f").count(), 1);
+    assert_eq!(listed[0].header.right, 255);
+    assert_eq!(window.check_table(table, &mut [0; 5], &mut [0; 6]), Ok(5));
+    assert_eq!(window.look_up(table, b"f"), Err(Error::DoesNotExist { headers: Some(1) }));
+    assert_eq!(window.find_path(table, b"/F"), Err(Error::DoesNotExist { headers: None }));
+    assert_eq!(window.look_up(table, names[4].as_bytes()).map(|f| f.headers), Ok(3));
+}
+
+#[test]
+fn a_ring() {
     let (mut bytes, w) = table_of(&["a", "b", "c"], 34);
     bytes[16..18].copy_from_slice(&4u16.to_le_bytes()); // a is its own left child
     let window = Window { bytes: &bytes, first: 0 };
