@@ -36,7 +36,7 @@
  * lists the table and compares the names. (The other way round: a lookup follows a link of 65,535, which a walk does
  * not. No table that this library writes has one.)
  *
- * STACK. xdvdfs_check_table takes 66 KiB of stack, xdvdfs_add and xdvdfs_serialise at most 10 KiB, every other call
+ * STACK. xdvdfs_check_table takes 65 KiB of stack, xdvdfs_add and xdvdfs_serialise at most 10 KiB, every other call
  * less than 2 KiB. (Read off the object code and measured; no theorem speaks of the stack.)
  */
 #ifndef XDVDFS_H
