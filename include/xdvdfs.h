@@ -1,26 +1,43 @@
 /*
  * xdvdfs.h: XDVDFS directory tables, read and written.
  *
- * The functions below are those of crates/capi, which are proved to answer and to leave in memory what their contracts say; this file says the same in words.
- * `rt staticlib capi` writes target/staticlib/libcapi.a, which links into C, C++ and Rust programs on x86-64 Linux. Of other libraries it calls memset alone.
+ * The functions below are those of crates/capi, which are proved to answer and to leave in memory what their contracts
+ * say; this file says the same in words, and docs/SCOPE.md has the rules in one place. tools/check-header compares the
+ * declarations with the code. `rt staticlib capi` writes target/staticlib/libcapi.a, which links into C, C++ and Rust
+ * programs on x86-64 Linux. Of other libraries it calls memset alone.
  *
- * WHAT A CALL DOES. It returns a number, 0 (XDVDFS_DONE) where nothing is refused, else one of `enum xdvdfs_number`. Values of the answer are stored where the
- * parameters marked [out] point. A place for which the answer has no value is left as it was: after a refusal that is every [out] place but those that the function's
- * comment names for that number. No call keeps a pointer, allocates, prints, or has state of its own: calls from several threads do not disturb each other,
- * so long as none writes what another reads.
+ * WHAT A CALL DOES. It returns a number, 0 (XDVDFS_DONE) where nothing is refused, else one of `enum xdvdfs_number`;
+ * xdvdfs_text says in words what a number means. Values of the answer are stored where the parameters marked [out]
+ * point. A place for which the answer has no value is left as it was: after a refusal that is every [out] place but
+ * those that the function's comment names for that number. No call keeps a pointer, allocates, prints, or has state of
+ * its own: calls from several threads do not disturb each other, so long as none writes what another reads.
  *
- * WHAT A CALL ASKS. Any numbers and any bytes will do: bad input gets a number. Of pointers it asks what C cannot check:
- *   - a pointer that comes with a length points to that many elements, which stay there during the call; one with no length points to one element;
+ * WHAT A CALL ASKS. Any numbers and any bytes will do: bad input gets a number. Of pointers it asks what C cannot
+ * check:
+ *   - a pointer that comes with a length points to that many elements, which stay there during the call; one with no
+ *     length points to one element;
  *   - each is aligned for its type;
- *   - what a call may write ([out], [in,out], [scratch]) overlaps nothing else that is lent to the same call. What it only reads may overlap what it only reads;
+ *   - what a call may write ([out], [in,out], [scratch]) overlaps nothing else that is lent to the same call. What it
+ *     only reads may overlap what it only reads;
  *   - no pointer is NULL, but where the length is 0: then nothing is read or written through it, and NULL will do.
  * No array is longer than PTRDIFF_MAX bytes.
  *
- * WORDS. A window is a run of image bytes that starts at a sector, whose number is `first`; a sector has 2,048 bytes. A table is given by its first sector and its size in
- * bytes. Sectors are numbered from the start of the image, wherever the window starts. An offset is a byte offset in a table, a place is an index into the window.
+ * WORDS. A window is a run of image bytes that starts at a sector, whose number is `first`; a sector has 2,048 bytes. A
+ * table is given by its first sector and its size in bytes. Sectors are numbered from the start of the image, wherever
+ * the window starts. An offset is a byte offset in a table, a place is an index into the window.
  *
- * STACK. xdvdfs_check_table takes 66 KiB of stack, xdvdfs_add and xdvdfs_serialise at most 10 KiB, every other call less than 2 KiB. (Read off the object code and
- * measured; no theorem speaks of the stack.)
+ * A NAME THAT IS LISTED MAY NOT BE FOUND. The two readers of a table take different links for absent: xdvdfs_walk 0 and
+ * 65,535, xdvdfs_look_up and xdvdfs_find_path 0 and 255. An entry at offset 1,020, which a link of 255 names, and every
+ * entry below it, is listed by xdvdfs_walk and is XDVDFS_DOES_NOT_EXIST to the other two. Tables that this library
+ * writes can have such an entry; so can those of the tool that it agrees with. The second cause is the order of names:
+ * a lookup goes left or right by each name that it meets, so an entry that stands on the wrong side of one above it is
+ * not found either; only a table that was not written in order has such an entry. xdvdfs_check_table finds neither a
+ * link of 255 nor every fault of order. Who must not take "does not exist" for an answer about a file that is there
+ * lists the table and compares the names. (The other way round: a lookup follows a link of 65,535, which a walk does
+ * not. No table that this library writes has one.)
+ *
+ * STACK. xdvdfs_check_table takes 65 KiB of stack, xdvdfs_add and xdvdfs_serialise at most 10 KiB, every other call
+ * less than 2 KiB. (Read off the object code and measured; no theorem speaks of the stack.)
  */
 #ifndef XDVDFS_H
 #define XDVDFS_H
@@ -32,12 +49,18 @@
 extern "C" {
 #endif
 
+/* The version of this interface: as text, and as 10,000 for the first of its numbers, 100 for the second, 1 for the
+ * third. */
+#define XDVDFS_VERSION "0.1.0"
+#define XDVDFS_VERSION_NUMBER 100
+
 /* What a call returns. */
 enum xdvdfs_number {
     XDVDFS_DONE = 0,
     /* adding an entry, writing a list, planning an image */
     XDVDFS_EMPTY_NAME = 1,                 /* the name has no bytes */
-    XDVDFS_BAD_BYTE = 2,                   /* a byte of the name is 0 or above 127, or its place reaches past the names lent; in a name or path sought: above 127 */
+    XDVDFS_BAD_BYTE = 2,                   /* a byte of the name is 0 or above 127, or its place reaches past the names
+                                              lent; in a name or path sought: a byte above 127 */
     XDVDFS_NAME_TOO_LONG = 3,              /* more than 255 bytes */
     XDVDFS_DUPLICATE_FILE_NAME = 4,        /* an equal name is there; a to z count as A to Z */
     XDVDFS_SIZE_OVERFLOW = 5,              /* a directory's size is above 4,294,965,248 */
@@ -46,23 +69,90 @@ enum xdvdfs_number {
     XDVDFS_SECTOR_OVERFLOW = 8,            /* the next free sector would exceed 4,294,967,295 */
     XDVDFS_BUFFER_TOO_SMALL = 9,           /* the output is shorter than what is to be written */
     XDVDFS_FILE_TOO_LARGE = 10,            /* a file's length is above 4,294,967,295 */
-    XDVDFS_BAD_TREE = 11,                  /* the directories of a plan are not one tree, each after the one that names it */
-    XDVDFS_BAD_ARENA = 12,                 /* the arena's held nodes are not one ordered, balanced tree of entries that adding takes */
+    XDVDFS_BAD_TREE = 11,                  /* the directories of a plan are not one tree, each after the one that names
+                                              it, or a share reaches past the entries */
+    XDVDFS_BAD_ARENA = 12,                 /* the arena's held nodes are not one ordered, balanced tree of entries that
+                                              adding takes */
     /* reading */
     XDVDFS_NO_VOLUME = 20,                 /* no descriptor: a mark differs or is cut */
     XDVDFS_DIRECTORY_EMPTY = 21,           /* a lookup in a table of size 0 */
-    XDVDFS_DOES_NOT_EXIST = 22,            /* no entry has the name */
+    XDVDFS_DOES_NOT_EXIST = 22,            /* the lookup came to a link that it takes for absent, 0 or 255, or to no
+                                              entry; where the link was 255 an entry below it may have the name */
     XDVDFS_OUT_OF_BOUNDS = 23,             /* an offset is not below the table's size */
     XDVDFS_TRUNCATED = 24,                 /* an entry's header or name is not in the window */
     XDVDFS_LOOPED = 25,                    /* the entries' links lead a lookup round for ever */
-    XDVDFS_WALK_FULL = 26,                 /* there are more entries than places in the list */
+    XDVDFS_WALK_FULL = 26,                 /* an entry is read when the list is full: it has too few places, or the
+                                              links lead a walk round for ever and no list would do */
     XDVDFS_IS_NOT_DIRECTORY = 27,          /* a part of the path, not its last, is a file */
     XDVDFS_NO_DIRENT = 28,                 /* the path has no part */
     /* the strict check */
     XDVDFS_SHARED = 30,                    /* an entry is reached twice */
-    XDVDFS_OUT_OF_ORDER = 31,              /* a left child's name is not less than its parent's, or a right child's not greater */
+    XDVDFS_OUT_OF_ORDER = 31,              /* a left child's name is not less than its parent's, or a right child's not
+                                              greater */
     XDVDFS_BAD_PLACE = 32                  /* an entry overlaps another, crosses a sector line or leaves the table */
 };
+
+/* What a number means, in words: one line without a full stop. Never NULL, also for a number that no call returns. */
+static inline const char *xdvdfs_text(uint32_t number)
+{
+    switch (number) {
+    case XDVDFS_DONE:
+        return "nothing is refused";
+    case XDVDFS_EMPTY_NAME:
+        return "the name is empty";
+    case XDVDFS_BAD_BYTE:
+        return "a byte of the name is 0 or above 127, or the name's place reaches past the bytes lent for names; "
+               "of what is sought, a byte is above 127";
+    case XDVDFS_NAME_TOO_LONG:
+        return "the name has more than 255 bytes";
+    case XDVDFS_DUPLICATE_FILE_NAME:
+        return "an entry of that name is there already, upper and lower case being one";
+    case XDVDFS_SIZE_OVERFLOW:
+        return "the directory's size is above 4294965248 bytes";
+    case XDVDFS_ROOM:
+        return "the memory lent for the call is too short, or 16384 entries are held";
+    case XDVDFS_TOO_MANY_DIRECTORY_ENTRIES:
+        return "the table is too long: an entry would stand at offset 262144 or past it, where no link reaches";
+    case XDVDFS_SECTOR_OVERFLOW:
+        return "the next free sector would exceed 4294967295";
+    case XDVDFS_BUFFER_TOO_SMALL:
+        return "the output is shorter than what is to be written";
+    case XDVDFS_FILE_TOO_LARGE:
+        return "the file has more than 4294967295 bytes";
+    case XDVDFS_BAD_TREE:
+        return "the directories are no tree: there is none, a share reaches past the entries, "
+               "or one but the root is not named exactly once, by an earlier one";
+    case XDVDFS_BAD_ARENA:
+        return "the arena does not hold one ordered, balanced tree of entries that adding takes";
+    case XDVDFS_NO_VOLUME:
+        return "no volume descriptor: one of its two marks differs or is cut short";
+    case XDVDFS_DIRECTORY_EMPTY:
+        return "the directory is empty: its table has size 0";
+    case XDVDFS_DOES_NOT_EXIST:
+        return "the name was not found; what stands below a link of 255 is not found either, though a walk lists it";
+    case XDVDFS_OUT_OF_BOUNDS:
+        return "an offset is not below the table's size";
+    case XDVDFS_TRUNCATED:
+        return "an entry of the table is not whole in the bytes at hand";
+    case XDVDFS_LOOPED:
+        return "the table's links lead round in a ring: the lookup would never end";
+    case XDVDFS_WALK_FULL:
+        return "the list is full and there is an entry more: "
+               "the list has too few places, or the table's links lead round in a ring";
+    case XDVDFS_IS_NOT_DIRECTORY:
+        return "a part of the path, not its last, is no directory";
+    case XDVDFS_NO_DIRENT:
+        return "the path has no part";
+    case XDVDFS_SHARED:
+        return "an entry is reached twice";
+    case XDVDFS_OUT_OF_ORDER:
+        return "a left child's name is not less than its parent's, or a right child's not greater";
+    case XDVDFS_BAD_PLACE:
+        return "an entry overlaps another, crosses a sector line or leaves the table";
+    default:
+        return "a number that no call returns";
+    }
+}
 
 #define XDVDFS_SECTOR_SIZE 2048u      /* the bytes of a sector, and of a volume descriptor */
 #define XDVDFS_DESCRIPTOR_SECTOR 32u  /* the sector of the volume descriptor */
@@ -71,7 +161,10 @@ enum xdvdfs_number {
 #define XDVDFS_KIND_DIRECTORY 1u
 #define XDVDFS_NO_NODE 65535u         /* the root of an arena that holds nothing; its count is 0 */
 
-/* The header of an entry. Links are in units of four bytes. A directory is an entry with the attribute bit XDVDFS_DIRECTORY; sector and size are then its table. */
+/*
+ * The header of an entry. Links are in units of four bytes. A directory is an entry with the attribute bit
+ * XDVDFS_DIRECTORY, whatever else is set; sector and size are then its table.
+ */
 struct xdvdfs_fields {
     uint32_t left;
     uint32_t right;
@@ -94,8 +187,8 @@ uint32_t xdvdfs_read_descriptor(
 
 /*
  * Reads the entry at an offset of a table.
- * 0, *found = 1: *fields is its header and *place its first byte in the window. 0, *found = 0: no entry stands there (fourteen bytes of 0xff, or of 0).
- * XDVDFS_OUT_OF_BOUNDS, XDVDFS_TRUNCATED: of the offset that was asked for.
+ * 0, *found = 1: *fields is its header and *place its first byte in the window. 0, *found = 0: no entry stands there
+ * (fourteen bytes of 0xff, or of 0). XDVDFS_OUT_OF_BOUNDS, XDVDFS_TRUNCATED: of the offset that was asked for.
  */
 uint32_t xdvdfs_read_entry(
     const uint8_t *w, size_t w_len, uint32_t first,
@@ -106,8 +199,9 @@ uint32_t xdvdfs_read_entry(
     size_t *place);                /* [out] */
 
 /*
- * Where the name of an entry stands: `place` and `name_len` are as an entry's answer has them. The name is w[*start] to w[*start + *len - 1]; it is not ended by a 0.
- * For a place that is no entry's it is what of the window lies there, so *start + *len is never above w_len.
+ * Where the name of an entry stands: `place` and `name_len` are as an entry's answer has them. The name is w[*start] to
+ * w[*start + *len - 1]; it is not ended by a 0, and may have any bytes. For a place that is no entry's it is what of
+ * the window lies there, so *start + *len is never above w_len.
  */
 void xdvdfs_entry_name(
     const uint8_t *w, size_t w_len,
@@ -117,9 +211,13 @@ void xdvdfs_entry_name(
 
 /*
  * Looks a name up in a table; a to z count as A to Z.
- * 0: *fields and *place as xdvdfs_read_entry has them, *offset is the entry's in the table, *headers the number of entry headers read.
- * XDVDFS_BAD_BYTE, XDVDFS_DIRECTORY_EMPTY; XDVDFS_DOES_NOT_EXIST: *headers is the number of headers read; XDVDFS_OUT_OF_BOUNDS, XDVDFS_TRUNCATED: *offset is the one that
- * was to be read; XDVDFS_LOOPED.
+ * 0: *fields and *place as xdvdfs_read_entry has them, *offset is the entry's in the table, *headers the number of
+ * entry headers read. XDVDFS_BAD_BYTE, XDVDFS_DIRECTORY_EMPTY; XDVDFS_DOES_NOT_EXIST: *headers is the number of headers
+ * read; XDVDFS_OUT_OF_BOUNDS, XDVDFS_TRUNCATED: *offset is the one that was to be read; XDVDFS_LOOPED.
+ *
+ * XDVDFS_DOES_NOT_EXIST does not say that no entry has the name: it says that the lookup came to an absent link, or to
+ * no entry. A link of 255 counts as absent here and not for xdvdfs_walk, which lists what stands below it; see A NAME
+ * THAT IS LISTED MAY NOT BE FOUND, above.
  */
 uint32_t xdvdfs_look_up(
     const uint8_t *w, size_t w_len, uint32_t first,
@@ -131,9 +229,14 @@ uint32_t xdvdfs_look_up(
     uint32_t *headers);            /* [out] */
 
 /*
- * Follows a path from a table, through directories whose tables are in the window too. Leading slashes and one trailing slash do not count.
- * 0: *fields and *place of the entry. XDVDFS_BAD_BYTE, XDVDFS_NO_DIRENT; then of each part XDVDFS_DIRECTORY_EMPTY, XDVDFS_DOES_NOT_EXIST, XDVDFS_LOOPED, and
- * XDVDFS_OUT_OF_BOUNDS, XDVDFS_TRUNCATED with *offset, the one that was to be read in that part's table; XDVDFS_IS_NOT_DIRECTORY.
+ * Follows a path from a table, through directories whose tables are in the window too. Leading slashes and one trailing
+ * slash do not count.
+ * 0: *fields and *place of the entry. XDVDFS_BAD_BYTE, XDVDFS_NO_DIRENT; then of each part XDVDFS_DIRECTORY_EMPTY,
+ * XDVDFS_DOES_NOT_EXIST, XDVDFS_LOOPED, and XDVDFS_OUT_OF_BOUNDS, XDVDFS_TRUNCATED with *offset, the one that was to be
+ * read in that part's table; XDVDFS_IS_NOT_DIRECTORY.
+ *
+ * Each part is looked up as xdvdfs_look_up does it: XDVDFS_DOES_NOT_EXIST does not say that there is no such file. A
+ * part that stands below a link of 255 in its table is not found, though xdvdfs_walk lists it.
  */
 uint32_t xdvdfs_find_path(
     const uint8_t *w, size_t w_len, uint32_t first,
@@ -144,10 +247,16 @@ uint32_t xdvdfs_find_path(
     uint32_t *offset);             /* [out] */
 
 /*
- * Lists the offsets of a table's entries in preorder, left before right.
- * 0: *count is how many, list has them, and zeros past them. XDVDFS_ROOM: scratch_len is not above list_len, and nothing is changed.
- * XDVDFS_OUT_OF_BOUNDS, XDVDFS_TRUNCATED: *offset is the one that was to be read, and list is all zero. XDVDFS_WALK_FULL: list is all zero.
+ * Lists the offsets of a table's entries in preorder, left before right. An entry to which two links lead is listed
+ * twice.
+ * 0: *count is how many, list has them, and zeros past them. XDVDFS_ROOM: scratch_len is not above list_len, and
+ * nothing is changed. XDVDFS_OUT_OF_BOUNDS, XDVDFS_TRUNCATED: *offset is the one that was to be read, and list is all
+ * zero. XDVDFS_WALK_FULL: list is all zero; an entry was read when list_len entries were listed, be it that the table
+ * has more, or that its links lead round in a ring, which fills a list of any length.
  * The scratch is all zero afterwards, but after XDVDFS_ROOM.
+ *
+ * Links of 0 and 65,535 are absent here, one of 255 is not: what stands below it is listed, and XDVDFS_DOES_NOT_EXIST
+ * to xdvdfs_look_up and xdvdfs_find_path.
  */
 uint32_t xdvdfs_walk(
     const uint8_t *w, size_t w_len, uint32_t first,
@@ -158,9 +267,15 @@ uint32_t xdvdfs_walk(
     uint32_t *offset);                      /* [out] */
 
 /*
- * Checks that a table is of the form on which all readers agree, and lists it as xdvdfs_walk does: no entry twice, none over another or over a sector line, each name
- * on the right side of its parent's.
- * As xdvdfs_walk, and further XDVDFS_SHARED, XDVDFS_BAD_PLACE, XDVDFS_OUT_OF_ORDER: *offset is that of the entry at fault, and list is all zero.
+ * Checks a table by a strict rule, and lists it as xdvdfs_walk does. The rule: the walk ends; no entry is reached
+ * twice; no entry overlaps another, crosses a sector line or leaves the table; a left child's name is less than its
+ * parent's, a right child's greater. A blank header that a link reaches is no entry and no fault.
+ * As xdvdfs_walk, and further XDVDFS_SHARED, XDVDFS_BAD_PLACE, XDVDFS_OUT_OF_ORDER: *offset is that of the entry at
+ * fault, and list is all zero. A ring is XDVDFS_SHARED, unless another fault or the end of the list comes before the
+ * second visit.
+ *
+ * The rule does not say that every listed name is found: links of 255 are no fault, and names are compared with the
+ * parent's alone (the root m, its left child c and c's right child z are accepted, and no lookup finds z).
  */
 uint32_t xdvdfs_check_table(
     const uint8_t *w, size_t w_len, uint32_t first,
@@ -195,12 +310,16 @@ uint32_t xdvdfs_take_sectors(
     uint32_t *start);  /* [out] */
 
 /*
- * Adds an entry to the table that an arena holds. An arena is eight columns by node, of which the first *count places are held: the tree's (left, right, parent, height) and
- * the entries' (start and len: where the name stands in `names`; size; kind). An empty one has *root = XDVDFS_NO_NODE, *count = 0 and anything in its columns.
- * The columns' lengths need not be equal: the shortest says how many entries there is room for.
- * 0: *root, *count and the columns hold one entry more; a directory's size is stored rounded up to a multiple of 2,048.
- * XDVDFS_BAD_ARENA, XDVDFS_EMPTY_NAME, XDVDFS_BAD_BYTE, XDVDFS_NAME_TOO_LONG, XDVDFS_SIZE_OVERFLOW, XDVDFS_DUPLICATE_FILE_NAME, XDVDFS_ROOM: nothing is changed.
- * It looks the whole arena over first (XDVDFS_BAD_ARENA), so adding n entries takes time in n times n; xdvdfs_write_list does not.
+ * Adds an entry to the table that an arena holds. An arena is eight columns by node, of which the first *count places
+ * are held: the tree's (left, right, parent, height) and the entries' (start and len: where the name stands in `names`;
+ * size; kind). An empty one has *root = XDVDFS_NO_NODE, *count = 0 and anything in its columns. The columns' lengths
+ * need not be equal: the shortest says how many entries there is room for.
+ * 0: *root, *count and the columns hold one entry more. A directory's size is stored rounded up to a multiple of 2,048.
+ * The byte stored in `kind` is 1 for an entry_kind of 1 and 0 for any other: what is no directory is a file.
+ * XDVDFS_BAD_ARENA, XDVDFS_EMPTY_NAME, XDVDFS_BAD_BYTE, XDVDFS_NAME_TOO_LONG, XDVDFS_SIZE_OVERFLOW,
+ * XDVDFS_DUPLICATE_FILE_NAME, XDVDFS_ROOM: nothing is changed.
+ * It looks the whole arena over first (XDVDFS_BAD_ARENA), so adding n entries takes time in n times n;
+ * xdvdfs_write_list does not.
  */
 uint32_t xdvdfs_add(
     uint16_t *root,                       /* [in,out] */
@@ -219,8 +338,10 @@ uint32_t xdvdfs_add(
 
 /*
  * Writes the table that an arena holds. Sectors for the entries are taken from `first` on, in the table's order.
- * 0: *table_size is the reported size, *next_free the next free sector; out holds the table up to that size rounded up to a multiple of 2,048, and is unchanged past it.
- * XDVDFS_BAD_ARENA, XDVDFS_ROOM (order or place shorter than count), XDVDFS_TOO_MANY_DIRECTORY_ENTRIES, XDVDFS_SECTOR_OVERFLOW, XDVDFS_BUFFER_TOO_SMALL: out is unchanged.
+ * 0: *table_size is the reported size, *next_free the next free sector; out holds the table up to that size rounded up
+ * to a multiple of 2,048, and is unchanged past it.
+ * XDVDFS_BAD_ARENA, XDVDFS_ROOM (order or place shorter than count), XDVDFS_TOO_MANY_DIRECTORY_ENTRIES,
+ * XDVDFS_SECTOR_OVERFLOW, XDVDFS_BUFFER_TOO_SMALL: out is unchanged.
  * order and place are all zero afterwards, and unchanged where either is shorter than count.
  */
 uint32_t xdvdfs_serialise(
@@ -242,12 +363,14 @@ uint32_t xdvdfs_serialise(
     uint32_t *next_free);               /* [out] */
 
 /*
- * Writes the table of the first `count` entries of a list in one call: the same as adding each in turn to an empty arena and then xdvdfs_serialise.
- * start, len, size and kind are the list: where each name stands in `names`, the size in bytes, the kind. left to place are scratch, each of at least count places.
- * 0: as xdvdfs_serialise. XDVDFS_ROOM with *entry as it was: a column is shorter than count, and nothing is changed. Of the first entry that adding refuses
- * XDVDFS_EMPTY_NAME, XDVDFS_BAD_BYTE, XDVDFS_NAME_TOO_LONG, XDVDFS_SIZE_OVERFLOW, XDVDFS_DUPLICATE_FILE_NAME, XDVDFS_ROOM (there are more than 16,384): *entry is its
- * number in the list. Then XDVDFS_TOO_MANY_DIRECTORY_ENTRIES, XDVDFS_SECTOR_OVERFLOW, XDVDFS_BUFFER_TOO_SMALL. After a refusal out is unchanged.
- * The scratch is all zero afterwards, but where a column is shorter than count.
+ * Writes the table of the first `count` entries of a list in one call: the same as adding each in turn to an empty
+ * arena and then xdvdfs_serialise. start, len, size and kind are the list: where each name stands in `names`, the size
+ * in bytes, the kind (1 is a directory, any other number a file). left to place are scratch, each of at least count
+ * places. 0: as xdvdfs_serialise. XDVDFS_ROOM with *entry as it was: a column is shorter than count, and nothing is
+ * changed. Of the first entry that adding refuses XDVDFS_EMPTY_NAME, XDVDFS_BAD_BYTE, XDVDFS_NAME_TOO_LONG,
+ * XDVDFS_SIZE_OVERFLOW, XDVDFS_DUPLICATE_FILE_NAME, XDVDFS_ROOM (there are more than 16,384): *entry is its number in
+ * the list, from 0 on. Then XDVDFS_TOO_MANY_DIRECTORY_ENTRIES, XDVDFS_SECTOR_OVERFLOW, XDVDFS_BUFFER_TOO_SMALL. After a
+ * refusal out is unchanged. The scratch is all zero afterwards, but where a column is shorter than count.
  */
 uint32_t xdvdfs_write_list(
     uint32_t count,
@@ -270,24 +393,36 @@ uint32_t xdvdfs_write_list(
     uint32_t *entry);                     /* [out] */
 
 /*
- * Plans an image: the reported size and the sector of each directory's table, and the sector of each entry. It writes no table: xdvdfs_write_list does, a directory at a
- * time. A directory is a share of one list of entries, by the place of its first entry (`first`) and how many it has (`share`); the root comes first. An entry has its
- * name's place and length in `names` (start, len), its kind, and its value: a file's length, or the place of its directory in the list of directories, which is a later one
- * than its own. The root table stands at sector 33. The tables' and the files' sectors are taken directory by directory, within one in the order in which its table is
- * walked: so the sectors of a directory's entries begin at the least of them, which is the `first` to write its table with.
- * 0: sizes, tables and sectors have the plan in their first places and are unchanged past them; *next_free is the next free sector.
- * XDVDFS_ROOM with *entry as it was: a column of the directories (sizes, tables and sized too) is shorter than `directories`, one of the entries (sectors and order too)
- * shorter than `entries`, or one of left to size shorter than the largest share, of which no more counts than `entries`; and then nothing is changed.
- * XDVDFS_BAD_TREE: there is no directory, a share reaches past the entries, or a directory but the root is not named exactly once, by an earlier one. Then XDVDFS_ROOM
- * once more, where order is shorter than all shares together. From the last directory back XDVDFS_FILE_TOO_LARGE, XDVDFS_EMPTY_NAME, XDVDFS_BAD_BYTE,
- * XDVDFS_NAME_TOO_LONG, XDVDFS_DUPLICATE_FILE_NAME, XDVDFS_ROOM (there are more than 16,384 in one directory): *entry is the entry's place in the list. Never
- * XDVDFS_SIZE_OVERFLOW: no table is that large. Forward XDVDFS_TOO_MANY_DIRECTORY_ENTRIES, XDVDFS_SECTOR_OVERFLOW: *directory is the directory's place in the list. After
- * a refusal sizes, tables and sectors are unchanged.
+ * Plans an image: the reported size and the sector of each directory's table, and the sector of each entry. It writes
+ * no table: xdvdfs_write_list does, a directory at a time. A directory is a share of one list of entries, by the place
+ * of its first entry (`from`) and how many it has (`share`); the root comes first. An entry has its name's place and
+ * length in `names` (start, len), its kind (1 is a directory, any other number a file), and its value: a file's length,
+ * or the place of its directory in the list of directories, which is a later one than its own.
+ *
+ * The root table stands at sector 33. Directory by directory the entries take their sectors, within one directory in
+ * the order in which its table is walked; a directory entry's sectors are its table. So where no entry lies in two
+ * shares, a directory's table is written by xdvdfs_write_list with its entries, a directory entry's size being its
+ * table's out of `sizes`, and with a `first` that is the least of its entries' sectors; of a directory without entries
+ * with any. A file's entry may lie in two shares: it then takes sectors in both, `sectors` keeps those of the later
+ * directory, and the least of an earlier directory's sectors need not be where its run starts. An entry in no share is
+ * not looked at, takes no sector, and its place in `sectors` keeps what was there.
+ *
+ * 0: sizes, tables and sectors have the plan in their first places and are unchanged past them; *next_free is the next
+ * free sector. XDVDFS_ROOM with *entry as it was: a column of the directories (sizes, tables and sized too) is shorter
+ * than `directories`, one of the entries (sectors and order too) shorter than `entries`, or one of left to size shorter
+ * than the largest share, of which no more counts than `entries`; and then nothing is changed.
+ * XDVDFS_BAD_TREE: there is no directory, a share reaches past the entries, or a directory but the root is not named
+ * exactly once, by an earlier one. Then XDVDFS_ROOM once more, with *entry as it was, where order is shorter than all
+ * shares together (as where an entry lies in two). From the last directory back XDVDFS_FILE_TOO_LARGE,
+ * XDVDFS_EMPTY_NAME, XDVDFS_BAD_BYTE, XDVDFS_NAME_TOO_LONG, XDVDFS_DUPLICATE_FILE_NAME, XDVDFS_ROOM (there are more
+ * than 16,384 in one directory): *entry is the entry's place in the list. Never XDVDFS_SIZE_OVERFLOW: no table is that
+ * large. Forward XDVDFS_TOO_MANY_DIRECTORY_ENTRIES, XDVDFS_SECTOR_OVERFLOW: *directory is the directory's place in the
+ * list. After a refusal sizes, tables and sectors are unchanged.
  * The scratch is all zero afterwards, but where nothing is changed.
  */
 uint32_t xdvdfs_plan(
     uint32_t directories, uint32_t entries,
-    const uint32_t *first, size_t first_len,
+    const uint32_t *from, size_t from_len,
     const uint32_t *share, size_t share_len,
     const uint32_t *start, size_t start_len,
     const uint32_t *len, size_t len_len,

@@ -23,7 +23,7 @@ struct window {
 
 static void refuse(const char *what, uint32_t number)
 {
-    printf("%s: refused %u\n", what, (unsigned)number);
+    printf("%s: %s (refusal %u)\n", what, xdvdfs_text(number), (unsigned)number);
 }
 
 /* A line of a listing: `d` or `f`, the sector, the size, the name. */
@@ -68,9 +68,9 @@ static void find(struct window w, struct table t, const char *path)
     if (number == XDVDFS_DONE)
         show(w, fields, place);
     else if (number == XDVDFS_OUT_OF_BOUNDS || number == XDVDFS_TRUNCATED)
-        printf("refused %u at offset %u\n", (unsigned)number, (unsigned)offset);
+        printf("%s (refusal %u at offset %u)\n", xdvdfs_text(number), (unsigned)number, (unsigned)offset);
     else
-        printf("refused %u\n", (unsigned)number);
+        printf("%s (refusal %u)\n", xdvdfs_text(number), (unsigned)number);
 }
 
 static void check(struct window w, struct table t)
@@ -143,7 +143,7 @@ static void build(void)
     xdvdfs_write_descriptor(image, sizeof image, root.sector, root.size);
     printf("built: root of %u bytes, next free sector %u\n", (unsigned)root.size, (unsigned)next_free);
     number = add_and_write("limitsmapssave", root_len, root_size, root_kind, 3, 34, again);
-    printf("one by one: %u, %s\n", (unsigned)number, memcmp(again, image + XDVDFS_SECTOR_SIZE, sizeof again) == 0 ? "the same bytes" : "other bytes");
+    printf("one by one: %s, %s\n", xdvdfs_text(number), memcmp(again, image + XDVDFS_SECTOR_SIZE, sizeof again) == 0 ? "the same bytes" : "other bytes");
 
     list(w, root);
     check(w, root);

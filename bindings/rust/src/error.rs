@@ -1,12 +1,13 @@
 //! The refusals, with what each carries and what it means in words.
 use std::fmt;
 
-/// Why a call was refused. [`Error::number`] is document 01's number. After a refusal all memory that was lent is as the function's own words say: unchanged, but for
-/// scratch and the lists of a walk.
+/// Why a call was refused. [`Error::number`] is the number that include/xdvdfs.h and docs/SCOPE.md have for it. After a refusal all memory that was lent is as the
+/// function's own words say: unchanged, but for scratch and the lists of a walk.
 ///
-/// `entry` is the number of an entry in a list; there is none where a single entry was added. `directory` is the number of a directory in a plan; there is none where a
-/// single table was written. `offset` is a byte offset in a table.
+/// `entry` is the number of an entry in a list, from 0 on; there is none where a single entry was added. `directory` is the number of a directory in a plan; there is none
+/// where a single table was written. `offset` is a byte offset in a table.
 #[derive(Clone, Copy, Debug, PartialEq, Eq)]
+#[non_exhaustive]
 pub enum Error {
     EmptyName {
         entry: Option<u32>,
@@ -45,7 +46,8 @@ pub enum Error {
     BadArena,
     NoVolume,
     DirectoryEmpty,
-    /// With the number of entry headers read, where a single name was looked up.
+    /// The lookup came to a link that it takes for absent, 0 or 255, or to no entry. This does not say that no entry has the name: what stands below a link of 255 is listed
+    /// by [`Window::walk`](crate::Window::walk) and not found. With the number of entry headers read, where a single name was looked up.
     DoesNotExist {
         headers: Option<u32>,
     },
@@ -56,6 +58,7 @@ pub enum Error {
         offset: u32,
     },
     Looped,
+    /// An entry was read when the list was full: the list has too few places, or the links lead round in a ring and no list would do.
     WalkFull,
     IsNotDirectory,
     NoDirent,
@@ -71,7 +74,7 @@ pub enum Error {
 }
 
 impl Error {
-    /// The number in document 01 and in include/xdvdfs.h.
+    /// The number in include/xdvdfs.h and in docs/SCOPE.md.
     pub fn number(self) -> u32 {
         match self {
             Error::EmptyName { .. } => 1,
@@ -199,22 +202,33 @@ impl fmt::Display for Error {
             Error::BufferTooSmall => write!(f, "the output is shorter than what is to be written"),
             Error::FileTooLarge { .. } => write!(f, "the file has more than 4294967295 bytes"),
             Error::BadTree => {
-                write!(f, "the directories are no tree: there is none, or one that is not named exactly once, by an earlier one")
+                write!(f, "the directories are no tree: there is none, or one but the root is not named exactly once, by an earlier one")
             }
             Error::BadArena => write!(f, "the arena does not hold one ordered, balanced tree of entries that adding takes"),
             Error::NoVolume => write!(f, "no volume descriptor: one of its two marks differs or is cut short"),
             Error::DirectoryEmpty => write!(f, "the directory is empty: its table has size 0"),
-            Error::DoesNotExist { headers: Some(1) } => write!(f, "no entry has that name (1 header read)"),
-            Error::DoesNotExist { headers: Some(n) } => write!(f, "no entry has that name ({n} headers read)"),
-            Error::DoesNotExist { headers: None } => write!(f, "no entry has that name"),
+            Error::DoesNotExist { headers } => {
+                write!(f, "the name was not found; what stands below a link of 255 is not found either, though a walk lists it")?;
+                match headers {
+                    Some(1) => write!(f, " (1 header read)"),
+                    Some(n) => write!(f, " ({n} headers read)"),
+                    None => Ok(()),
+                }
+            }
             Error::OutOfBounds { offset } => write!(f, "offset {offset} is not below the table's size"),
             Error::Truncated { offset } => write!(f, "the entry at offset {offset} of its table is not whole in the bytes at hand"),
-            Error::Looped => write!(f, "the table's links lead round in a circle: the lookup would never end"),
-            Error::WalkFull => write!(f, "the table has more entries than the list has places"),
+            Error::Looped => write!(f, "the table's links lead round in a ring: the lookup would never end"),
+            Error::WalkFull => {
+                write!(f, "the list is full and there is an entry more: ")?;
+                write!(f, "the list has too few places, or the table's links lead round in a ring")
+            }
             Error::IsNotDirectory => write!(f, "a part of the path, not its last, is no directory"),
             Error::NoDirent => write!(f, "the path has no part"),
             Error::Shared { offset } => write!(f, "the entry at offset {offset} is reached twice"),
-            Error::OutOfOrder { offset } => write!(f, "the name of the entry at offset {offset} is on the wrong side of its parent's"),
+            Error::OutOfOrder { offset } => {
+                write!(f, "the entry at offset {offset} is a left child whose name is not less than its parent's, ")?;
+                write!(f, "or a right child whose name is not greater")
+            }
             Error::BadPlace { offset } => {
                 write!(f, "the entry at offset {offset} overlaps another, crosses a sector line or leaves the table")
             }

@@ -27,4 +27,6 @@ pub use write::{
 };
 
 #[cfg(test)]
+mod empty_slices;
+#[cfg(test)]
 mod tests;

@@ -60,7 +60,8 @@ fn columns_of(directories: &[&[PlanEntry<'_>]]) -> Result<Columns, Error> {
 }
 
 /// Plans an image of these directories, the root first. An error's entry is its place in the list of all entries. [`Error::Room`] only where there are more than
-/// 4,294,967,295 entries, directories or bytes of names.
+/// 4,294,967,295 entries, directories or bytes of names. A directory's table is then written by [`write_table`](crate::write_table) with its entries, a directory's size
+/// being its table's, and with the least of its entries' sectors as the first (any, where it has none).
 pub fn plan(directories: &[&[PlanEntry<'_>]]) -> Result<Plan, Error> {
     const NONE: u32 = u32::MAX; // no entry's place: there are at most so many
     let c = columns_of(directories)?;

@@ -54,6 +54,11 @@ pub struct Found<'a> {
 }
 
 /// A run of image bytes that starts at the sector `first`.
+///
+/// A name that [`Window::walk`] lists may not be found by [`Window::look_up`] and [`Window::find_path`]. These take links of 0 and 255 for absent, the walk those of 0 and
+/// 65,535: an entry at offset 1,020, which a link of 255 names, and every entry below it, is listed and is [`Error::DoesNotExist`]. Tables that this library writes can have
+/// such an entry. So is an entry that stands on the wrong side of one above it, in a table that was not written in order. Who must not take "does not exist" for an answer
+/// about a file that is there lists the table and compares the names.
 #[derive(Clone, Copy, Debug)]
 pub struct Window<'a> {
     pub bytes: &'a [u8],
@@ -104,7 +109,8 @@ impl<'a> Window<'a> {
         }
     }
 
-    /// Looks a name up in a table; a to z count as A to Z.
+    /// Looks a name up in a table; a to z count as A to Z. [`Error::DoesNotExist`] does not say that no entry has the name: what stands below a link of 255 is not found,
+    /// though [`Window::walk`] lists it.
     pub fn look_up(&self, table: Table, name: &[u8]) -> Result<Found<'a>, Error> {
         let (mut fields, mut place, mut offset, mut headers) = ([0; 6], 0, 0, 0);
         let n = unsafe {
@@ -128,7 +134,8 @@ impl<'a> Window<'a> {
         }
     }
 
-    /// Follows a path from a table.
+    /// Follows a path from a table: leading slashes and one trailing slash do not count, and each part is looked up as [`Window::look_up`] does it. A part below a link of 255
+    /// in its table is not found, though [`Window::walk`] lists it.
     pub fn find_path(&self, table: Table, path: &[u8]) -> Result<Entry<'a>, Error> {
         let (mut fields, mut place, mut offset) = ([0; 6], 0, 0);
         let n = unsafe {
@@ -152,7 +159,8 @@ impl<'a> Window<'a> {
     }
 
     /// Lists the offsets of a table's entries in preorder, and says how many they are; the list is zero past them. The scratch has to be longer than the list, and is zero
-    /// afterwards. After [`Error::Room`] both are unchanged; after another refusal the list is all zero.
+    /// afterwards. After [`Error::Room`] both are unchanged; after another refusal the list is all zero. [`Error::WalkFull`] where an entry is read when the list is full: the
+    /// table has more entries, or its links lead round in a ring, which fills any list. What stands below a link of 255 is listed here, and not found by [`Window::look_up`].
     pub fn walk(&self, table: Table, list: &mut [u32], scratch: &mut [u32]) -> Result<usize, Error> {
         let (mut count, mut offset) = (0, 0);
         let n = unsafe {
@@ -176,7 +184,9 @@ impl<'a> Window<'a> {
         }
     }
 
-    /// Checks that a table is of the form on which all readers agree, and lists it as [`Window::walk`] does.
+    /// Checks a table by a strict rule, and lists it as [`Window::walk`] does: the walk ends, no entry is reached twice, none overlaps another, crosses a sector line or leaves
+    /// the table, and a left child's name is less than its parent's, a right child's greater. A listed name may still not be found by [`Window::look_up`]: a link of 255 is no
+    /// fault, and names are compared with the parent's alone (the root m, its left child c and c's right child z pass, and no lookup finds z).
     pub fn check_table(&self, table: Table, list: &mut [u32], scratch: &mut [u64]) -> Result<usize, Error> {
         let (mut count, mut offset) = (0, 0);
         let n = unsafe {
@@ -200,7 +210,7 @@ impl<'a> Window<'a> {
         }
     }
 
-    /// The entries of a table in walk order, at most so many ([`Error::WalkFull`] where there are more).
+    /// The entries of a table in walk order, at most so many ([`Error::WalkFull`] where there are more, or the links lead round in a ring).
     pub fn list(&self, table: Table, most: usize) -> Result<Vec<Entry<'a>>, Error> {
         let mut list = vec![0; most];
         let count = self.walk(table, &mut list, &mut vec![0; most + 1])?;

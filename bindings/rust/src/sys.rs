@@ -165,8 +165,8 @@ extern "C" {
     pub fn xdvdfs_plan(
         directories: u32,
         entries: u32,
-        first: *const u32,
-        first_len: usize,
+        from: *const u32,
+        from_len: usize,
         share: *const u32,
         share_len: usize,
         start: *const u32,

@@ -24,7 +24,7 @@ fn image() -> (Vec<u8>, Table) {
 }
 
 #[test]
-fn document_01_first_cases() {
+fn the_first_cases_of_the_scope() {
     assert_eq!(write_table(&[], 33).unwrap(), (vec![0xff; 2048], Written { size: 2048, next_free: 33 }));
     let (bytes, w) = write_table(&[NewEntry { name: b"ab", kind: Kind::File, size: 5 }], 33).unwrap();
     assert_eq!(bytes[..16], [0, 0, 0, 0, 0x21, 0, 0, 0, 5, 0, 0, 0, 0x20, 2, 0x61, 0x62]);
@@ -110,8 +110,24 @@ fn strict_faults() {
     assert_eq!(check(&bytes), Err(Error::BadPlace { offset: 32 }));
 }
 
+/// `f` is the root's right child and stands at 1,020, so its link is 255: a table that is written here, listed, accepted, and in which a lookup does not find the name.
 #[test]
-fn a_circle() {
+fn a_listed_name_may_not_be_found() {
+    let long = |first: char, n: usize| format!("{first}{}", "x".repeat(n));
+    let names = [long('d', 254), long('b', 254), "f".to_string(), long('a', 254), long('c', 189)];
+    let (bytes, w) = table_of(&names.iter().map(String::as_str).collect::<Vec<_>>(), 33);
+    let (window, table) = (Window { bytes: &bytes, first: 0 }, Table { sector: 0, size: w.size });
+    let listed = window.list(table, 5).unwrap();
+    assert_eq!(listed.iter().filter(|e| e.name == b"f").count(), 1);
+    assert_eq!(listed[0].header.right, 255);
+    assert_eq!(window.check_table(table, &mut [0; 5], &mut [0; 6]), Ok(5));
+    assert_eq!(window.look_up(table, b"f"), Err(Error::DoesNotExist { headers: Some(1) }));
+    assert_eq!(window.find_path(table, b"/F"), Err(Error::DoesNotExist { headers: None }));
+    assert_eq!(window.look_up(table, names[4].as_bytes()).map(|f| f.headers), Ok(3));
+}
+
+#[test]
+fn a_ring() {
     let (mut bytes, w) = table_of(&["a", "b", "c"], 34);
     bytes[16..18].copy_from_slice(&4u16.to_le_bytes()); // a is its own left child
     let window = Window { bytes: &bytes, first: 0 };
@@ -228,7 +244,10 @@ fn words() {
         "entry 2 of the list: an entry of that name is there already, upper and lower case being one"
     );
     assert_eq!(Error::Truncated { offset: 16 }.to_string(), "the entry at offset 16 of its table is not whole in the bytes at hand");
-    assert_eq!(Error::DoesNotExist { headers: Some(3) }.to_string(), "no entry has that name (3 headers read)");
+    assert_eq!(
+        Error::DoesNotExist { headers: Some(3) }.to_string(),
+        "the name was not found; what stands below a link of 255 is not found either, though a walk lists it (3 headers read)"
+    );
     let numbers = (1..=12).chain(20..=28).chain(30..=32);
     for n in numbers {
         let e = match n {

@@ -1,7 +1,7 @@
 // The operations of `xdvdfs` for C, and for any language that calls as C does: on numbers, slices (a pointer and a
 // length) and cells (a pointer). include/xdvdfs.h declares them.
 //
-// What a function returns is document 01's number, 0 where nothing is refused. The values of the answer go into
+// What a function returns is a number of docs/SCOPE.md, 0 where nothing is refused. The values of the answer go into
 // lent cells, and a cell for which the answer has no value is unchanged (capi_cells/specs/Cells.antt). Each
 // contract says so by the definition that the like-named operation of `xdvdfs` has: the number, each cell and each
 // lent slice is an equation. No function asks anything of its caller beyond what every call from C does: pointers
@@ -144,7 +144,9 @@ pub extern "C" fn xdvdfs_entry_name(
 }
 
 // Looks a name up in a table: the entry's fields, its place in the window and its offset in the table, and the
-// number of headers read. 2, 21, then 22 with the number of headers, 23, 24 with the offset, 25.
+// number of headers read. 2, 21, then 22 with the number of headers, 23, 24 with the offset, 25. 22 is that the chain
+// came to an absent link, 0 or 255, or to no entry: below a link of 255 an entry may have the name, and the walk
+// lists it.
 #[no_mangle]
 pub extern "C" fn xdvdfs_look_up(
     w: &[u8],
@@ -170,7 +172,7 @@ pub extern "C" fn xdvdfs_look_up(
 }
 
 // Follows a path from a table: the entry's fields and its place in the window. 2, 28, then as the lookup of each
-// part, 22 without its count, and 27.
+// part, 22 without its count, and 27. A part below a link of 255 is not found, though the walk lists it.
 #[no_mangle]
 pub extern "C" fn xdvdfs_find_path(
     w: &[u8],
@@ -193,7 +195,9 @@ pub extern "C" fn xdvdfs_find_path(
     store_path(r, fields, place, offset)
 }
 
-// Lists the offsets of a table's entries in preorder, and says how many they are. 6, then 23, 24 with the offset, 26.
+// Lists the offsets of a table's entries in preorder, and says how many they are. 6, then 23, 24 with the offset, 26
+// where an entry is read when the list is full, as in a ring. What stands below a link of 255 is listed here and not
+// found by lookup.
 #[no_mangle]
 pub extern "C" fn xdvdfs_walk(
     w: &[u8],
@@ -218,8 +222,8 @@ pub extern "C" fn xdvdfs_walk(
     store_walked(r, count, offset)
 }
 
-// Checks that a table is of the form on which the readers agree, and lists it. 6, then 23, 24, 30, 26, 32, 31, all
-// but 6 and 26 with the offset.
+// Checks a table by the strict rule of `xdvdfs::check_table`, and lists it. 6, then 23, 24, 30, 26, 32, 31, all but 6
+// and 26 with the offset. A listed name may still not be found by lookup.
 #[no_mangle]
 pub extern "C" fn xdvdfs_check_table(
     w: &[u8],
@@ -287,7 +291,8 @@ pub extern "C" fn xdvdfs_take_sectors(next: &mut u32, length: u64, start: &mut u
     store_taken(counter.take(length), next, start)
 }
 
-// Adds an entry to the table that an arena holds; root and count of the held tree are cells. 12, then 1, 2, 3, 5, 4, 6.
+// Adds an entry to the table that an arena holds; root and count of the held tree are cells. An entry_kind of 1 is a
+// directory; any other number is a file, and 0 is stored for it. 12, then 1, 2, 3, 5, 4, 6.
 #[no_mangle]
 pub extern "C" fn xdvdfs_add(
     root: &mut u16,
@@ -451,8 +456,10 @@ pub extern "C" fn xdvdfs_write_list(
 }
 
 // Plans an image: the reported size and the sector of each directory's table, and the sector of each entry; the
-// next free sector. The columns from `sized` on are scratch. 6, then 11, then 10, 1, 2, 3, 5, 4, 6 with the entry's
-// place in the list, then 7, 8 with the directory's number.
+// next free sector. The columns from `sized` on are scratch. 6, then 11, then 6 where `order` is shorter than all
+// shares together, then 10, 1, 2, 3, 4, 6 with the entry's place in the list (never 5: `never-5` of agree_plan), then
+// 7, 8 with the directory's number. An entry in two shares keeps the later directory's sectors, one in none what was
+// there.
 #[no_mangle]
 pub extern "C" fn xdvdfs_plan(
     directories: u32,

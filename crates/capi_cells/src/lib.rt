@@ -1,6 +1,6 @@
 // An answer of `xdvdfs` as a number and cells: for each answer a function that puts its values into lent cells,
-// leaves the others unchanged, and gives document 01's number, 0 for what is no refusal. Each contract is over what
-// the answer is told as (specs/Cells.antt).
+// leaves the others unchanged, and gives the answer's number of docs/SCOPE.md, 0 for what is no refusal. Each
+// contract is over what the answer is told as (specs/Cells.antt).
 use xdvdfs::Added;
 use xdvdfs::Checked;
 use xdvdfs::DescriptorRead;

@@ -82,7 +82,8 @@ impl<'a> Reader<'a> {
     }
 
     // Looks a name up in the table, from offset 0 on, wherever the position is. 2, 21, then 22 with the number of
-    // headers read, 23, 24, 25.
+    // headers read, 23, 24, 25. 22 is that the chain came to an absent link, 0 or 255, or to no entry: below a link
+    // of 255 an entry may have the name, and going by `left` and `right` leads to it.
     pub fn look_up(self, name: &[u8]) -> Looked
         ensures { λ r. let s = self .entry in
             ⌜ lookup.told r ≡ lookup.lookupOf (now (s .window)) (s .first) (s .table) (was name) ⌝ }

@@ -3,7 +3,7 @@ use units::Offset;
 
 // What the strict check answers.
 pub enum Checked {
-    // So many offsets are listed: the table is of the form that the readers agree on.
+    // So many offsets are listed: the table keeps the rule (specs/Accepts.antt).
     Done(usize),
     // 6: the scratch is not longer than the list.
     Room,

@@ -1,6 +1,6 @@
 // The front door: every public operation, each with its whole contract. No operation asks anything of its caller:
-// all bytes and numbers are accepted, every call ends and stays in bounds, and bad input gets one of document 01's
-// numbers.
+// all bytes and numbers are accepted, every call ends and stays in bounds, and bad input gets one of the numbers of
+// docs/SCOPE.md.
 //
 // A contract `told r ≡ D` says that the answer r stands for what the definition D gives: `gives X`, or `refuses
 // NUMBER VALUES`. The definitions are in the specs/ of the crate that is named in each `ghost use`.
@@ -51,6 +51,10 @@ ghost use Rattle.strict_rule.specs.Strict as checking;
 
 // READING. A window is a slice of image bytes and the number of the sector that it starts with; a table is its
 // region, first sector and size.
+//
+// A name that the walk lists may not be found. A link of 255 is absent for lookup and for a path, and not for the
+// walk: an entry at offset 1,020, and every entry below it, is listed and answered 22. So is an entry that stands on
+// the wrong side of one above it. The strict check finds neither a link of 255 nor every such fault of order.
 
 // Reads the volume descriptor that the bytes start with: where the root table stands. 20 where a mark differs or is
 // cut.
@@ -75,7 +79,8 @@ pub fn entry_name(w: &[u8], place: usize, n: u8) -> &[u8]
     read_entry::name_of(w, place, n)
 }
 
-// Looks a name up in a table. 2, 21, then 22 with the number of headers read, 23, 24, 25.
+// Looks a name up in a table. 2, 21, then 22 with the number of headers read, 23, 24, 25. 22 is that the chain came
+// to an absent link, 0 or 255, or to no entry: with a link of 255 an entry may have the name, and the walk lists it.
 pub fn look_up(w: &[u8], first: Sector, table: Region, name: &[u8]) -> Looked
     ensures { λ r. ⌜ lookup.told r ≡ lookup.lookupOf (was w) first table (was name) ⌝ }
 {
@@ -83,14 +88,16 @@ pub fn look_up(w: &[u8], first: Sector, table: Region, name: &[u8]) -> Looked
 }
 
 // Follows a path from a table. 2, 28, then for each part what its lookup gives, and 27 where a part but the last is
-// no directory.
+// no directory. 22 is as for lookup: a part below a link of 255 is not found, though the walk lists it.
 pub fn find_path(w: &[u8], first: Sector, table: Region, path: &[u8]) -> PathFound
     ensures { λ r. ⌜ following.told r ≡ following.pathOf (was w) first table (was path) ⌝ }
 {
     read_path::find_path(w, first, table, path)
 }
 
-// Lists the offsets of a table's entries in preorder. 6, then 23, 24, 26 as they are met.
+// Lists the offsets of a table's entries in preorder. 6, then 23, 24, 26 as they are met. 26 is that an entry is read
+// when the list is full: the table has more entries, or its links lead round in a ring, which fills any list. Absent
+// are the links 0 and 65,535; what stands below one of 255 is listed here and not found by lookup.
 pub fn walk(w: &[u8], first: Sector, table: Region, list: &mut [u32], scratch: &mut [u32]) -> Walked
     ensures answer { λ r.
         ⌜ walking.told r ≡ walking.walkAnswer (was w) first table (length (was list)) (length (was scratch)) ⌝ }
@@ -100,8 +107,11 @@ pub fn walk(w: &[u8], first: Sector, table: Region, list: &mut [u32], scratch: &
     read_walk::walk(w, first, table, list, scratch)
 }
 
-// Checks that a table is of the form on which the readers agree, and lists it. 6, then the first fault in walk
-// order: 23, 24, 30, 26, 32, 31.
+// Checks a table by a strict rule, and lists it: the walk ends, no entry is reached twice, none overlaps another,
+// crosses a sector line or leaves the table, and a left child's name is less than its parent's, a right child's
+// greater. 6, then the first fault in walk order: 23, 24, 30, 26, 32, 31. A listed name may still not be found by
+// lookup: a link of 255 is no fault, and names are compared with the parent's alone (the root m, its left child c and
+// c's right child z pass, and no lookup finds z).
 pub fn check_table(
     w: &[u8],
     first: Sector,
@@ -263,11 +273,12 @@ pub fn write_list(
 // answer is the next free sector. A directory is a share of one list of entries (the place of its first entry, how
 // many), the root first. An entry has its name's place and length, its kind (1 is a directory), and its value: a
 // file's length, or the place of its directory in the list of directories, a later one than its own. The root table
-// stands at sector 33. 6 where a column is too short: for the directories, for the entries, or the six of the tree
-// for the largest share. Then 11; 6 where `order` is shorter than all shares together; from the last directory back
-// 10, 1, 2, 3, 5, 4, 6 with the entry's place in the list; forward 7 and 8 with the directory's number. After a
-// refusal `sizes`, `tables` and `sectors` are unchanged. The columns from `sized` on are scratch: all zero after
-// the call, and unchanged after the first 6.
+// stands at sector 33. An entry that lies in two shares takes sectors in both and keeps those of the later directory;
+// one that lies in none keeps what was there. 6 where a column is too short: for the directories, for the entries, or
+// the six of the tree for the largest share. Then 11; 6 where `order` is shorter than all shares together; from the
+// last directory back 10, 1, 2, 3, 4, 6 with the entry's place in the list (never 5: `never-5` of agree_plan);
+// forward 7 and 8 with the directory's number. After a refusal `sizes`, `tables` and `sectors` are unchanged. The
+// columns from `sized` on are scratch: all zero after the call, and unchanged after the first 6.
 pub fn plan(
     directories: u32,
     entries: u32,

@@ -1,4 +1,4 @@
-//! Stands in for layout/disk_data.rs. It assumes the order of document 01's layout: sector, size, attributes, length of the name; ten bytes. A
+//! Stands in for layout/disk_data.rs. It assumes the order of docs/SCOPE.md's layout: sector, size, attributes, length of the name; ten bytes. A
 //! directory is what has the directory's bit, whatever else is set.
 use serde::{Deserialize, Serialize};
 

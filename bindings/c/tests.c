@@ -1,0 +1,485 @@
+/*
+ * tests: what include/xdvdfs.h says of empty slices, of names that are listed and not found, of rings, of shares that overlap, of a kind that is neither 0 nor 1 and of the numbers' texts.
+ * For every slice of every function a call is made in which that slice is NULL with length 0 and the others are there, and one in which all are; each number, each [out] cell and all
+ * lent memory are compared with what the header says. bin/test-bindings builds and runs it. It prints each difference; its last line counts.
+ */
+#include <stdio.h>
+#include <string.h>
+
+#include "xdvdfs.h"
+
+static int tried, wrong;
+
+static void expect(int line, const char *what, int missing, unsigned long is, unsigned long should)
+{
+    tried++;
+    if (is != should) {
+        wrong++;
+        printf("tests.c:%d: %s, slice %d: %lu and not %lu\n", line, what, missing, is, should);
+    }
+}
+
+/* `missing` is the number of the slice that is NULL; ALL is every one, NONE is none */
+enum { ALL = -1, NONE = 99 };
+#define EMPTY(i) (missing == (i) || missing == ALL)
+#define SLICE(i, p, n) (EMPTY(i) ? NULL : (p)), (EMPTY(i) ? (size_t)0 : (size_t)(n))
+#define EXPECT(what, is, should) expect(__LINE__, what, missing, (unsigned long)(is), (unsigned long)(should))
+#define UNTOUCHED 77u
+#define FILL(x) memset(&(x), 0x4d, sizeof(x))
+#define IS_FILL(what, x) EXPECT(what ": is as it was", same_bytes((x), sizeof(x), 0x4d), 1)
+#define IS_ZERO(what, x) EXPECT(what ": is zero", same_bytes((x), sizeof(x), 0), 1)
+
+static int same_bytes(const void *p, size_t n, unsigned char byte)
+{
+    const unsigned char *b = p;
+    size_t i;
+    for (i = 0; i < n; i++)
+        if (b[i] != byte)
+            return 0;
+    return 1;
+}
+
+/* b with the links 4 and 8, then a and c, in a table of 48 bytes */
+static const uint8_t abc[48] = {4, 0, 8, 0, 34, 0, 0, 0, 1, 0, 0, 0, 32, 1, 'b', 255, 0, 0, 0, 0, 35, 0, 0, 0,
+                                1, 0, 0, 0, 32, 1, 'a', 255, 0, 0, 0, 0, 36, 0, 0, 0, 1, 0, 0, 0, 32, 1, 'c', 255};
+
+static void reading(void)
+{
+    struct xdvdfs_fields fields;
+    uint32_t sector = UNTOUCHED, size = UNTOUCHED, found, offset, headers;
+    size_t place, start, len;
+    int missing = 0;
+
+    EXPECT("read_descriptor", xdvdfs_read_descriptor(NULL, 0, &sector, &size), XDVDFS_NO_VOLUME);
+    EXPECT("read_descriptor: sector", sector, UNTOUCHED);
+    EXPECT("read_descriptor: size", size, UNTOUCHED);
+
+    FILL(fields);
+    found = offset = headers = UNTOUCHED;
+    place = UNTOUCHED;
+    EXPECT("read_entry of size 0", xdvdfs_read_entry(NULL, 0, 0, 0, 0, 0, &found, &fields, &place), XDVDFS_OUT_OF_BOUNDS);
+    EXPECT("read_entry", xdvdfs_read_entry(NULL, 0, 0, 0, 48, 16, &found, &fields, &place), XDVDFS_TRUNCATED);
+    EXPECT("read_entry: found", found, UNTOUCHED);
+    EXPECT("read_entry: place", place, UNTOUCHED);
+    EXPECT("read_entry: fields", same_bytes(&fields, sizeof fields, 0x4d), 1);
+
+    start = len = UNTOUCHED;
+    xdvdfs_entry_name(NULL, 0, 5, 255, &start, &len);
+    EXPECT("entry_name: start", start, 0);
+    EXPECT("entry_name: len", len, 0);
+
+    for (missing = ALL; missing <= 1; missing++) { /* 0 is the window, 1 the name */
+        uint32_t number;
+        offset = headers = UNTOUCHED;
+        EXPECT("look_up of size 0", xdvdfs_look_up(SLICE(0, abc, 48), 0, 0, 0, SLICE(1, (const uint8_t *)"a", 1), &fields, &place, &offset, &headers),
+               XDVDFS_DIRECTORY_EMPTY);
+        number = xdvdfs_look_up(SLICE(0, abc, 48), 0, 0, 48, SLICE(1, (const uint8_t *)"a", 1), &fields, &place, &offset, &headers);
+        if (EMPTY(0)) {
+            EXPECT("look_up", number, XDVDFS_TRUNCATED);
+            EXPECT("look_up: offset", offset, 0);
+            EXPECT("look_up: headers", headers, UNTOUCHED);
+        } else { /* the name without bytes is less than every other: b, a, and no link */
+            EXPECT("look_up", number, XDVDFS_DOES_NOT_EXIST);
+            EXPECT("look_up: offset", offset, UNTOUCHED);
+            EXPECT("look_up: headers", headers, 2);
+        }
+        offset = UNTOUCHED;
+        number = xdvdfs_find_path(SLICE(0, abc, 48), 0, 0, 48, SLICE(1, (const uint8_t *)"a", 1), &fields, &place, &offset);
+        EXPECT("find_path", number, EMPTY(1) ? XDVDFS_NO_DIRENT : XDVDFS_TRUNCATED);
+        EXPECT("find_path: offset", offset, EMPTY(1) ? UNTOUCHED : 0);
+    }
+    missing = NONE;
+    EXPECT("look_up: fields after refusals", same_bytes(&fields, sizeof fields, 0x4d), 1);
+    EXPECT("look_up: place after refusals", place, UNTOUCHED);
+}
+
+static void walking(void)
+{
+    uint32_t list[4], scratch[5], offset, number;
+    uint64_t wide[5];
+    size_t count;
+    int missing, strict;
+    for (strict = 0; strict <= 1; strict++)
+        for (missing = ALL; missing <= 2; missing++) { /* the window, the list, the scratch */
+            count = offset = UNTOUCHED;
+            FILL(list);
+            FILL(scratch);
+            FILL(wide);
+            number = strict ? xdvdfs_check_table(SLICE(0, abc, 48), 0, 0, 48, SLICE(1, list, 4), SLICE(2, wide, 5), &count, &offset)
+                            : xdvdfs_walk(SLICE(0, abc, 48), 0, 0, 48, SLICE(1, list, 4), SLICE(2, scratch, 5), &count, &offset);
+            EXPECT("walk", number, EMPTY(2) ? XDVDFS_ROOM : EMPTY(0) ? XDVDFS_TRUNCATED : XDVDFS_WALK_FULL);
+            EXPECT("walk: count", count, UNTOUCHED);
+            EXPECT("walk: offset", offset, !EMPTY(2) && EMPTY(0) ? 0 : UNTOUCHED);
+            if (EMPTY(1) || EMPTY(2))
+                IS_FILL("walk: list", list);
+            else
+                IS_ZERO("walk: list", list);
+            if (EMPTY(2)) {
+                IS_FILL("walk: scratch", scratch);
+                IS_FILL("walk: scratch", wide);
+            } else if (strict)
+                IS_ZERO("walk: scratch", wide);
+            else
+                IS_ZERO("walk: scratch", scratch);
+            /* a table of size 0 lists nothing, also without a window and without a list */
+            count = UNTOUCHED;
+            number = strict ? xdvdfs_check_table(SLICE(0, abc, 48), 0, 0, 0, SLICE(1, list, 4), SLICE(2, wide, 5), &count, &offset)
+                            : xdvdfs_walk(SLICE(0, abc, 48), 0, 0, 0, SLICE(1, list, 4), SLICE(2, scratch, 5), &count, &offset);
+            EXPECT("walk of size 0", number, EMPTY(2) ? XDVDFS_ROOM : XDVDFS_DONE);
+            EXPECT("walk of size 0: count", count, EMPTY(2) ? UNTOUCHED : 0);
+        }
+}
+
+/* An arena that holds one entry, `a`, or none */
+struct arena {
+    uint16_t root, count, left[2], right[2], parent[2];
+    uint8_t height[2], kind[2];
+    uint32_t start[2], len[2], size[2];
+};
+
+static struct arena arena_of(int held)
+{
+    struct arena a;
+    FILL(a);
+    a.root = held ? 0 : XDVDFS_NO_NODE;
+    a.count = (uint16_t)held;
+    a.left[0] = a.right[0] = a.parent[0] = XDVDFS_NO_NODE;
+    a.height[0] = 1;
+    a.start[0] = 0;
+    a.len[0] = 1;
+    a.size[0] = 1;
+    a.kind[0] = XDVDFS_KIND_FILE;
+    return a;
+}
+
+#define ARENA(a)                                                                                                                                     \
+    SLICE(0, (a).left, 2), SLICE(1, (a).right, 2), SLICE(2, (a).parent, 2), SLICE(3, (a).height, 2), SLICE(4, (a).start, 2), SLICE(5, (a).len, 2), \
+        SLICE(6, (a).size, 2), SLICE(7, (a).kind, 2), SLICE(8, (const uint8_t *)"ab", 2)
+
+static void adding(void)
+{
+    int missing, held;
+    struct arena a, before;
+    for (held = 0; held <= 1; held++)
+        for (missing = ALL; missing <= 8; missing++) { /* eight columns, and the names */
+            uint32_t number, should;
+            a = arena_of(held);
+            before = a;
+            number = xdvdfs_add(&a.root, &a.count, ARENA(a), 1, 1, XDVDFS_KIND_FILE, 1);
+            /* a held entry without a place in a column, or without its name, is no arena; of none held the name's place comes before the room */
+            should = held ? XDVDFS_BAD_ARENA : EMPTY(8) ? XDVDFS_BAD_BYTE : XDVDFS_ROOM;
+            EXPECT(held ? "add to one" : "add to none", number, should);
+            EXPECT("add: all is as it was", memcmp(&a, &before, sizeof a), 0);
+            number = xdvdfs_add(&a.root, &a.count, ARENA(a), 0, 0, XDVDFS_KIND_FILE, 1);
+            EXPECT("add of no name", number, held ? XDVDFS_BAD_ARENA : XDVDFS_EMPTY_NAME);
+        }
+    /* the byte that is stored for a kind: 1 for 1, 0 for every other number */
+    missing = NONE;
+    for (held = 0; held <= 255; held++) {
+        a = arena_of(0);
+        EXPECT("add of a kind", xdvdfs_add(&a.root, &a.count, ARENA(a), 1, 1, (uint8_t)held, 1), XDVDFS_DONE);
+        EXPECT("add of a kind: stored", a.kind[0], held == 1 ? 1 : 0);
+        EXPECT("add of a kind: size", a.size[0], held == 1 ? 2048 : 1);
+        EXPECT("add of a kind: root", a.root, 0);
+        EXPECT("add of a kind: count", a.count, 1);
+    }
+}
+
+static void serialising(void)
+{
+    static uint8_t out[2048];
+    uint16_t order[2], place[2];
+    uint32_t table_size, next_free, number, should;
+    int missing, held;
+    for (held = 0; held <= 1; held++)
+        for (missing = ALL; missing <= 11; missing++) { /* columns and names, order, place, out */
+            struct arena a = arena_of(held);
+            FILL(out);
+            FILL(order);
+            FILL(place);
+            table_size = next_free = UNTOUCHED;
+            number = xdvdfs_serialise(a.root, a.count, ARENA(a), 40, SLICE(9, order, 2), SLICE(10, place, 2), SLICE(11, out, 2048), &table_size, &next_free);
+            if (held)
+                should = missing == ALL || missing <= 8 ? XDVDFS_BAD_ARENA : missing <= 10 ? XDVDFS_ROOM : XDVDFS_BUFFER_TOO_SMALL;
+            else /* nothing is held: no column and no scratch is needed */
+                should = EMPTY(11) ? XDVDFS_BUFFER_TOO_SMALL : XDVDFS_DONE;
+            EXPECT(held ? "serialise one" : "serialise none", number, should);
+            EXPECT("serialise: table_size", table_size, should == XDVDFS_DONE ? 2048 : UNTOUCHED);
+            EXPECT("serialise: next_free", next_free, should == XDVDFS_DONE ? 40 : UNTOUCHED);
+            EXPECT("serialise: out", same_bytes(out, sizeof out, should == XDVDFS_DONE ? 0xff : 0x4d), 1);
+            /* scratch is zero, and as it was where either column is shorter than the count */
+            if (held && (EMPTY(9) || EMPTY(10))) {
+                IS_FILL("serialise: order", order);
+                IS_FILL("serialise: place", place);
+            } else {
+                if (!EMPTY(9))
+                    IS_ZERO("serialise: order", order);
+                if (!EMPTY(10))
+                    IS_ZERO("serialise: place", place);
+            }
+        }
+}
+
+static void listing(void)
+{
+    static uint8_t out[2048];
+    const uint32_t start[1] = {0}, len[1] = {1}, size[1] = {1};
+    const uint8_t kind[1] = {XDVDFS_KIND_FILE};
+    uint16_t left[1], right[1], parent[1], order[1], place[1];
+    uint8_t height[1];
+    uint32_t key[1], table_size, next_free, entry, number, should, count;
+    int missing;
+    for (count = 0; count <= 1; count++)
+        for (missing = ALL; missing <= 12; missing++) { /* the list, the names, the scratch, out */
+            FILL(out);
+            FILL(left);
+            FILL(right);
+            FILL(parent);
+            FILL(order);
+            FILL(place);
+            FILL(height);
+            FILL(key);
+            table_size = next_free = entry = UNTOUCHED;
+            number = xdvdfs_write_list(count, SLICE(0, start, 1), SLICE(1, len, 1), SLICE(2, size, 1), SLICE(3, kind, 1), SLICE(4, (const uint8_t *)"a", 1), 40,
+                                       SLICE(5, left, 1), SLICE(6, right, 1), SLICE(7, parent, 1), SLICE(8, height, 1), SLICE(9, key, 1), SLICE(10, order, 1),
+                                       SLICE(11, place, 1), SLICE(12, out, 2048), &table_size, &next_free, &entry);
+            if (count == 0)
+                should = EMPTY(12) ? XDVDFS_BUFFER_TOO_SMALL : XDVDFS_DONE;
+            else
+                should = missing == 4 ? XDVDFS_BAD_BYTE : missing == 12 ? XDVDFS_BUFFER_TOO_SMALL : XDVDFS_ROOM;
+            EXPECT(count ? "write_list of one" : "write_list of none", number, should);
+            EXPECT("write_list: entry", entry, should == XDVDFS_BAD_BYTE ? 0 : UNTOUCHED);
+            EXPECT("write_list: table_size", table_size, should == XDVDFS_DONE ? 2048 : UNTOUCHED);
+            EXPECT("write_list: next_free", next_free, should == XDVDFS_DONE ? 40 : UNTOUCHED);
+            EXPECT("write_list: out", same_bytes(out, sizeof out, should == XDVDFS_DONE ? 0xff : 0x4d), 1);
+#define AFTER(i, x)                                                                                                                                  \
+    if (should == XDVDFS_ROOM || EMPTY(i))                                                                                                           \
+        IS_FILL("write_list: " #x, x);                                                                                                               \
+    else                                                                                                                                             \
+        IS_ZERO("write_list: " #x, x)
+            AFTER(5, left);
+            AFTER(6, right);
+            AFTER(7, parent);
+            AFTER(8, height);
+            AFTER(9, key);
+            AFTER(10, order);
+            AFTER(11, place);
+#undef AFTER
+        }
+}
+
+static void planning(void)
+{
+    const uint32_t first[1] = {0}, share_of_one[1] = {1}, share_of_none[1] = {0}, start[1] = {0}, len[1] = {1};
+    const uint8_t kind[1] = {XDVDFS_KIND_FILE};
+    const uint64_t value[1] = {1};
+    uint32_t sizes[1], tables[1], sectors[1], sized[1], key[1], size[1], next_free, entry, directory, number, should, directories, entries;
+    uint16_t left[1], right[1], parent[1], order[1];
+    uint8_t height[1];
+    int missing;
+    for (entries = 0; entries <= 1; entries++)
+        for (directories = 0; directories <= 1; directories++)
+            for (missing = ALL; missing <= 17; missing++) { /* 0 to 6 are read, 7 to 9 given back, 10 to 17 scratch */
+                const uint32_t *share = entries ? share_of_one : share_of_none;
+                FILL(sizes);
+                FILL(tables);
+                FILL(sectors);
+                FILL(sized);
+                FILL(key);
+                FILL(size);
+                FILL(left);
+                FILL(right);
+                FILL(parent);
+                FILL(order);
+                FILL(height);
+                next_free = entry = directory = UNTOUCHED;
+                number = xdvdfs_plan(directories, entries, SLICE(0, first, 1), SLICE(1, share, 1), SLICE(2, start, 1), SLICE(3, len, 1), SLICE(4, kind, 1),
+                                     SLICE(5, value, 1), SLICE(6, (const uint8_t *)"a", 1), SLICE(7, sizes, 1), SLICE(8, tables, 1), SLICE(9, sectors, 1),
+                                     SLICE(10, sized, 1), SLICE(11, left, 1), SLICE(12, right, 1), SLICE(13, parent, 1), SLICE(14, height, 1), SLICE(15, key, 1),
+                                     SLICE(16, size, 1), SLICE(17, order, 1), &next_free, &entry, &directory);
+                should = XDVDFS_DONE;
+                if (directories && (EMPTY(0) || EMPTY(1) || EMPTY(7) || EMPTY(8) || EMPTY(10)))
+                    should = XDVDFS_ROOM;
+                else if (entries && (EMPTY(2) || EMPTY(3) || EMPTY(4) || EMPTY(5) || EMPTY(9) || EMPTY(17)))
+                    should = XDVDFS_ROOM;
+                else if (directories && entries && missing >= 11 && missing <= 16)
+                    should = XDVDFS_ROOM;
+                else if (directories == 0)
+                    should = XDVDFS_BAD_TREE;
+                else if (entries && EMPTY(6))
+                    should = XDVDFS_BAD_BYTE;
+                EXPECT("plan", number, should);
+                EXPECT("plan: entry", entry, should == XDVDFS_BAD_BYTE ? 0 : UNTOUCHED);
+                EXPECT("plan: directory", directory, UNTOUCHED);
+                EXPECT("plan: next_free", next_free, should != XDVDFS_DONE ? UNTOUCHED : entries ? 35 : 34);
+                if (should == XDVDFS_DONE) {
+                    EXPECT("plan: size", sizes[0], entries ? 16 : 2048);
+                    EXPECT("plan: table", tables[0], 33);
+                    if (entries)
+                        EXPECT("plan: sector", sectors[0], 34);
+                    else
+                        IS_FILL("plan: sectors", sectors);
+                } else {
+                    IS_FILL("plan: sizes", sizes);
+                    IS_FILL("plan: tables", tables);
+                    IS_FILL("plan: sectors", sectors);
+                }
+#define AFTER(i, x)                                                                                                                                  \
+    if (should == XDVDFS_ROOM || EMPTY(i))                                                                                                           \
+        IS_FILL("plan: " #x, x);                                                                                                                     \
+    else                                                                                                                                             \
+        IS_ZERO("plan: " #x, x)
+                AFTER(10, sized);
+                AFTER(11, left);
+                AFTER(12, right);
+                AFTER(13, parent);
+                AFTER(14, height);
+                AFTER(15, key);
+                AFTER(16, size);
+                AFTER(17, order);
+#undef AFTER
+            }
+}
+
+/* A root with the directory `d` and the file `a`; the share of `d` is `a` once more, or, with 2 for its first, an entry of its own. `entries` is how many there are, `places` how many
+ * the column of orders has, `nodes` how many those of the tree have. */
+static uint32_t plan_two(uint32_t first_of_d, uint32_t entries, size_t places, size_t nodes, uint32_t *sectors, uint32_t *next_free, uint32_t *entry)
+{
+    const uint32_t first[2] = {0, first_of_d}, share[2] = {first_of_d == 2 ? 1 : 2, 1}, start[3] = {0, 1, 1}, len[3] = {1, 1, 1};
+    const uint8_t kind[3] = {XDVDFS_KIND_DIRECTORY, XDVDFS_KIND_FILE, XDVDFS_KIND_FILE};
+    const uint64_t value[3] = {1, 1, 1};
+    uint32_t sizes[2], tables[2], sized[2], key[3], size[3], directory = UNTOUCHED;
+    uint16_t left[3], right[3], parent[3], order[3];
+    uint8_t height[3];
+    return xdvdfs_plan(2, entries, first, 2, share, 2, start, 3, len, 3, kind, 3, value, 3, (const uint8_t *)"da", 2, sizes, 2, tables, 2, sectors, 3, sized, 2, left,
+                       nodes, right, nodes, parent, nodes, height, nodes, key, nodes, size, nodes, order, places, next_free, entry, &directory);
+}
+
+static void shares(void)
+{
+    uint32_t sectors[3] = {UNTOUCHED, UNTOUCHED, UNTOUCHED}, next_free = UNTOUCHED, entry = UNTOUCHED;
+    int missing = NONE;
+    /* the file lies in both shares: it takes 35 in the root's and 36 in that of `d`, and keeps the later */
+    EXPECT("plan of two shares", plan_two(1, 2, 3, 3, sectors, &next_free, &entry), XDVDFS_DONE);
+    EXPECT("plan of two shares: d", sectors[0], 34);
+    EXPECT("plan of two shares: a", sectors[1], 36);
+    EXPECT("plan of two shares: next_free", next_free, 37);
+    /* the orders have three entries together */
+    EXPECT("plan of two shares in two places", plan_two(1, 2, 2, 3, sectors, &next_free, &entry), XDVDFS_ROOM);
+    EXPECT("plan of two shares in two places: entry", entry, UNTOUCHED);
+    /* entry 1 lies in no share: its sector stays as it was. The tree's columns need a place for the largest share alone */
+    sectors[1] = UNTOUCHED;
+    EXPECT("plan with an entry in no share", plan_two(2, 3, 3, 1, sectors, &next_free, &entry), XDVDFS_DONE);
+    EXPECT("plan with an entry in no share: d", sectors[0], 34);
+    EXPECT("plan with an entry in no share: it", sectors[1], UNTOUCHED);
+    EXPECT("plan with an entry in no share: the file", sectors[2], 35);
+    EXPECT("plan with an entry in no share: next_free", next_free, 36);
+}
+
+/* Names that are listed and not found, in tables that the strict check accepts */
+static void hidden(void)
+{
+    /* m, its left child c, and c's right child z */
+    static const uint8_t mcz[48] = {4, 0, 0, 0, 34, 0, 0, 0, 1, 0, 0, 0, 32, 1, 'm', 255, 0, 0, 8, 0, 35, 0, 0, 0,
+                                    1, 0, 0, 0, 32, 1, 'c', 255, 0, 0, 0, 0, 36, 0, 0, 0, 1, 0, 0, 0, 32, 1, 'z', 255};
+    /* m, and at 1,020 its right child z: the link is 255 */
+    static uint8_t far_child[1036];
+    uint32_t list[4], scratch[5], offset = UNTOUCHED, headers = UNTOUCHED;
+    uint64_t wide[5];
+    struct xdvdfs_fields fields;
+    size_t count = UNTOUCHED, place;
+    int missing = NONE;
+    memset(far_child, 0xff, sizeof far_child);
+    memcpy(far_child, mcz, 16);
+    memcpy(far_child + 1020, mcz + 32, 16);
+    far_child[0] = 0;
+    far_child[2] = 255;
+    far_child[3] = 0;
+    EXPECT("check m c z", xdvdfs_check_table(mcz, 48, 0, 0, 48, list, 4, wide, 5, &count, &offset), XDVDFS_DONE);
+    EXPECT("check m c z: count", count, 3);
+    EXPECT("look z up", xdvdfs_look_up(mcz, 48, 0, 0, 48, (const uint8_t *)"z", 1, &fields, &place, &offset, &headers), XDVDFS_DOES_NOT_EXIST);
+    EXPECT("check m z", xdvdfs_check_table(far_child, 1036, 0, 0, 1036, list, 4, wide, 5, &count, &offset), XDVDFS_DONE);
+    EXPECT("check m z: listed", count == 2 && list[1] == 1020, 1);
+    EXPECT("walk m z", xdvdfs_walk(far_child, 1036, 0, 0, 1036, list, 4, scratch, 5, &count, &offset), XDVDFS_DONE);
+    EXPECT("walk m z: listed", count == 2 && list[1] == 1020, 1);
+    EXPECT("look z up at 1,020", xdvdfs_look_up(far_child, 1036, 0, 0, 1036, (const uint8_t *)"z", 1, &fields, &place, &offset, &headers), XDVDFS_DOES_NOT_EXIST);
+    EXPECT("find z at 1,020", xdvdfs_find_path(far_child, 1036, 0, 0, 1036, (const uint8_t *)"/z", 2, &fields, &place, &offset), XDVDFS_DOES_NOT_EXIST);
+}
+
+/* A ring of two entries: the list is full however long it is */
+static void ringed(void)
+{
+    static uint8_t ring[48];
+    static uint32_t list[5000], scratch[5001];
+    static uint64_t wide[5001];
+    uint32_t offset = UNTOUCHED;
+    size_t count = UNTOUCHED, n;
+    int missing = NONE;
+    memcpy(ring, abc, 48);
+    ring[16] = 8; /* a's left child is c, and c's left child is a */
+    ring[32] = 4;
+    for (n = 0; n <= 5000; n += 1000) {
+        EXPECT("walk a ring", xdvdfs_walk(ring, 48, 0, 0, 48, list, n, scratch, n + 1, &count, &offset), XDVDFS_WALK_FULL);
+        EXPECT("walk a ring: count", count, UNTOUCHED);
+    }
+    /* the strict check meets a second time what it listed: a's left child is a itself */
+    ring[16] = 4;
+    EXPECT("check a ring", xdvdfs_check_table(ring, 48, 0, 0, 48, list, 5000, wide, 5001, &count, &offset), XDVDFS_SHARED);
+    EXPECT("check a ring: offset", offset, 16);
+    EXPECT("check a ring with one place", xdvdfs_check_table(ring, 48, 0, 0, 48, list, 1, wide, 2, &count, &offset), XDVDFS_WALK_FULL);
+}
+
+static void others(void)
+{
+    uint32_t next = 33, start = UNTOUCHED;
+    int missing = 0;
+    EXPECT("write_descriptor", xdvdfs_write_descriptor(NULL, 0, 33, 48), XDVDFS_BUFFER_TOO_SMALL);
+    /* these have no slice */
+    missing = NONE;
+    EXPECT("first_sector", xdvdfs_first_sector(), 33);
+    EXPECT("required_sectors", xdvdfs_required_sectors(0), 1);
+    EXPECT("take_sectors", xdvdfs_take_sectors(&next, 2049, &start), XDVDFS_DONE);
+    EXPECT("take_sectors: start", start, 33);
+    EXPECT("take_sectors: next", next, 35);
+}
+
+static void texts(void)
+{
+    static const uint32_t known[] = {0, 1, 2, 3, 4, 5, 6, 7, 8, 9, 10, 11, 12, 20, 21, 22, 23, 24, 25, 26, 27, 28, 30, 31, 32};
+    enum { KNOWN = sizeof known / sizeof *known };
+    const char *other = xdvdfs_text(UINT32_MAX);
+    int missing = NONE;
+    unsigned i, j;
+    EXPECT("text of no number", other != NULL && other[0] != 0, 1);
+    for (i = 0; i < 1000; i++) {
+        const char *text = xdvdfs_text(i);
+        int is_known = 0;
+        for (j = 0; j < KNOWN; j++)
+            if (known[j] == i)
+                is_known = 1;
+        EXPECT("text", text != NULL && text[0] != 0, 1);
+        if (text != NULL)
+            EXPECT("text: of its own", strcmp(text, other) != 0, is_known);
+    }
+    for (i = 0; i < KNOWN; i++)
+        for (j = 0; j < i; j++)
+            EXPECT("texts differ", strcmp(xdvdfs_text(known[i]), xdvdfs_text(known[j])) != 0, 1);
+    EXPECT("version", strlen(XDVDFS_VERSION) >= 5 && XDVDFS_VERSION_NUMBER > 0, 1);
+}
+
+int main(void)
+{
+    reading();
+    walking();
+    adding();
+    serialising();
+    listing();
+    planning();
+    shares();
+    hidden();
+    ringed();
+    others();
+    texts();
+    printf("bindings/c/tests: %d compared, %d differ\n", tried, wrong);
+    return wrong != 0;
+}
