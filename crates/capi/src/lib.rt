@@ -125,21 +125,22 @@ fn name_start(n: usize, place: usize) -> usize
     place + 14
 }
 
-// The name of an entry whose first byte stands at a place of the window: where in the window it starts, and its length.
+// The name of an entry whose first byte stands at a place of the window: where in the window it starts, and its
+// length. That is `name_len`, as an entry's fields have it, where the window has as many bytes there.
 #[no_mangle]
 pub extern "C" fn xdvdfs_entry_name(
     w: &[u8],
     place: usize,
-    n: u8,
+    name_len: u32,
     start: &mut usize,
     len: &mut usize,
 )
     ensures { λ _. ⌜ is start ≡ nameStart (was w) place ⌝ }
-    ensures { λ _. ⌜ is len ≡ length (entry.nameOf (was w) place n) ⌝ }
-    ensures { λ _. ⌜ take (is len) (drop (is start) (was w)) ≡ entry.nameOf (was w) place n ⌝ }
+    ensures { λ _. ⌜ is len ≡ length (entry.nameOf (was w) place «name_len») ⌝ }
+    ensures { λ _. ⌜ take (is len) (drop (is start) (was w)) ≡ entry.nameOf (was w) place «name_len» ⌝ }
 {
     *start = name_start(w.len(), place);
-    let name = xdvdfs::entry_name(w, place, n);
+    let name = read_entry::name_part(w, place, name_len);
     *len = name.len();
 }
 

@@ -11,7 +11,7 @@ use Rattle.capi.proofs.xdvdfs_entry_name.Tie as tie
 returns : tie.Need-returns
 returns c =
     let a = c .before .before .before .args in
-    (c .before .name-start .ensures, (ap (λ (r : List ℕ). length r) (c .entry-name .ensures), name-is (a .w .now) (a .place) (a .n) _ _ (c .entry-name .ensures) (c .before .name-start .ensures)))
+    (c .before .name-start .ensures, (ap (λ (r : List ℕ). length r) (c .name-part .ensures), name-is (a .w .now) (a .place) (a .name-len) _ _ (c .name-part .ensures) (c .before .name-start .ensures)))
 
 pub xdvdfs-entry-name-spec : {M : Type 1} → statement M
 xdvdfs-entry-name-spec = tie.close (tie.spec (λ c κs. search needs) (λ c κs. search needs) returns)
