@@ -205,7 +205,7 @@ uint32_t xdvdfs_read_entry(
  */
 void xdvdfs_entry_name(
     const uint8_t *w, size_t w_len,
-    size_t place, uint8_t name_len,
+    size_t place, uint32_t name_len,
     size_t *start,  /* [out] */
     size_t *len);   /* [out] */
 

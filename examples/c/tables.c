@@ -30,7 +30,7 @@ static void refuse(const char *what, uint32_t number)
 static void show(struct window w, struct xdvdfs_fields fields, size_t place)
 {
     size_t start, len;
-    xdvdfs_entry_name(w.bytes, w.len, place, (uint8_t)fields.name_len, &start, &len);
+    xdvdfs_entry_name(w.bytes, w.len, place, fields.name_len, &start, &len);
     printf("%c %u %u ", fields.attributes & XDVDFS_DIRECTORY ? 'd' : 'f', (unsigned)fields.sector, (unsigned)fields.size);
     fwrite(w.bytes + start, 1, len, stdout);
     putchar('\n');

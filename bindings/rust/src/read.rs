@@ -83,7 +83,7 @@ impl<'a> Window<'a> {
     /// The name of an entry whose first byte stands at a place of the window.
     pub fn name(&self, place: usize, name_len: u8) -> &'a [u8] {
         let (mut start, mut len) = (0, 0);
-        unsafe { sys::xdvdfs_entry_name(self.bytes.as_ptr(), self.bytes.len(), place, name_len, &mut start, &mut len) };
+        unsafe { sys::xdvdfs_entry_name(self.bytes.as_ptr(), self.bytes.len(), place, name_len.into(), &mut start, &mut len) };
         &self.bytes[start..start + len]
     }
 

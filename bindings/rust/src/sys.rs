@@ -16,7 +16,7 @@ extern "C" {
         fields: *mut Fields,
         place: *mut usize,
     ) -> u32;
-    pub fn xdvdfs_entry_name(w: *const u8, w_len: usize, place: usize, name_len: u8, start: *mut usize, len: *mut usize);
+    pub fn xdvdfs_entry_name(w: *const u8, w_len: usize, place: usize, name_len: u32, start: *mut usize, len: *mut usize);
     pub fn xdvdfs_look_up(
         w: *const u8,
         w_len: usize,

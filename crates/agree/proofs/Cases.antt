@@ -4,6 +4,7 @@ use mathlib.Core.Path.{_≡_, refl, sym, ap, _∙_}
 use mathlib.Core.List.{List, [], _∷_, map, append-nil}
 use native.Mathlib.Omega.{arith}
 use lib.ListN.{length}
+use Rattle.units.specs.Region.{locateOf}
 use Rattle.layout_bytes.specs.Bytes.{all}
 use Rattle.layout_name.specs.Order.{raised, numberOrder, listOrder, orderBy, nameOrder}
 use Rattle.layout_node.specs.Header.{headerOf, headerBytes, isBlank}
@@ -27,7 +28,7 @@ use Rattle.agree.specs.Cases.{a, b, c, bytesOf, regionOf, starred, Each,
 
 computed : Each starred
 unfolding grown bal items endOf freeOf startAfter sectorsFor tableBytes bytesFrom entryBytes headerBytes raised numberOrder listOrder orderBy nameOrder least
-    anyBad checkOf walkOf walkFrom toEntry push readAt readHere isBlank all headerOf nameOf isIn lookupBy anyHigh chainFrom stepAt byLink
+    anyBad checkOf walkOf walkFrom toEntry push readAt locateOf readHere isBlank all headerOf nameOf isIn lookupBy anyHigh chainFrom stepAt byLink
 computed = (
   (refl, refl),
   (

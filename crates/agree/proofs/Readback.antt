@@ -18,6 +18,7 @@ use Rattle.layout_node.proofs.RoundTrip as node
 use Rattle.dirtab_entry.specs.declared.Kind.{Kind}
 use Rattle.dirtab_entry.specs.declared.Kind.the-variants.{File, Directory}
 use Rattle.read_entry.specs.Entry.{Placed, readHere, readAt, nameOf}
+use Rattle.read_entry.proofs.Located.{read-by-tests}
 use Rattle.table_model.specs.Entry.{Entry, Item, attributes, headerFor, entryBytes}
 use Rattle.agree.specs.Agreement.{placedAt, ReadBack}
 
@@ -80,11 +81,10 @@ module _ (w : List ℕ) (p : ℕ) (y : Item) (rest : List ℕ) (here : drop p w 
 module _ (w : List ℕ) (first : Sector) (t : Region) (place : ℕ) (stands : 2048 * t .sector .0 ≡ 2048 * first .0 + place) where
   pub has-item : (y : Item) (rest : List ℕ) → drop (place + y .offset) w ≡ entryBytes y ++ rest → y .offset < t .size → Fields y
       → ReadBack w first t place y
-  unfolding readAt
   has-item y rest here inside f =
       let b : ℕ = 2048 * t .sector .0 + y .offset in
       let same : b - 2048 * first .0 ≡ place + y .offset = omega arith in
       record {
-        reads = rw (lt-leb (t .size) (y .offset) inside, le-ltb b (2048 * first .0) (omega arith), same) (read-back w (place + y .offset) y rest here (y .offset) f);
+        reads = rw (read-by-tests w first t (y .offset), lt-leb (t .size) (y .offset) inside, le-ltb b (2048 * first .0) (omega arith), same) (read-back w (place + y .offset) y rest here (y .offset) f);
         named = name-here w (place + y .offset) y rest here;
       }

@@ -15,6 +15,7 @@ use Rattle.layout_bytes.specs.Bytes.{all}
 use Rattle.layout_node.specs.Header.{isBlank}
 use Rattle.read_entry.specs.Entry.{readHere, readAt}
 use Rattle.read_entry.specs.Links.{isIn, walkAbsent}
+use Rattle.read_entry.proofs.Located.{read-by-tests}
 use Rattle.read_walk.specs.Walk.{before, push, walkFrom, walkOf}
 use Rattle.read_walk.proofs.Steps.{before-none, before-before, walk-none, walk-nothing, walk-entry}
 use Rattle.avl_model.specs.Tree.{Tree, leaf, node}
@@ -122,11 +123,10 @@ module _ (entry : ℕ → Entry) (align s : ℕ) (w : List ℕ) (first : Sector)
       (rw (all-same 255 14))
 
   pub empty-read : readAt w first t 0 ≡ gives none
-  unfolding readAt
   empty-read =
       let b : ℕ = 2048 * t .sector .0 + 0 in
       let same : b - 2048 * first .0 ≡ stand .place = omega (arith, stand .at-sector) in
-      rw (lt-leb (t .size) 0 (omega arith), le-ltb b (2048 * first .0) (omega (arith, stand .at-sector)), same) (blank-read 0)
+      rw (read-by-tests w first t 0, lt-leb (t .size) 0 (omega arith), le-ltb b (2048 * first .0) (omega (arith, stand .at-sector)), same) (blank-read 0)
 
   empty-walk : (room : ℕ) → walkOf w first t room ≡ gives []
   unfolding walkOf

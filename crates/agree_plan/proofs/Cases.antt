@@ -6,6 +6,7 @@ use mathlib.Core.List.{List, [], _∷_, _++_, map, append-nil}
 use lib.ListN.{length, getD}
 use lib.Seq.{drop-at}
 use Rattle.units.specs.Told.{gives}
+use Rattle.units.specs.Region.{locateOf}
 use Rattle.units.specs.declared.Sector.{Sector}
 use Rattle.layout_bytes.specs.Bytes.{all}
 use Rattle.layout_name.specs.Order.{nameOrder, orderBy, listOrder, numberOrder, raised}
@@ -96,7 +97,7 @@ found-there : pathOf window window-first (rootOf its-plan) (68 ∷ 47 ∷ 66 ∷
       place = 2048;
     })
 unfolding startSector treeIn growFrom checkOf anyBad nameOrder orderBy listOrder numberOrder raised bal placeOf anyFar items endOf freeOf startAfter sectorsFor
-    tableBytes bytesFrom entryBytes headerBytes pathBy trim split unended partsFrom anyHigh readAt readHere isBlank all headerOf nameOf isIn lookupBy chainFrom
+    tableBytes bytesFrom entryBytes headerBytes pathBy trim split unended partsFrom anyHigh readAt locateOf readHere isBlank all headerOf nameOf isIn lookupBy chainFrom
     stepAt byLink
 found-there = refl
 

@@ -16,6 +16,7 @@ use capi_cells::store_checked;
 use capi_cells::store_descriptor;
 use capi_cells::store_entry;
 use capi_cells::store_looked;
+use capi_cells::store_name;
 use capi_cells::store_path;
 use capi_cells::store_planned;
 use capi_cells::store_serialised;
@@ -30,7 +31,6 @@ use xdvdfs::Region;
 use xdvdfs::Sector;
 use xdvdfs::SectorCounter;
 ghost use mathlib.Core.Path.{_≡_};
-ghost use Prim.Native.Nat.{min, _+_};
 ghost use lib.ListN.{length, take, drop};
 ghost use Rattle.units.specs.Told.{numberOf};
 ghost use Rattle.units.specs.Lent.{was, is};
@@ -47,11 +47,11 @@ ghost use Rattle.read_path.specs.Path as following;
 ghost use Rattle.read_walk.specs.Walk as walking;
 ghost use Rattle.strict_rule.specs.Strict as checking;
 ghost use Rattle.capi_cells.specs.Cells.{ofGiven, ofSome, isSome, ofRefusal, atOffset, atFault, afterHeaders};
-ghost use Rattle.capi_cells.specs.Cells.{ofEntry, ofPlanned, ofDirectory};
+ghost use Rattle.capi_cells.specs.Cells.{ofEntry, ofPlanned, ofDirectory, nameStart};
 ghost use Rattle.capi_cells.specs.Parts.{placedFields, placedAt, foundFields, foundPlace, foundOffset};
 ghost use Rattle.capi_cells.specs.Parts.{foundHeaders, rootSector, rootSize, itself, grownRoot, grownCount};
 ghost use Rattle.capi_cells.specs.Parts.{tableSize, nextFree, runStart, runFree};
-ghost use Rattle.capi.specs.Given.{sectorOf, regionOf, descriptorOf, entryOf, nameStart};
+ghost use Rattle.capi.specs.Given.{sectorOf, regionOf, descriptorOf, entryOf};
 
 // The sector, and the table, that numbers stand for.
 fn sector_of(n: u32) -> Sector
@@ -112,35 +112,21 @@ pub extern "C" fn xdvdfs_read_entry(
     store_entry(r, found, fields, place)
 }
 
-// Where the name of an entry starts in a window of n bytes, or the window's end.
-fn name_start(n: usize, place: usize) -> usize
-    ensures { λ r. ⌜ r ≡ min (place + 14) n ⌝ }
-{
-    if n < 14 {
-        return n;
-    }
-    if n - 14 < place {
-        return n;
-    }
-    place + 14
-}
-
-// The name of an entry whose first byte stands at a place of the window: where in the window it starts, and its length.
+// The name of an entry whose first byte stands at a place of the window: where in the window it starts, and its
+// length. That is `name_len`, as an entry's fields have it, where the window has as many bytes there.
 #[no_mangle]
 pub extern "C" fn xdvdfs_entry_name(
     w: &[u8],
     place: usize,
-    n: u8,
+    name_len: u32,
     start: &mut usize,
     len: &mut usize,
 )
     ensures { λ _. ⌜ is start ≡ nameStart (was w) place ⌝ }
-    ensures { λ _. ⌜ is len ≡ length (entry.nameOf (was w) place n) ⌝ }
-    ensures { λ _. ⌜ take (is len) (drop (is start) (was w)) ≡ entry.nameOf (was w) place n ⌝ }
+    ensures { λ _. ⌜ is len ≡ length (entry.nameOf (was w) place «name_len») ⌝ }
+    ensures { λ _. ⌜ take (is len) (drop (is start) (was w)) ≡ entry.nameOf (was w) place «name_len» ⌝ }
 {
-    *start = name_start(w.len(), place);
-    let name = xdvdfs::entry_name(w, place, n);
-    *len = name.len();
+    store_name(w, place, name_len, start, len)
 }
 
 // Looks a name up in a table: the entry's fields, its place in the window and its offset in the table, and the

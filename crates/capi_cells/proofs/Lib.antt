@@ -1,2 +1,3 @@
--- What the cells of an answer hold, case by case.
+-- What the cells of an answer hold, case by case, and where a name stands in a window.
 pub mod Cells
+pub mod Name

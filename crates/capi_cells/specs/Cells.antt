@@ -1,8 +1,9 @@
 -- What a call leaves in the cells that are lent for the values of its answer. (The number that it returns is
 -- `numberOf` of the answer.) A cell for which the answer has no value is unchanged. Assumes nothing.
-use Prim.Native.Nat.{ℕ}
+use Prim.Native.Nat.{ℕ, _+_, min}
 use mathlib.Core.List.{List, [], _∷_}
 use mathlib.Core.Option.{Option, some, none}
+use lib.ListN.{length}
 use Rattle.units.specs.Told.{Told, gives, refuses, pick}
 use Rattle.read_entry.specs.Links.{isIn}
 
@@ -51,3 +52,7 @@ ofPlanned = 1 ∷ 2 ∷ 3 ∷ 4 ∷ 5 ∷ 6 ∷ 10 ∷ []
 
 abbrev pub ofDirectory : List ℕ
 ofDirectory = 7 ∷ 8 ∷ []
+
+-- where the name of an entry starts in a window, or the window's end
+abbrev pub nameStart : List ℕ → ℕ → ℕ
+nameStart w place = min (place + 14) (length w)

@@ -15,6 +15,8 @@ use xdvdfs::Serialised;
 use xdvdfs::Taken;
 use xdvdfs::Walked;
 ghost use mathlib.Core.Path.{_≡_};
+ghost use Prim.Native.Nat.{min, _+_};
+ghost use lib.ListN.{length, take, drop};
 ghost use Rattle.units.specs.Told.{numberOf};
 ghost use Rattle.units.specs.Lent.{was, is};
 ghost use Rattle.dirtab.specs.Serialise as serialising;
@@ -29,7 +31,7 @@ ghost use Rattle.read_path.specs.Path as following;
 ghost use Rattle.read_walk.specs.Walk as walking;
 ghost use Rattle.strict_rule.specs.Strict as checking;
 ghost use Rattle.capi_cells.specs.Cells.{ofGiven, ofSome, isSome, ofRefusal, atOffset, atFault, afterHeaders};
-ghost use Rattle.capi_cells.specs.Cells.{ofEntry, ofPlanned, ofDirectory};
+ghost use Rattle.capi_cells.specs.Cells.{ofEntry, ofPlanned, ofDirectory, nameStart};
 ghost use Rattle.capi_cells.specs.Parts.{fieldsOf, placedFields, placedAt, foundFields, foundPlace};
 ghost use Rattle.capi_cells.specs.Parts.{foundOffset, foundHeaders, rootSector, rootSize, itself, grownRoot};
 ghost use Rattle.capi_cells.specs.Parts.{grownCount, tableSize, nextFree, runStart, runFree};
@@ -102,6 +104,30 @@ pub fn store_entry(r: Read, found: &mut u32, fields: &mut [u32; 6], place: &mut 
         Read::OutOfBounds(_) => 23,
         Read::Truncated(_) => 24,
     }
+}
+
+// Where the name of an entry starts in a window of n bytes, or the window's end.
+fn name_start(n: usize, place: usize) -> usize
+    ensures { λ r. ⌜ r ≡ min (place + 14) n ⌝ }
+{
+    if n < 14 {
+        return n;
+    }
+    if n - 14 < place {
+        return n;
+    }
+    place + 14
+}
+
+// Where in a window the name of an entry starts, and its length.
+pub fn store_name(w: &[u8], place: usize, n: u32, start: &mut usize, len: &mut usize)
+    ensures { λ _. ⌜ is start ≡ nameStart (was w) place ⌝ }
+    ensures { λ _. ⌜ is len ≡ length (entry.nameOf (was w) place n) ⌝ }
+    ensures { λ _. ⌜ take (is len) (drop (is start) (was w)) ≡ entry.nameOf (was w) place n ⌝ }
+{
+    *start = name_start(w.len(), place);
+    let name = read_entry::name_part(w, place, n);
+    *len = name.len();
 }
 
 // The entry's fields, its place in the window, its offset in the table, and the number of headers read; of a

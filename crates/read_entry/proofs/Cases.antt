@@ -5,6 +5,7 @@ use mathlib.Core.List.{List, [], _∷_, _++_}
 use mathlib.Core.Option.{Option, some, none}
 use lib.ListN.{replicate}
 use Rattle.units.specs.Told.{Told, gives, refuses}
+use Rattle.units.specs.Region.{locateOf}
 use Rattle.layout_bytes.specs.Bytes.{all}
 use Rattle.layout_node.specs.Header.{headerOf, isBlank}
 use Rattle.read_entry.specs.Entry.{Placed, readHere, readAt}
@@ -65,5 +66,5 @@ hard =
     ∷ []
 
 pub hard-windows : AllHold hard
-unfolding readAt readHere headerOf all isBlank
+unfolding readAt locateOf readHere headerOf all isBlank
 hard-windows = (refl, (refl, (refl, (refl, (refl, (refl, (refl, (refl, (refl, (refl, (refl, (refl, (refl, (refl, (refl, (refl, (refl, tt)))))))))))))))))

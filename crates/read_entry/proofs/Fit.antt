@@ -1,7 +1,7 @@
 -- What reading at an offset gives, read backwards: where the header stands, that the links of a window of bytes fit in two bytes, and which refusals there
 -- are. The definitions are over lists of any numbers, so that the elements are bytes is a premise here. Assumes nothing.
 use Prim.Native.Nat.{ℕ, zero, suc, _+_, _-_, _*_, _≤_, _<_}
-use mathlib.Core.Path.{_≡_, refl, ap, subst}
+use mathlib.Core.Path.{_≡_, refl, sym, ap, subst, _∙_}
 use mathlib.Core.Bool.{Bool, true, false}
 use mathlib.Core.List.{List, [], _∷_}
 use mathlib.Core.Option.{Option, some, none}
@@ -14,7 +14,8 @@ use Rattle.units.specs.Told.{Told, gives, refuses, pick}
 use Rattle.units.specs.declared.Sector.{Sector}
 use Rattle.units.specs.declared.Region.{Region}
 use Rattle.layout_node.specs.Header.{headerOf, isBlank}
-use Rattle.read_entry.specs.Entry.{Placed, byteOf, readHere, readAt}
+use Rattle.read_entry.specs.Entry.{Placed, readHere, readAt}
+use Rattle.read_entry.proofs.Located.{byteOf, read-by-tests}
 
 -- every element is a byte
 abbrev pub Bytes : List ℕ → Type 0
@@ -100,27 +101,24 @@ module _ (w : List ℕ) (p o : ℕ) where
 module _ (w : List ℕ) (first : Sector) (t : Region) (o : ℕ) where
   -- an entry that is read is what the bytes at the offset say
   pub entry-is : (x : Placed) → readAt w first t o ≡ gives (some x) → entryAt w (byteOf t o - 2048 * first .0) ≡ x
-  unfolding readAt
   entry-is x e =
       let p : ℕ = byteOf t o - 2048 * first .0 in
-      here-gives w p o x (at-gives-by (leb (t .size) o) (ltb (byteOf t o) (2048 * first .0)) o (readHere w p o) x e)
+      here-gives w p o x (at-gives-by (leb (t .size) o) (ltb (byteOf t o) (2048 * first .0)) o (readHere w p o) x (sym (read-by-tests w first t o) ∙ e))
 
   -- .. and its header is in the window
   pub entry-held : (x : Placed) → readAt w first t o ≡ gives (some x) → x .place + 14 ≤ length w
-  unfolding readAt
   entry-held x e =
       let p : ℕ = byteOf t o - 2048 * first .0 in
-      let r : readHere w p o ≡ gives (some x) = at-gives-by (leb (t .size) o) (ltb (byteOf t o) (2048 * first .0)) o (readHere w p o) x e in
+      let r : readHere w p o ≡ gives (some x) = at-gives-by (leb (t .size) o) (ltb (byteOf t o) (2048 * first .0)) o (readHere w p o) x (sym (read-by-tests w first t o) ∙ e) in
       let k : p ≡ x .place = ap (λ (y : Placed). y .place) (here-gives w p o x r) in
       let h : p + 14 ≤ length w = here-held w p o x r in
       omega arith
 
   -- a reading refuses 23 or 24 alone, with the offset
   pub refusal-is : (k : ℕ) (vs : List ℕ) → readAt w first t o ≡ refuses k vs → Faulty o k vs
-  unfolding readAt
   refusal-is k vs e =
       let p : ℕ = byteOf t o - 2048 * first .0 in
-      at-refuses-by (leb (t .size) o) (ltb (byteOf t o) (2048 * first .0)) o (readHere w p o) k vs (here-refuses w p o k vs) e
+      at-refuses-by (leb (t .size) o) (ltb (byteOf t o) (2048 * first .0)) o (readHere w p o) k vs (here-refuses w p o k vs) (sym (read-by-tests w first t o) ∙ e)
 
   module _ (bytes : Bytes w) (x : Placed) (e : readAt w first t o ≡ gives (some x)) where
     fit : (x .header .left .0 < 65536) × (x .header .right .0 < 65536)

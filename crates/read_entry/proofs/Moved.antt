@@ -17,8 +17,9 @@ use Rattle.units.specs.Told.{Told, gives, refuses, pick}
 use Rattle.units.specs.declared.Sector.{Sector}
 use Rattle.units.specs.declared.Region.{Region}
 use Rattle.layout_node.specs.Header.{headerOf, isBlank}
-use Rattle.read_entry.specs.Entry.{Placed, byteOf, readHere, readAt, nameOf}
+use Rattle.read_entry.specs.Entry.{Placed, readHere, readAt, nameOf}
 use Rattle.read_entry.specs.inner.Part.{partOf, placedOn, moved}
+use Rattle.read_entry.proofs.Located.{byteOf, read-by-tests}
 
 -- two tests whose facts follow from each other
 same-by : (a b c d : ℕ) (p q : Bool) → ltb a b ≡ p → ltb c d ≡ q → (a < b → c < d) → (c < d → a < b) → p ≡ q
@@ -64,37 +65,35 @@ module _ (w : List ℕ) (b : ℕ) (held : b ≤ length w) where
 -- f and u: the first sector and the table for the part alone
 module _ (w : List ℕ) (first : Sector) (t : Region) (f : Sector) (u : Region) (f-is : f .0 ≡ 0) (u-is : u .sector .0 ≡ 0) (same : u .size ≡ t .size) where
   pub read-moved : (b : ℕ) → b + 2048 * first .0 ≡ 2048 * t .sector .0 → b ≤ length w → (o : ℕ) → readAt w first t o ≡ moved b (readAt (drop b w) f u o)
-  unfolding readAt
   read-moved b starts held o =
       let p : byteOf t o - 2048 * first .0 ≡ b + o = omega arith in
       let q : byteOf u o - 2048 * f .0 ≡ o = omega arith in
       let i : ltb (byteOf t o) (2048 * first .0) ≡ false = le-ltb (byteOf t o) (2048 * first .0) (omega arith) in
       let j : ltb (byteOf u o) (2048 * f .0) ≡ false = le-ltb (byteOf u o) (2048 * f .0) (omega arith) in
-      rw (i, j, p, q, same) (moved-past b (leb (t .size) o) o (readHere w (b + o) o) (readHere (drop b w) o o) (here-moved w b held o o))
+      rw (read-by-tests w first t o, read-by-tests (drop b w) f u o, i, j, p, q, same) (moved-past b (leb (t .size) o) o (readHere w (b + o) o) (readHere (drop b w) o o) (here-moved w b held o o))
 
   module _ (some-size : t .size ≡ 0 → ⊥) where
     pub read-outside : 2048 * t .sector .0 < 2048 * first .0 → readAt w first t 0 ≡ refuses 24 (0 ∷ [])
-    unfolding readAt
     read-outside h =
         let i : leb (t .size) 0 ≡ false = lt-leb (t .size) 0 (omega arith) in
         let j : ltb (byteOf t 0) (2048 * first .0) ≡ true = lt-ltb (byteOf t 0) (2048 * first .0) (omega arith) in
-        rw (i, j)
+        rw (read-by-tests w first t 0, i, j)
 
     pub read-past : (b : ℕ) → b + 2048 * first .0 ≡ 2048 * t .sector .0 → length w < b → readAt w first t 0 ≡ refuses 24 (0 ∷ [])
-    unfolding readAt readHere
+    unfolding readHere
     read-past b starts h =
         let i : leb (t .size) 0 ≡ false = lt-leb (t .size) 0 (omega arith) in
         let j : ltb (byteOf t 0) (2048 * first .0) ≡ false = le-ltb (byteOf t 0) (2048 * first .0) (omega arith) in
         let k : ltb (length w) (byteOf t 0 - 2048 * first .0 + 14) ≡ true = lt-ltb (length w) (byteOf t 0 - 2048 * first .0 + 14) (omega arith) in
-        rw (i, j, k)
+        rw (read-by-tests w first t 0, i, j, k)
 
     pub read-nothing : readAt [] f u 0 ≡ refuses 24 (0 ∷ [])
-    unfolding readAt readHere
+    unfolding readHere
     read-nothing =
         let i : leb (u .size) 0 ≡ false = lt-leb (u .size) 0 (omega arith) in
         let j : ltb (byteOf u 0) (2048 * f .0) ≡ false = le-ltb (byteOf u 0) (2048 * f .0) (omega arith) in
         let q : byteOf u 0 - 2048 * f .0 ≡ 0 = omega arith in
-        rw (i, j, q)
+        rw (read-by-tests [] f u 0, i, j, q)
 
 -- where a table starts: in the window, at place b, and its part is what is from there on; or outside, and its part is nothing
 pub data Starts (w : List ℕ) (first : Sector) (t : Region) (part : List ℕ) : Type 0 where

@@ -3,11 +3,12 @@
 use Prim.Native.Nat.{ℕ, _+_, _-_, _*_}
 use mathlib.Core.List.{List, [], _∷_}
 use mathlib.Core.Option.{Option, some, none}
-use lib.Dec.{ltb, leb}
+use lib.Dec.{ltb}
 use lib.ListN.{length, take, drop}
 use Rattle.units.specs.Told.{Told, gives, refuses, pick}
 use Rattle.units.specs.declared.Sector.{Sector}
 use Rattle.units.specs.declared.Region.{Region}
+use Rattle.units.specs.Region.{locateOf}
 use Rattle.layout_node.specs.declared.Header.{Header}
 use Rattle.layout_node.specs.Header.{headerOf, isBlank}
 use Rattle.read_entry.specs.declared.Read.{Read}
@@ -28,17 +29,16 @@ readHere w p o =
     (pick (ltb (length w) (p + 14 + headerOf h .«name_len»)) (refuses 24 (o ∷ []))
     (gives (some (record { header = headerOf h; place = p })))))
 
--- the byte of the image at which an offset of a table stands
-abbrev pub byteOf : Region → ℕ → ℕ
-byteOf t o = 2048 * (t .sector .0) + o
+-- at a byte of the image, for offset o of a table: the byte must not stand before the window (else 24, with the
+-- offset); no byte, since the offset is not below the table's size, is the 23 that `locateOf` says
+abbrev pub readFrom : List ℕ → Sector → ℕ → Told ℕ → Told (Option Placed)
+readFrom w first o (gives b) =
+    pick (ltb b (2048 * (first .0))) (refuses 24 (o ∷ [])) (readHere w (b - 2048 * (first .0)) o)
+readFrom w first o (refuses k vs) = refuses k vs
 
--- at an offset of a table: the offset must be below the table's size (else 23, with the offset), and not before the
--- window (else 24)
+-- at an offset of a table
 unfoldable pub readAt : List ℕ → Sector → Region → ℕ → Told (Option Placed)
-readAt w first t o =
-    pick (leb (t .size) o) (refuses 23 (o ∷ []))
-    (pick (ltb (byteOf t o) (2048 * (first .0))) (refuses 24 (o ∷ []))
-    (readHere w (byteOf t o - 2048 * (first .0)) o))
+readAt w first t o = readFrom w first o (locateOf t (record { 0 = o }))
 
 -- the name of an entry: that part of the window, from byte 14 of the entry
 unfoldable pub nameOf : List ℕ → ℕ → ℕ → List ℕ

@@ -29,6 +29,12 @@ fn wide(x: u8) -> usize
     x as usize
 }
 
+fn widen_byte(x: u8) -> u32
+    ensures { λ r. ⌜ r ≡ x ⌝ }
+{
+    x as u32
+}
+
 // The entry at place p of the window, which is the table's offset.
 fn read_here(w: &[u8], p: usize, offset: Offset) -> Read
     requires { ⌜ p < 2 ^ 45 ⌝ }
@@ -85,8 +91,9 @@ pub fn part_of(w: &[u8], first: Sector, table: Region) -> &[u8]
     &w[base..]
 }
 
-// The name of an entry whose first byte stands at a place of the window, as that part of the window itself.
-pub fn name_of(w: &[u8], place: usize, n: u8) -> &[u8]
+// The name of an entry whose first byte stands at a place of the window, as that part of the window itself: what the
+// window has of n bytes from byte 14 of the entry on.
+pub fn name_part(w: &[u8], place: usize, n: u32) -> &[u8]
     ensures { λ r. ⌜ now r ≡ nameOf (was w) place n ⌝ }
 {
     if w.len() < 14 {
@@ -96,10 +103,17 @@ pub fn name_of(w: &[u8], place: usize, n: u8) -> &[u8]
         return &w[..0];
     }
     let from = place + 14;
-    let len = wide(n);
+    let len = n as usize;
     if w.len() - from < len {
         return &w[from..];
     }
     let to = from + len;
     &w[from..to]
+}
+
+// The same for a length as a header has it.
+pub fn name_of(w: &[u8], place: usize, n: u8) -> &[u8]
+    ensures { λ r. ⌜ now r ≡ nameOf (was w) place n ⌝ }
+{
+    name_part(w, place, widen_byte(n))
 }

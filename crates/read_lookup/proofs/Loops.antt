@@ -4,6 +4,7 @@ use mathlib.Core.Path.{_≡_, refl}
 use mathlib.Core.List.{List, [], _∷_, _++_}
 use native.Mathlib.Omega.{arith}
 use Rattle.units.specs.Told.{refuses}
+use Rattle.units.specs.Region.{locateOf}
 use Rattle.layout_bytes.specs.Bytes.{all}
 use Rattle.layout_name.specs.Order.{raised, numberOrder, listOrder, orderBy, nameOrder}
 use Rattle.layout_node.specs.Header.{headerOf, isBlank}
@@ -19,7 +20,7 @@ abbrev itself : List ℕ
 itself = file 0 4 34 97 ++ file 0 4 35 98
 
 itself-again : ReadsAgain (stepAt lookupAbsent itself first (of-size 32) (122 ∷ [])) 0
-unfolding offsetFrom stepAt byLink isIn readAt readHere headerOf all isBlank nameOf nameOrder orderBy listOrder numberOrder raised
+unfolding offsetFrom stepAt byLink isIn readAt locateOf readHere headerOf all isBlank nameOf nameOrder orderBy listOrder numberOrder raised
 itself-again = record { first = 1; second = 2; later = omega arith; offset = 16; at-first = refl; at-second = refl }
 
 pub itself-looped : look itself 32 (122 ∷ []) ≡ refuses 25 []
@@ -30,7 +31,7 @@ abbrev each-other : List ℕ
 each-other = file 0 4 34 97 ++ (file 0 8 35 98 ++ file 0 4 36 99)
 
 each-other-again : ReadsAgain (stepAt lookupAbsent each-other first (of-size 48) (122 ∷ [])) 0
-unfolding offsetFrom stepAt byLink isIn readAt readHere headerOf all isBlank nameOf nameOrder orderBy listOrder numberOrder raised
+unfolding offsetFrom stepAt byLink isIn readAt locateOf readHere headerOf all isBlank nameOf nameOrder orderBy listOrder numberOrder raised
 each-other-again = record { first = 1; second = 3; later = omega arith; offset = 16; at-first = refl; at-second = refl }
 
 pub each-other-looped : look each-other 48 (122 ∷ []) ≡ refuses 25 []

@@ -3,6 +3,7 @@ use Prim.Native.Nat.{ℕ}
 use mathlib.Core.Path.{_≡_, refl}
 use mathlib.Core.List.{List, [], _∷_}
 use Rattle.units.specs.Told.{Told, gives, refuses}
+use Rattle.units.specs.Region.{locateOf}
 use Rattle.layout_bytes.specs.Bytes.{all}
 use Rattle.layout_name.specs.Order.{raised, numberOrder, listOrder, orderBy, nameOrder}
 use Rattle.layout_node.specs.Header.{headerOf, isBlank}
@@ -29,38 +30,38 @@ entry sector size attributes = gives (record {
 
 -- `a/` of a file finds it, and `a/b` and `a//` are 27: the archive bit is not the directory's
 pub file-slash : follow (file 0 0 34 97) (97 ∷ 47 ∷ []) ≡ entry 34 1 32
-unfolding pathBy trim split unended partsFrom lookupBy anyHigh chainFrom stepAt byLink isIn readAt readHere headerOf all isBlank nameOf nameOrder orderBy listOrder numberOrder raised
+unfolding pathBy trim split unended partsFrom lookupBy anyHigh chainFrom stepAt byLink isIn readAt locateOf readHere headerOf all isBlank nameOf nameOrder orderBy listOrder numberOrder raised
 file-slash = refl
 
 pub file-inside : follow (file 0 0 34 97) (97 ∷ 47 ∷ 98 ∷ []) ≡ refuses 27 []
-unfolding pathBy trim split unended partsFrom lookupBy anyHigh chainFrom stepAt byLink isIn readAt readHere headerOf all isBlank nameOf nameOrder orderBy listOrder numberOrder raised
+unfolding pathBy trim split unended partsFrom lookupBy anyHigh chainFrom stepAt byLink isIn readAt locateOf readHere headerOf all isBlank nameOf nameOrder orderBy listOrder numberOrder raised
 file-inside = refl
 
 pub file-two-slashes : follow (file 0 0 34 97) (97 ∷ 47 ∷ 47 ∷ []) ≡ refuses 27 []
-unfolding pathBy trim split unended partsFrom lookupBy anyHigh chainFrom stepAt byLink isIn readAt readHere headerOf all isBlank nameOf nameOrder orderBy listOrder numberOrder raised
+unfolding pathBy trim split unended partsFrom lookupBy anyHigh chainFrom stepAt byLink isIn readAt locateOf readHere headerOf all isBlank nameOf nameOrder orderBy listOrder numberOrder raised
 file-two-slashes = refl
 
 -- a part that is missing is 22, with no count, whichever part it is
 pub missing-part : follow (directory 33 16) (120 ∷ []) ≡ refuses 22 []
-unfolding pathBy trim split unended partsFrom lookupBy anyHigh chainFrom stepAt byLink isIn readAt readHere headerOf all isBlank nameOf nameOrder orderBy listOrder numberOrder raised
+unfolding pathBy trim split unended partsFrom lookupBy anyHigh chainFrom stepAt byLink isIn readAt locateOf readHere headerOf all isBlank nameOf nameOrder orderBy listOrder numberOrder raised
 missing-part = refl
 
 pub missing-before : follow (directory 33 16) (120 ∷ 47 ∷ 100 ∷ []) ≡ refuses 22 []
-unfolding pathBy trim split unended partsFrom lookupBy anyHigh chainFrom stepAt byLink isIn readAt readHere headerOf all isBlank nameOf nameOrder orderBy listOrder numberOrder raised
+unfolding pathBy trim split unended partsFrom lookupBy anyHigh chainFrom stepAt byLink isIn readAt locateOf readHere headerOf all isBlank nameOf nameOrder orderBy listOrder numberOrder raised
 missing-before = refl
 
 -- a directory that names its own table: `/d/D/d` is found in it, and `d//` looks for the empty name
 pub inside-itself : follow (directory 33 16) (47 ∷ 100 ∷ 47 ∷ 68 ∷ 47 ∷ 100 ∷ []) ≡ entry 33 16 16
-unfolding pathBy trim split unended partsFrom lookupBy anyHigh chainFrom stepAt byLink isIn readAt readHere headerOf all isBlank nameOf nameOrder orderBy listOrder numberOrder raised
+unfolding pathBy trim split unended partsFrom lookupBy anyHigh chainFrom stepAt byLink isIn readAt locateOf readHere headerOf all isBlank nameOf nameOrder orderBy listOrder numberOrder raised
 inside-itself = refl
 
 pub inside-empty-name : follow (directory 33 16) (100 ∷ 47 ∷ 47 ∷ []) ≡ refuses 22 []
-unfolding pathBy trim split unended partsFrom lookupBy anyHigh chainFrom stepAt byLink isIn readAt readHere headerOf all isBlank nameOf nameOrder orderBy listOrder numberOrder raised
+unfolding pathBy trim split unended partsFrom lookupBy anyHigh chainFrom stepAt byLink isIn readAt locateOf readHere headerOf all isBlank nameOf nameOrder orderBy listOrder numberOrder raised
 inside-empty-name = refl
 
 -- inside a directory of size 0 every name is 21
 pub inside-size-zero : follow (directory 33 0) (100 ∷ 47 ∷ 120 ∷ []) ≡ refuses 21 []
-unfolding pathBy trim split unended partsFrom lookupBy anyHigh chainFrom stepAt byLink isIn readAt readHere headerOf all isBlank nameOf nameOrder orderBy listOrder numberOrder raised
+unfolding pathBy trim split unended partsFrom lookupBy anyHigh chainFrom stepAt byLink isIn readAt locateOf readHere headerOf all isBlank nameOf nameOrder orderBy listOrder numberOrder raised
 inside-size-zero = refl
 
 -- a byte above 127 is 2, also in a part that would not be reached

@@ -5,6 +5,7 @@ use mathlib.Core.List.{List, [], _∷_, _++_}
 use mathlib.Core.Option.{Option, some, none}
 use lib.ListN.{replicate}
 use Rattle.units.specs.Told.{Told, gives, refuses}
+use Rattle.units.specs.Region.{locateOf}
 use Rattle.units.specs.declared.Region.{Region}
 use Rattle.layout_bytes.specs.Bytes.{all}
 use Rattle.layout_node.specs.Header.{headerOf, isBlank}
@@ -36,15 +37,15 @@ name-of o = nameAt window (record { 0 = 33 }) (record { sector = record { 0 = 33
 -- a directory is gone into, a file is 27, no entry 22, an offset at the table's end 23
 pub tables :
     (table-of 0 ≡ gives (record { sector = record { 0 = 34 }; size = 2048 })) × (table-of 16 ≡ refuses 27 []) × (table-of 32 ≡ refuses 22 []) × (table-of 48 ≡ refuses 23 (48 ∷ []))
-unfolding tableAt headerEntered readAt readHere headerOf all isBlank
+unfolding tableAt headerEntered readAt locateOf readHere headerOf all isBlank
 tables = (refl, refl, refl, refl)
 
 -- a link of 0xff leads to byte 1,020, one of 0xffff nowhere
 pub links :
     (left-of 0 ≡ gives (some 16)) × (right-of 0 ≡ gives (some 32)) × (left-of 16 ≡ gives (some 1020)) × (right-of 16 ≡ gives none) × (left-of 32 ≡ gives none) × (right-of 48 ≡ refuses 23 (48 ∷ []))
-unfolding leftAt rightAt byLink isIn readAt readHere headerOf all isBlank
+unfolding leftAt rightAt byLink isIn readAt locateOf readHere headerOf all isBlank
 links = (refl, refl, refl, refl, refl, refl)
 
 pub names : (name-of 0 ≡ 100 ∷ []) × (name-of 16 ≡ 102 ∷ []) × (name-of 32 ≡ []) × (name-of 48 ≡ [])
-unfolding nameAt nameOf readAt readHere headerOf all isBlank
+unfolding nameAt nameOf readAt locateOf readHere headerOf all isBlank
 names = (refl, refl, refl, refl)

@@ -4,6 +4,7 @@ use mathlib.Core.Path.{_≡_, refl}
 use mathlib.Core.List.{List, [], _∷_, _++_}
 use lib.ListN.{replicate}
 use Rattle.units.specs.Told.{Told, gives, refuses}
+use Rattle.units.specs.Region.{locateOf}
 use Rattle.layout_bytes.specs.Bytes.{all}
 use Rattle.layout_node.specs.Header.{headerOf, isBlank}
 use Rattle.read_entry.specs.Entry.{readHere, readAt}
@@ -61,5 +62,5 @@ hard =
     ∷ []
 
 pub hard-tables : AllHold hard
-unfolding walkOf walkFrom toEntry push isIn readAt readHere headerOf all isBlank
+unfolding walkOf walkFrom toEntry push isIn readAt locateOf readHere headerOf all isBlank
 hard-tables = (refl, (refl, (refl, (refl, (refl, (refl, (refl, (refl, (refl, (refl, (refl, (refl, (refl, (refl, (refl, tt)))))))))))))))

@@ -38,7 +38,7 @@ use Rattle.reader.proofs.Contracts.{held, known-held, fields, lows, Fie
 use Rattle.reader.proofs.Answers.{Answer, ofReader, ofFields}
 
 -- the code that they have in common: each field of the reader is copied to a local, and f is called on the four
-abbrev copies : ℕ → ℕ → Body
+abbrev pub copies : ℕ → ℕ → Body
 copies i k = assign (place i []) (rvOpd (copy (place 1 (field k ∷ []))))
 
 abbrev pub asks : Ty → Name → Fn

@@ -13,7 +13,6 @@ use contract.Lifetimes.{Lfts, Within}
 use types.Kit.{Given, ‵, _⊛_, given, _$_, _∵_, !, qed, use1, split, learn, frame, done}
 use denote.RattleType.{RattleType, Denots, Valss, owns}
 use denote.Builtin.{u8, u32}
-use denote.Ref.{now}
 use denote.Signature.{Slot, plain, shrSliceOf, meetAt, namedLft}
 use denote.Slice.{sliceVal, slice-vals, shr-slice-tells, ShrSlice}
 use denote.Struct.Declared.{Declared}
@@ -25,8 +24,6 @@ use Rattle.units.proofs.Region as Region
 use Rattle.units.proofs.Region.Laws as Region′
 use Rattle.units.proofs.Offset as Offset
 use Rattle.units.proofs.Offset.Laws as Offset′
-use Rattle.read_lookup.specs.Lookup.{told, lookupOf}
-use Rattle.read_lookup.proofs.Looked as Looked
 use Rattle.reader.specs.declared.Reader.{Reader}
 use Rattle.reader.specs.Reader.{opened, placedAt}
 use Rattle.reader.proofs.Reader as T
@@ -81,18 +78,6 @@ placed = record { lifetimes = 1; params = held 0 ∷ offset ∷ []; result = hel
 
 abbrev pub within : Thin
 within = record { lifetimes = 1; params = held 0 ∷ region ∷ []; result = held 0; Says = λ κs a r. r ≡ opened (a .0 .window) (a .0 .first) (a .1 .0) }
-
--- a lookup, by a reader and in a window
-abbrev pub look-up : Thin
-look-up = record { lifetimes = 2; params = held 1 ∷ bytes 2 1 tt ∷ []; result = plain (λ _. Looked.the-row); Says = λ κs a r. told r ≡ lookupOf (now (a .0 .window)) (a .0 .first) (a .0 .table) (now (a .1 .0)) }
-
-abbrev pub find : Thin
-find = record {
-  lifetimes = 2;
-  params = bytes 2 0 tt ∷ sector ∷ region ∷ bytes 2 1 tt ∷ [];
-  result = plain (λ _. Looked.the-row);
-  Says = λ κs a r. told r ≡ lookupOf (now (a .0)) (a .1 .0) (a .1 .1 .0) (now (a .1 .1 .1 .0));
-}
 
 -- ---- a reader is Copy: what it owns is had twice, and one copy is taken apart, to what its fields own
 module _ {M : Type 1} (𝓤 : URA M) (H : Heap 𝓤) (A : Atoms 𝓤) (W : Given 𝓤 H A) (n : ℕ) (κs : Lfts (suc n)) (d : Reader) where

@@ -5,8 +5,9 @@
 --     Locals       of any body: room for its locals, and giving them up
 --     Thin         of any function that lends nothing and asks nothing: its contract, its call, and from a walk to its theorem
 --     Contracts    the contracts of the reader's functions in that form, and how a reader is taken apart
---     Answers      what a reader is asked at its position, and the contracts that so ask
+--     Answers      what a reader is asked at its position, what is sought with it, and the contracts that so ask
 --     Asked        the one walk of `left`, `right`, `enter`, `entry` and `name`
+--     Seeks        the one walk of `look_up` and `find_path`
 pub mod Moves
 pub mod Walk
 pub mod Locals
@@ -14,3 +15,4 @@ pub mod Thin
 pub mod Contracts
 pub mod Answers
 mod Asked
+mod Seeks

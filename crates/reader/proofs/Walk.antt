@@ -7,6 +7,7 @@ use mathlib.Core.List.{List, [], _∷_, _++_}
 use mathlib.Core.Option.{Option, some, none}
 use native.Mathlib.Omega.{arith}
 use Rattle.units.specs.Told.{Told, gives, refuses, pick}
+use Rattle.units.specs.Region.{locateOf}
 use Rattle.units.specs.declared.Sector.{Sector}
 use Rattle.units.specs.declared.Region.{Region}
 use Rattle.layout_bytes.specs.Bytes.{all}
@@ -61,7 +62,7 @@ abbrev pub twice : List ℕ
 twice = file 4 4 34 98 ++ file 0 0 35 97
 
 pub listed-twice : walkOf twice first-sector (of-size 32) 3 ≡ gives (0 ∷ 16 ∷ 16 ∷ [])
-unfolding walkOf walkFrom toEntry push isIn readAt readHere headerOf all isBlank
+unfolding walkOf walkFrom toEntry push isIn readAt locateOf readHere headerOf all isBlank
 listed-twice = refl
 
 -- no function of the offset alone says what is next in that walk

@@ -10,7 +10,9 @@
 //     r.placed(at).enter()                         answers Entered::Into(table)
 //     r.within(table).look_up(b"default.xbe")      answers Looked::Found(h, _, _, _)
 //
-// and h.sector and h.size say where the bytes stand.
+// and h.sector and h.size say where the bytes stand. In one call, where only the entry is asked for:
+//
+//     r.find_path(b"media/default.xbe")            answers PathFound::Entry(h, _)
 //
 // An answer holds no reader, since an enum holds no reference: `look_up`, `left` and `right` answer an offset, for
 // `placed`, and `enter` a table, for `within`.
@@ -27,6 +29,7 @@
 pub use layout_node::Header;
 pub use read_entry::Read;
 pub use read_lookup::Looked;
+pub use read_path::PathFound;
 pub use read_place::Entered;
 pub use read_place::Linked;
 pub use units::Offset;
@@ -36,6 +39,7 @@ ghost use mathlib.Core.Path.{_≡_};
 ghost use Rattle.units.specs.Lent.{was};
 ghost use Rattle.read_entry.specs.Entry as reading;
 ghost use Rattle.read_lookup.specs.Lookup as lookup;
+ghost use Rattle.read_path.specs.Path as following;
 ghost use Rattle.read_place.specs.Place as place;
 ghost use Rattle.reader.specs.Reader.{opened, placedAt};
 
@@ -89,6 +93,15 @@ impl<'a> Reader<'a> {
             ⌜ lookup.told r ≡ lookup.lookupOf (now (s .window)) (s .first) (s .table) (was name) ⌝ }
     {
         xdvdfs::look_up(self.window, self.first, self.table, name)
+    }
+
+    // Follows a path from the table, wherever the position is. 2, 28, then for each part what its lookup gives, and
+    // 27 where a part but the last is no directory.
+    pub fn find_path(self, path: &[u8]) -> PathFound
+        ensures { λ r. let s = self .entry in
+            ⌜ following.told r ≡ following.pathOf (now (s .window)) (s .first) (s .table) (was path) ⌝ }
+    {
+        xdvdfs::find_path(self.window, self.first, self.table, path)
     }
 
     // The entry at the position: its header and place in the window, or that there is none. 23, 24 with the offset.

@@ -30,7 +30,8 @@ use Rattle.reader.specs.declared.Reader.{Reader}
 use Rattle.reader.proofs.Reader as T
 use Rattle.reader.proofs.Reader.Laws as T′
 use Rattle.reader.proofs.Thin.{tokens, entry}
-use Rattle.reader.proofs.Contracts.{held, new, look-up}
+use Rattle.reader.proofs.Contracts.{held, new}
+use Rattle.reader.proofs.Answers.{Sought, byReader}
 
 module _ {M : Type 1} (𝓤 : URA M) (H : Heap 𝓤) (A : Atoms 𝓤) (W : Given 𝓤 H A) where
   -- what is had beside one of a list's is had beside the list
@@ -82,12 +83,12 @@ module _ {M : Type 1} (𝓤 : URA M) (H : Heap 𝓤) (A : Atoms 𝓤) (W : Given
       moves-it X x vs made =
           qed W (‵ Holding ∷ raw (tokens 𝓤 H A new (κ, tt) (q, tt)) ∷ []) ∵ nothing ! $ use0 W (‵ (X .own x vs)) made $ fjoin ! $ move ! (1 ∷ 0 ∷ []) $ fjoin ! $ move ! (1 ∷ 0 ∷ []) $ frame ! $ done !
 
-    -- where a name at a second lifetime is to be looked up: its token waits beside the calls before, and both tokens go to the last
+    -- where bytes at a second lifetime are to be sought, by x: their token waits beside the calls before, and both tokens go to the last
     module _ (κ′ : Lft) (q′ : Share) where
-      pub opens-beside : (s : RefT (List ℕ)) (first : Sector) (table : Region) (P : Fml) → Is S.the-row first (S′.lowered first ∷ []) → Is R.the-row table (R′.lowered table ∷ [])
-          → ent 𝓤 (sep 𝓤 (tokens 𝓤 H A look-up (κ, (κ′, tt)) (q, (q′, tt))) (sem 𝓤 H A (fsep (Lent s first table) P)))
+      pub opens-beside : (x : Sought) (s : RefT (List ℕ)) (first : Sector) (table : Region) (P : Fml) → Is S.the-row first (S′.lowered first ∷ []) → Is R.the-row table (R′.lowered table ∷ [])
+          → ent 𝓤 (sep 𝓤 (tokens 𝓤 H A (byReader x) (κ, (κ′, tt)) (q, (q′, tt))) (sem 𝓤 H A (fsep (Lent s first table) P)))
           (sep 𝓤 (entry 𝓤 H A new (κ, tt) (q, tt) (to-new s first table) (new-vals s first table)) (⋆ 𝓤 H A ((‵ (flft κ′ q′) ⊛ ‵ ftrue) ∷ ‵ (fsep (Lent s first table) P) ∷ [])))
-      opens-beside s first table P known-first known-table =
+      opens-beside x s first table P known-first known-table =
           qed W ((‵ (flft κ q) ⊛ ‵ (flft κ′ q′) ⊛ ‵ ftrue) ∷ ‵ (fsep (Lent s first table) P) ∷ []) ∵ split ! $ nothing ! $ move ! (1 ∷ 0 ∷ []) $ join ! $
           -- [the window's token; the name's; what the parameters own]
           move ! (0 ∷ 2 ∷ []) $ use2 W (raw (entry 𝓤 H A new (κ, tt) (q, tt) (to-new s first table) (new-vals s first table)) ⊛ ‵ (fsep (Lent s first table) P)) (opens s first table P known-first known-table) $ split ! $
@@ -109,10 +110,10 @@ module _ {M : Type 1} (𝓤 : URA M) (H : Heap 𝓤) (A : Atoms 𝓤) (W : Given
         beside-name [] a vss = beside-first Named ftrue Named (shr-slice-copy 𝓤 H A W (named 1) κ′ u8 .twice name (sought ∷ []))
         beside-name (X ∷ Rs) a vss = beside-rest (X .own (a .0) (vss .0)) (With Rs (a .1) (vss .1)) Named (beside-name Rs (a .1) (vss .1))
 
-        pub looks-up : (P : Fml) → ent 𝓤 (sem 𝓤 H A P) (sep 𝓤 (sem 𝓤 H A P) (sem 𝓤 H A Named)) → (r : Reader) (u : Val)
+        pub seeks-it : (x : Sought) (P : Fml) → ent 𝓤 (sem 𝓤 H A P) (sep 𝓤 (sem 𝓤 H A P) (sem 𝓤 H A Named)) → (r : Reader) (u : Val)
             → ent 𝓤 (⋆ 𝓤 H A (‵ (Holding r u) ∷ raw (tokens 𝓤 H A new (κ, tt) (q, tt)) ∷ ((‵ (flft κ′ q′) ⊛ ‵ ftrue) ⊛ ‵ P) ∷ []))
-            (sep 𝓤 (entry 𝓤 H A look-up (κ, (κ′, tt)) (q, (q′, tt)) (r, (name, tt)) (u ∷ [], (sought ∷ [], tt))) (sem 𝓤 H A P))
-        looks-up P beside r u =
+            (sep 𝓤 (entry 𝓤 H A (byReader x) (κ, (κ′, tt)) (q, (q′, tt)) (r, (name, tt)) (u ∷ [], (sought ∷ [], tt))) (sem 𝓤 H A P))
+        seeks-it x P beside r u =
             qed W (‵ (Holding r u) ∷ (‵ (flft κ q) ⊛ ‵ ftrue) ∷ ((‵ (flft κ′ q′) ⊛ ‵ ftrue) ⊛ ‵ P) ∷ []) ∵ move ! (2 ∷ []) $ split ! $ move ! (1 ∷ []) $ use1 W (‵ P ⊛ ‵ Named) beside $ split ! $
             -- [what the parameters own; what the name owns; the name's token; what the reader owns; the window's token]
             nothing ! $ move ! (2 ∷ 0 ∷ []) $ fjoin ! $ move ! (3 ∷ 0 ∷ []) $ fjoin ! $

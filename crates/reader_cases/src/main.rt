@@ -1,10 +1,11 @@
 // What a reader answers over an image of data/, of which a file holds the bytes from sector 32 on.
 //
-// A function that has a reader in a local is proved by hand, and has no branch in it: each of the first seven opens
+// A function that has a reader in a local is proved by hand, and has no branch in it: each of the first eight opens
 // a reader, moves it and asks it one thing. What stands after them has no reader, and goes by their answers.
 use layout_volume::DescriptorRead;
 use read_entry::Read;
 use read_lookup::Looked;
+use read_path::PathFound;
 use read_place::Entered;
 use read_place::Linked;
 use reader::Reader;
@@ -15,6 +16,7 @@ ghost use mathlib.Core.Path.{_≡_};
 ghost use Rattle.units.specs.Lent.{was};
 ghost use Rattle.read_entry.specs.Entry as reading;
 ghost use Rattle.read_lookup.specs.Lookup as lookup;
+ghost use Rattle.read_path.specs.Path as following;
 ghost use Rattle.read_place.specs.Place as place;
 
 fn find(w: &[u8], first: Sector, table: Region, name: &[u8]) -> Looked
@@ -27,6 +29,12 @@ fn find_within(w: &[u8], first: Sector, table: Region, inner: Region, name: &[u8
     ensures { λ r. ⌜ lookup.told r ≡ lookup.lookupOf (was w) first inner (was name) ⌝ }
 {
     Reader::new(w, first, table).within(inner).look_up(name)
+}
+
+fn find_by_path(w: &[u8], first: Sector, table: Region, path: &[u8]) -> PathFound
+    ensures { λ r. ⌜ following.told r ≡ following.pathOf (was w) first table (was path) ⌝ }
+{
+    Reader::new(w, first, table).find_path(path)
 }
 
 fn entry_at(w: &[u8], first: Sector, table: Region, at: Offset) -> Read
@@ -183,6 +191,27 @@ fn show_path(w: &[u8], first: Sector, table: Region, dir: &[u8], name: &[u8]) {
     }
 }
 
+// A path in one call.
+fn show_found(path: &[u8], a: PathFound) {
+    io::write_all(1, path);
+    io::write_all(1, b": ");
+    match a {
+        PathFound::Entry(h, _) => {
+            let sector = h.sector;
+            show_region(sector, h.size);
+        }
+        PathFound::BadByte => show_refusal(2),
+        PathFound::DirectoryEmpty => show_refusal(21),
+        PathFound::DoesNotExist => show_refusal(22),
+        PathFound::OutOfBounds(_) => show_refusal(23),
+        PathFound::Truncated(_) => show_refusal(24),
+        PathFound::Looped => show_refusal(25),
+        PathFound::IsNotDirectory => show_refusal(27),
+        PathFound::NoDirent => show_refusal(28),
+    }
+    io::write_all(1, b"\n");
+}
+
 fn show_image(w: &[u8]) {
     match layout_volume::read_descriptor(w) {
         DescriptorRead::Volume(d) => {
@@ -198,6 +227,12 @@ fn show_image(w: &[u8]) {
             show_path(w, first, root, b"media", b"Default.xbe");
             show_path(w, first, root, b"media", b"zebra");
             show_path(w, first, root, b"art", b"zebra");
+            show_found(
+                b"/Media/default.XBE",
+                find_by_path(w, first, root, b"/Media/default.XBE"),
+            );
+            show_found(b"art/zebra", find_by_path(w, first, root, b"art/zebra"));
+            show_found(b"/", find_by_path(w, first, root, b"/"));
         }
         DescriptorRead::NoVolume => show_stop(20),
     }

@@ -3,6 +3,7 @@ use Prim.Native.Nat.{ℕ}
 use mathlib.Core.Path.{_≡_, refl}
 use mathlib.Core.List.{List, [], _∷_, _++_}
 use Rattle.units.specs.Told.{Told, gives, refuses}
+use Rattle.units.specs.Region.{locateOf}
 use Rattle.layout_bytes.specs.Bytes.{all}
 use Rattle.layout_name.specs.Order.{numberOrder, listOrder, orderBy, raised, nameOrder}
 use Rattle.layout_node.specs.Header.{headerOf, isBlank}
@@ -40,7 +41,7 @@ pub record Cases : Type 0 where
   pub cut-short : checkOf 4 9 98 97 99 48 3 ≡ refuses 24 (36 ∷ [])
 
 pub cases : Cases
-unfolding checkOf all numberOrder listOrder orderBy raised nameOrder headerOf isBlank readHere readAt nameOf isIn apart placed ordered verdictAt push toEntry strictFrom strictOf
+unfolding checkOf all numberOrder listOrder orderBy raised nameOrder headerOf isBlank readHere readAt locateOf nameOf isIn apart placed ordered verdictAt push toEntry strictFrom strictOf
 cases = record {
   three = refl;
   reached-twice = refl;

@@ -1,44 +1,14 @@
--- `read_entry::name_of` meets its contract: past the window's end `take` and `drop` leave less, and so does the code. Assumes nothing.
-use Prim.Native.Nat.{ℕ, _+_, _-_, _≤_, _<_}
-use mathlib.Core.Path.{_≡_, sym, _∙_}
-use mathlib.Core.List.{List, []}
-use native.Mathlib.Nat.{add-sub-cancel-left}
-use native.Mathlib.Omega.{arith}
-use lib.ListN.{length, take, drop, length-drop, drop-of-length-le}
-use lib.Seq.{take-all, take-nil}
+-- `read_entry::name_of` meets its contract: it is `name_part` at the same length. Assumes nothing.
+use Prim.Native.Nat.{ℕ}
+use mathlib.Core.Path.{_≡_, ap, _∙_}
+use mathlib.Core.List.{List}
 use borrow.Author.Needs.{needs}
 use Rattle.read_entry.specs.Entry.{nameOf}
 use Rattle.read_entry.proofs.name_of.Statement.{statement}
 use Rattle.read_entry.proofs.name_of.Tie as tie
 
-module _ (w : List ℕ) (at n : ℕ) where
-  -- it starts past the end
-  past : length w ≤ at + 14 → [] ≡ nameOf w at n
-  unfolding nameOf
-  past h = sym (rw (drop-of-length-le w h, take-nil n))
-
-  -- it runs past the end
-  cut : (m : ℕ) → (m ≡ n) × (m < 256) → length w - (at + 14) < m → take (length w - (at + 14)) (drop (at + 14) w) ≡ nameOf w at n
-  unfolding nameOf
-  cut m e h =
-      take-all (length w - (at + 14)) (drop (at + 14) w) (simp length-drop (omega arith))
-      ∙ sym (take-all n (drop (at + 14) w) (simp length-drop (omega arith)))
-
-  whole : (m : ℕ) → (m ≡ n) × (m < 256) → take (at + 14 + m - (at + 14)) (drop (at + 14) w) ≡ nameOf w at n
-  unfolding nameOf
-  whole m e = rw (add-sub-cancel-left (at + 14) m, e .0)
-
-returns : tie.Need-returns
-returns c = past _ _ _ (omega arith)
-
-returns-2 : tie.Need-returns-2
-returns-2 c = past _ _ _ (omega arith)
-
-returns-3 : tie.Need-returns-3
-returns-3 c = cut _ _ _ _ (c .before .before .wide .ensures) (c .before .if3 .taken)
+as-long : (w : List ℕ) (at n m : ℕ) (name : List ℕ) → m ≡ n → name ≡ nameOf w at m → name ≡ nameOf w at n
+as-long w at n m name e is = is ∙ ap (nameOf w at) e
 
 pub name-of-spec : {M : Type 1} → statement M
-name-of-spec = tie.close (tie.spec (λ c. search needs) returns (λ c. search needs) (λ c. search needs) returns-2
-    (λ c. search needs) (λ c κs. search needs) (λ c. search needs) (λ c. search needs) (λ c. search needs)
-    (λ c. search needs) returns-3 (λ c. search needs) (λ c. search needs) (λ c. search needs) (λ c. search needs)
-    (λ c. search whole))
+name-of-spec = tie.close (tie.spec (λ c κs. search needs) (λ c κs. search needs) (λ c. search as-long))

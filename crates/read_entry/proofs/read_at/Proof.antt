@@ -24,16 +24,16 @@ use Rattle.read_entry.proofs.read_at.Tie as tie
 module _ (w : List ℕ) (first : Sector) (t : Region) (o : Offset) (l : Located) (is : region.told l ≡ locateOf t o) where
   outside : (p : Offset) → l ≡ located.OutOfBounds p → told (OutOfBounds p) ≡ readAt w first t (o .0)
   unfolding readAt
-  outside p e = let f = out-is t o l is p e in rw (le-leb _ _ (f .0), f .1)
+  outside p e = rw (← is, e)
 
   module _ (byte from : ℕ) (at : l ≡ located.Byte byte) (from-is : from ≡ 2048 * first .0) where
     before : byte < from → told (Truncated o) ≡ readAt w first t (o .0)
     unfolding readAt
-    before h = let f = byte-is t o l is byte at in rw (lt-leb _ _ (f .0), ← (f .1), ← from-is, lt-ltb _ _ h)
+    before h = rw (← is, at, ← from-is, lt-ltb _ _ h)
 
     within : (r : Read) → from ≤ byte → told r ≡ readHere w (byte - from) (o .0) → told r ≡ readAt w first t (o .0)
     unfolding readAt
-    within r h e = let f = byte-is t o l is byte at in rw (lt-leb _ _ (f .0), ← (f .1), ← from-is, le-ltb _ _ h) e
+    within r h e = rw (← is, at, ← from-is, le-ltb _ _ h) e
 
   small : (byte from : ℕ) → l ≡ located.Byte byte → t .sector .0 < 2 ^ 32 → o .0 < 2 ^ 32 → byte - from < 2 ^ 45
   small byte from at s h = omega (arith, byte-is t o l is byte at .1)

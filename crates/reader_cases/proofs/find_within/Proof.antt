@@ -43,8 +43,9 @@ use Rattle.reader.proofs.Reader.look_up.Symbol as asked-def
 use Rattle.reader.proofs.Reader.look_up.Met as asked-thm
 use Rattle.reader.proofs.Locals.{allocs-all, copied, frees-all}
 use Rattle.reader.proofs.Thin.{Thin, Knowns, triple, entry, asks-at, Post, ends, met}
-use Rattle.reader.proofs.Contracts.{bytes, sector, region, known-bytes, known-sector, known-region, new, within, look-up}
-use Rattle.reader_cases.proofs.Opens.{typed-held, window, to-new, new-vals, moves-it, opens-beside, sought, Named, beside-name, looks-up}
+use Rattle.reader.proofs.Contracts.{bytes, sector, region, known-bytes, known-sector, known-region, new, within}
+use Rattle.reader.proofs.Answers.{byReader, by-name}
+use Rattle.reader_cases.proofs.Opens.{typed-held, window, to-new, new-vals, moves-it, opens-beside, sought, Named, beside-name, seeks-it}
 use Rattle.reader_cases.proofs.find_within.Key.{name as #find-within}
 use Rattle.reader_cases.proofs.find_within.Statement as stated
 use Rattle.reader_cases.proofs.find_within.Code as code
@@ -87,7 +88,7 @@ module _ {M : Type 1} (𝓤 : URA M) (H : Heap 𝓤) (A : Atoms 𝓤) (W : Given
       ∷ []) (s, (first, (table, (inner, tt)))) (v ∷ [], (S′.lowered first ∷ [], (R′.lowered table ∷ [], (R′.lowered inner ∷ [], tt))))
 
   module _ (C : Calls 𝓤 H) (Λ : Loops 𝓤 H) (fm : FmC 𝓤 H (W .laws) C) (known-new : Triple 𝓤 (C new-def.name) (triple 𝓤 H A new))
-      (known-within : Triple 𝓤 (C within-def.name) (triple 𝓤 H A within)) (known : Triple 𝓤 (C asked-def.name) (triple 𝓤 H A look-up)) where
+      (known-within : Triple 𝓤 (C within-def.name) (triple 𝓤 H A within)) (known : Triple 𝓤 (C asked-def.name) (triple 𝓤 H A (byReader by-name))) where
     walk : Is (ShrSlice (named 0) (κs .0) u8) s (v ∷ []) → Is S.the-row first (S′.lowered first ∷ []) → Is R.the-row table (R′.lowered table ∷ [])
         → Is R.the-row inner (R′.lowered inner ∷ []) → Is (ShrSlice (named 1) (κs .1 .0) u8) name (x ∷ [])
         → ent 𝓤 (entry 𝓤 H A find-in κs qs args at) (WpFn 𝓤 H C Λ code.function (v ∷ S′.lowered first ∷ R′.lowered table ∷ R′.lowered inner ∷ x ∷ []) (Post 𝓤 H A find-in κs qs args at))
@@ -102,7 +103,7 @@ module _ {M : Type 1} (𝓤 : URA M) (H : Heap 𝓤) (A : Atoms 𝓤) (W : Given
         move ! (16 ∷ []) $ use1 W
         (raw (entry 𝓤 H A new (κs .0, tt) (qs .0, tt) (to-new 𝓤 H A W (κs .0) (qs .0) s first table) (new-vals 𝓤 H A W (κs .0) (qs .0) s first table)) ⊛
         ((‵ (flft (κs .1 .0) (qs .1 .0)) ⊛ ‵ ftrue) ⊛ ‵ Kept))
-        (opens-beside 𝓤 H A W (κs .0) (qs .0) (κs .1 .0) (qs .1 .0) s first table Rest known-first known-table) $ split ! $
+        (opens-beside 𝓤 H A W (κs .0) (qs .0) (κs .1 .0) (qs .1 .0) by-name s first table Rest known-first known-table) $ split ! $
         asks-at ! fm new known-new (κs .0, tt) (qs .0, tt) (to-new 𝓤 H A W (κs .0) (qs .0) s first table) (new-vals 𝓤 H A W (κs .0) (qs .0) s first table)
         (and-then ! (copied ! 14 refl) (and-then ! (copied ! 12 refl) (and-then ! (copied ! 10 refl) (no-more !)))) (λ u r e is.
         -- [what the reader owns; its token; the name's token and what the parameters own; room for _7; …; _0; …]
@@ -111,12 +112,12 @@ module _ {M : Type 1} (𝓤 : URA M) (H : Heap 𝓤) (A : Atoms 𝓤) (W : Given
         (moves-it 𝓤 H A W (κs .0) (qs .0) r u R.the-row inner (R′.lowered inner ∷ []) (LL.makes R.the-type R′.the-plain 𝓤 H A inner _ known-inner)) $
         asks-at ! fm within known-within (κs .0, tt) (qs .0, tt) (r, (inner, tt)) (u ∷ [], (R′.lowered inner ∷ [], tt)) (and-then ! (copied ! 2 refl) (and-then ! (copied ! 8 refl) (no-more !))) (λ u₂ r₂ e₂ is₂.
         land ! (from ! (stop !)) (init ! 5 refl (typed-held 𝓤 H A W (κs .0) r₂ u₂ is₂)) $
-        use3 W (raw (entry 𝓤 H A look-up κs qs (r₂, (name, tt)) (u₂ ∷ [], (x ∷ [], tt))) ⊛ ‵ Kept) (looks-up 𝓤 H A W (κs .0) (qs .0) (κs .1 .0) (qs .1 .0) name Kept beside r₂ u₂) $ split ! $
-        asks-at ! fm look-up known κs qs (r₂, (name, tt)) (u₂ ∷ [], (x ∷ [], tt)) (and-then ! (copied ! 4 refl) (and-then ! (copied ! 6 refl) (no-more !))) (λ u₃ t e₃ is₃.
+        use3 W (raw (entry 𝓤 H A (byReader by-name) κs qs (r₂, (name, tt)) (u₂ ∷ [], (x ∷ [], tt))) ⊛ ‵ Kept) (seeks-it 𝓤 H A W (κs .0) (qs .0) (κs .1 .0) (qs .1 .0) name by-name Kept beside r₂ u₂) $ split ! $
+        asks-at ! fm (byReader by-name) known κs qs (r₂, (name, tt)) (u₂ ∷ [], (x ∷ [], tt)) (and-then ! (copied ! 4 refl) (and-then ! (copied ! 6 refl) (no-more !))) (λ u₃ t e₃ is₃.
         -- [the answer; the tokens; what the parameters own; _7; …; room for _0; …]
         land ! (from ! (stop !)) (init ! 17 refl (EL.lawful N.the-type N′.the-laws 𝓤 H A W tt .typed t _ is₃ .0)) $
         returns ! (look ! 17 refl) $ frees-all ! 3 (_, (_, (_, (_, (_, (_, (_, (_, tt)))))))) refl $
-        by ! (ends 𝓤 H A find-in W knowns κs qs args at t u₃ (subst (λ (y : Reader). look-up .Says κs (y, (name, tt)) t) (e₂ ∙ ap (λ (y : Reader). opened (y .window) (y .first) inner) e) e₃))))))
+        by ! (ends 𝓤 H A find-in W knowns κs qs args at t u₃ (subst (λ (y : Reader). byReader by-name .Says κs (y, (name, tt)) t) (e₂ ∙ ap (λ (y : Reader). opened (y .window) (y .first) inner) e) e₃))))))
 
 pub find-within-spec : {M : Type 1} → stated.statement M
 unfolding code.routine
@@ -125,5 +126,5 @@ find-within-spec 𝓤 H 𝓜 𝓖 𝓡 =
     walk 𝓤 H (𝓖 .A) (givenOf 𝓤 H 𝓜 𝓖) κs qs (a .0) (a .1 .0) (a .1 .1 .0) (a .1 .1 .1 .0) (a .1 .1 .1 .1 .0) (tables 𝓤 H 𝓜 𝓡 code.env .C) (tables 𝓤 H 𝓜 𝓡 code.env .Λ) fm
     (cited 𝓤 H (triple 𝓤 H (𝓖 .A) new) 𝓜 𝓡 code.env new-def.name new-def.routine code.calls-reader·Reader·new (new-thm.met 𝓤 H 𝓜 𝓖 𝓡))
     (cited 𝓤 H (triple 𝓤 H (𝓖 .A) within) 𝓜 𝓡 code.env within-def.name within-def.routine code.calls-reader·Reader·within (within-thm.met 𝓤 H 𝓜 𝓖 𝓡))
-    (cited 𝓤 H (triple 𝓤 H (𝓖 .A) look-up) 𝓜 𝓡 code.env asked-def.name asked-def.routine code.calls-reader·Reader·look-up (asked-thm.met 𝓤 H 𝓜 𝓖 𝓡))
+    (cited 𝓤 H (triple 𝓤 H (𝓖 .A) (byReader by-name)) 𝓜 𝓡 code.env asked-def.name asked-def.routine code.calls-reader·Reader·look-up (asked-thm.met 𝓤 H 𝓜 𝓖 𝓡))
     (are .0) (are .1 .0) (are .1 .1 .0) (are .1 .1 .1 .0) (are .1 .1 .1 .1 .0))

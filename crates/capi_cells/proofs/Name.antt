@@ -8,7 +8,7 @@ use lib.Dec.{leb}
 use lib.ListN.{length, take, drop, drop-of-length-le}
 use borrow.Author.Tests.{leb-true, leb-false}
 use Rattle.read_entry.specs.Entry.{nameOf}
-use Rattle.capi.specs.Given.{nameStart}
+use Rattle.capi_cells.specs.Cells.{nameStart}
 
 -- what is taken is taken again by its length
 taken-again : (n : ℕ) (xs : List ℕ) → take (length (take n xs)) xs ≡ take n xs

@@ -1,2 +1,0 @@
--- Where a name stands in a window.
-pub mod Name
