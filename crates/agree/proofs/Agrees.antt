@@ -29,6 +29,7 @@ use Rattle.agree.proofs.Sized.{empty-size}
 use Rattle.agree.proofs.Holds.{all-back, setting, ready}
 use Rattle.agree.proofs.Walks.{empty-read, walk-written}
 use Rattle.agree.proofs.Reaches.{all-reached, all-sound}
+use Rattle.agree.proofs.Unique.{way-unique}
 
 -- how many entries there can be: an entry takes 16 bytes or more, and the last one starts below 262,144
 module _ (entry : ℕ → Entry) where
@@ -98,11 +99,10 @@ none-in : (entry : ℕ → Entry) (align s : ℕ) (P : Item → Type 0) → AllI
 unfolding items
 none-in entry align s P = tt
 
--- DEMAND 3, of every tree that can be written, and of every set of absent links that has 0 in it
-pub agreement : (absent : List ℕ) → isIn 0 absent ≡ true
-    → (entry : ℕ → Entry) (align s : ℕ) (x : Tree) (w : List ℕ) (first : Sector) (t : Region) (g : Written entry align s x w first t)
-    → Agreement absent w first t (g .stand .place) (items entry align 0 s x)
-agreement absent none entry align s x w first t g = record {
+-- DEMAND 3, of every tree that can be written
+pub agreement : (entry : ℕ → Entry) (align s : ℕ) (x : Tree) (w : List ℕ) (first : Sector) (t : Region) (g : Written entry align s x w first t)
+    → Agreement w first t (g .stand .place) (items entry align 0 s x)
+agreement entry align s x w first t g = record {
   inside = all-map _ _ (items entry align 0 s x) (wider 0 (sizeOf entry x) 0 (t .size) (omega arith) (g .sized .least)) (inside entry align x s (g .writable .fits));
   apart = apart entry align x s (g .writable .fits);
   sectors = sectors-apart entry align (g .writable .aligned) x 0 s;
@@ -110,18 +110,20 @@ agreement absent none entry align s x w first t g = record {
   once = differ (items entry align 0 s x) (apart entry align x s (g .writable .fits));
   read = all-back (setting entry align s x w first t g) x 0 s (ready entry align s x w first t g);
   reached = reached x g;
-  sound = sounds x g;
+  one-way = way-unique entry align s x w first t g;
+  sound = λ absent none name a. sounds absent none x g name a;
 }
   where
-    reached : (y : Tree) (h : Written entry align s y w first t) → AllIn (Reached absent w first t (h .stand .place)) (items entry align 0 s y)
-    reached leaf h = none-in entry align s (Reached absent w first t (h .stand .place))
+    reached : (y : Tree) (h : Written entry align s y w first t) → AllIn (Reached w first t (h .stand .place) (items entry align 0 s y)) (items entry align 0 s y)
+    reached leaf h = none-in entry align s (Reached w first t (h .stand .place) (items entry align 0 s leaf))
     reached (node l i r) h =
-        all-reached (setting entry align s (node l i r) w first t h) absent none l i r s (ready entry align s (node l i r) w first t h)
+        all-reached (setting entry align s (node l i r) w first t h) l i r s (ready entry align s (node l i r) w first t h)
         (omega (arith, few entry align s (node l i r) (h .writable))) (h .writable .ordered)
 
-    sounds : (y : Tree) (h : Written entry align s y w first t) (name : List ℕ) → anyHigh name ≡ false
-        → Sound absent w first t (h .stand .place) (items entry align 0 s y) mostHeaders name (lookupBy absent w first t name)
-    sounds leaf h name a = rw (empty-lookup absent entry align s w first t (h .stand) (empty-size (t .size) (h .sized)) name a) (sound.missing 1 (omega arith))
-    sounds (node l i r) h name a =
-        all-sound (setting entry align s (node l i r) w first t h) absent none l i r s (ready entry align s (node l i r) w first t h)
-        (omega (arith, few entry align s (node l i r) (h .writable))) mostHeaders (low entry align s (node l i r) (h .writable)) name a
+    sounds : (absent : List ℕ) → isIn 0 absent ≡ true → (y : Tree) (h : Written entry align s y w first t) (name : List ℕ) → anyHigh name ≡ false
+        → Sound (h .stand .place) (items entry align 0 s y) mostHeaders name (lookupBy absent w first t name)
+    sounds absent none leaf h name a =
+        rw (empty-lookup absent entry align s w first t (h .stand) (empty-size (t .size) (h .sized)) name a) (sound.missing 1 (omega arith))
+    sounds absent none (node l i r) h name a =
+        all-sound (setting entry align s (node l i r) w first t h) l i r s (ready entry align s (node l i r) w first t h)
+        (omega (arith, few entry align s (node l i r) (h .writable))) absent none mostHeaders (low entry align s (node l i r) (h .writable)) name a

@@ -2,17 +2,20 @@
 use Prim.Native.Nat.{ℕ, zero, suc, _+_, _*_, _/_, _≤_, _<_}
 use mathlib.Core.Path.{_≡_, refl, sym, ap, _∙_}
 use mathlib.Core.List.{List, [], _∷_, map, append-nil}
+use mathlib.Core.Option.{Option, some}
 use native.Mathlib.Omega.{arith}
 use lib.ListN.{length}
+use Rattle.units.specs.Told.{Told, gives}
 use Rattle.units.specs.Region.{locateOf}
 use Rattle.layout_bytes.specs.Bytes.{all}
 use Rattle.layout_name.specs.Order.{raised, numberOrder, listOrder, orderBy, nameOrder}
 use Rattle.layout_node.specs.Header.{headerOf, headerBytes, isBlank}
 use Rattle.layout_sector.specs.Counter.{sectorsFor}
 use Rattle.dirtab_entry.specs.Entry.{anyBad, checkOf}
-use Rattle.read_entry.specs.Entry.{readHere, readAt, nameOf}
+use Rattle.read_entry.specs.Entry.{Placed, readHere, readAt, nameOf}
 use Rattle.read_entry.specs.Links.{isIn}
 use Rattle.read_lookup.specs.Lookup.{byLink, stepAt, chainFrom, anyHigh, lookupBy}
+use Rattle.lookup_way.specs.Along.{Along, there, left}
 use Rattle.read_walk.specs.Walk.{push, toEntry, walkFrom, walkOf}
 use Rattle.avl_model.specs.Tree.{bal}
 use Rattle.avl_model.specs.Laws.{least}
@@ -151,3 +154,27 @@ abc-written = record {
   stand = record { place = 0; at-sector = refl; rest = []; here = sym (append-nil (bytesOf abc 34)) };
   sized = refl;
 }
+
+-- A LINK OF 0 WOULD MAKE A SECOND WAY: `a` has no links, so both are 0, which is the offset of the first entry. Along 4 a way leads from `b` to `a`, at 16, and
+-- so does one along 4, 0, 4
+abbrev at-b : Placed
+at-b = record { header = record { left = record { 0 = 4 }; right = record { 0 = 8 }; sector = record { 0 = 34 }; size = 1; attributes = 32; «name_len» = 1 }; place = 0 }
+
+abbrev at-a : Placed
+at-a = record { header = record { left = record { 0 = 0 }; right = record { 0 = 0 }; sector = record { 0 = 35 }; size = 1; attributes = 32; «name_len» = 1 }; place = 16 }
+
+abbrev reads-abc : ℕ → Told (Option Placed)
+reads-abc = readAt (bytesOf abc 34) (record { 0 = 33 }) (regionOf abc)
+
+reads-b : reads-abc 0 ≡ gives (some at-b)
+unfolding grown bal items endOf freeOf startAfter sectorsFor tableBytes bytesFrom entryBytes headerBytes raised numberOrder listOrder orderBy nameOrder
+    readAt readHere isBlank all headerOf
+reads-b = refl
+
+reads-a : reads-abc 16 ≡ gives (some at-a)
+unfolding grown bal items endOf freeOf startAfter sectorsFor tableBytes bytesFrom entryBytes headerBytes raised numberOrder listOrder orderBy nameOrder
+    readAt readHere isBlank all headerOf
+reads-a = refl
+
+pub two-ways : Along reads-abc 0 16 (4 ∷ []) × Along reads-abc 0 16 (4 ∷ 0 ∷ 4 ∷ [])
+two-ways = (left {x = at-b} reads-b there, left {x = at-b} reads-b (left {x = at-a} reads-a (left {x = at-b} reads-b there)))

@@ -19,7 +19,6 @@ use Rattle.layout_name.proofs.Laws.{name-opposite, name-trans, name-equal→}
 use Rattle.dirtab_entry.specs.declared.Kind.{Kind}
 use Rattle.dirtab_entry.specs.declared.Kind.the-variants.{File, Directory}
 use Rattle.dirtab_entry.specs.Entry.{isDirectory, storedSize, isBad, anyBad}
-use Rattle.read_entry.specs.Links.{isIn}
 use Rattle.read_lookup.specs.Lookup.{anyHigh}
 use Rattle.avl_model.specs.Tree.{Tree, leaf, node, δ, cnt, ins}
 use Rattle.avl_model.specs.Laws.{Avl, All, Ordered, size}
@@ -133,9 +132,9 @@ module _ (align s : ℕ) (gs : List Given) (w : List ℕ) (first : Sector) (t : 
       }
 
   -- DEMAND 3: what is written of a list is listed and found
-  pub list-agreement : (absent : List ℕ) → isIn 0 absent ≡ true → Agreement absent w first t (g .stand .place) (items (entryOf gs) align 0 s (treeOf gs))
+  pub list-agreement : Agreement w first t (g .stand .place) (items (entryOf gs) align 0 s (treeOf gs))
   unfolding list-written
-  list-agreement absent none = agreement absent none (entryOf gs) align s (treeOf gs) w first t list-written
+  list-agreement = agreement (entryOf gs) align s (treeOf gs) w first t list-written
 
   -- as many nodes as entries
   pub list-size : size (treeOf gs) ≡ length gs

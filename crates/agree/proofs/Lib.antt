@@ -4,6 +4,7 @@ pub mod Readback
 pub mod Holds
 pub mod Walks
 pub mod Reaches
+pub mod Unique
 pub mod Agrees
 pub mod Plain
 pub mod FromList

@@ -14,7 +14,8 @@ use Rattle.units.specs.declared.Region.{Region}
 use Rattle.layout_bytes.specs.Bytes.{all}
 use Rattle.layout_node.specs.Header.{isBlank}
 use Rattle.read_entry.specs.Entry.{readHere, readAt}
-use Rattle.read_entry.specs.Links.{isIn, walkAbsent}
+use Rattle.read_entry.specs.Links.{walkAbsent}
+use Rattle.lookup_way.proofs.Sets.{in-walk, walk-0}
 use Rattle.read_entry.proofs.Located.{read-by-tests}
 use Rattle.read_walk.specs.Walk.{before, push, walkFrom, walkOf}
 use Rattle.read_walk.proofs.Steps.{before-none, before-before, walk-none, walk-nothing, walk-entry}
@@ -29,22 +30,13 @@ use Rattle.agree.proofs.Sized.{empty-size}
 use Rattle.agree.proofs.Setting.{Setting, start, stop, end, link, next, free, item, its, reads}
 use Rattle.agree.proofs.Holds.{Ready, has-node, left-ready, right-ready, linked, ends, at-zero, setting, ready}
 
--- a link of a written table is not one that the walk takes for absent
-pub link-there : (k : ℕ) → (k ≡ 0 → ⊥) → (k ≡ 65535 → ⊥) → isIn k walkAbsent ≡ false
-unfolding isIn
-link-there k a b = rw (ne-eqb k 0 a, ne-eqb k 65535 b)
-
-pub link-none : isIn 0 walkAbsent ≡ true
-unfolding isIn
-link-none = refl
-
 push-there : (k : ℕ) (stack : List ℕ) → (k ≡ 0 → ⊥) → (k ≡ 65535 → ⊥) → push walkAbsent k stack ≡ 4 * k ∷ stack
 unfolding push
-push-there k stack a b = rw (link-there k a b)
+push-there k stack a b = rw (in-walk k a b)
 
 push-none : (stack : List ℕ) → push walkAbsent 0 stack ≡ stack
 unfolding push
-push-none stack = rw link-none
+push-none stack = rw walk-0
 
 module _ (F : Setting) where
   abbrev walk : ℕ → List ℕ → Told (List ℕ)

@@ -10,7 +10,6 @@ use Rattle.units.specs.declared.Sector.{Sector}
 use Rattle.units.specs.declared.Region.{Region}
 use Rattle.dirtab_entry.specs.declared.Kind.the-variants.{File, Directory}
 use Rattle.dirtab_entry.specs.Entry.{rounded, storedSize}
-use Rattle.read_entry.specs.Links.{lookupAbsent}
 use Rattle.strict_rule.specs.Strict.{strictOf}
 use Rattle.table_model.specs.Entry.{Entry, Item, attributes}
 use Rattle.img_model.specs.Shares.{Request, shareOf, directoriesOf, countOf, isDirectory, valueOf}
@@ -20,7 +19,6 @@ use Rattle.agree.specs.Written.{SizedFor, Written}
 use Rattle.agree.specs.Agreement.{offsets, placedAt, Agreement}
 use Rattle.agree.proofs.Sized.{as-reported, as-rounded}
 use Rattle.agree.proofs.Agrees.{agreement}
-use Rattle.agree.proofs.Plain.{lookup-0}
 use Rattle.agree_strict.proofs.Passes.{written-passes}
 use Rattle.agree_plan.specs.Planned.{treeAt, startSector, itemsAt, sectorAt}
 use Rattle.agree_plan.specs.Image.{Imaged, rootOf, RegionFor, regionOf}
@@ -65,9 +63,9 @@ module _ (R : Request) (places : ℕ) (tables sectors : List ℕ) (p : Plan) (w 
         }
 
     -- DEMAND 3 of it
-    pub table-agrees : Agreement lookupAbsent w first t (I .stand d hd .place) (itemsAt R (p .sizes) d)
+    pub table-agrees : Agreement w first t (I .stand d hd .place) (itemsAt R (p .sizes) d)
     unfolding table-written
-    table-agrees = agreement lookupAbsent lookup-0 (entriesAt R S d) 1 (startSector R S d) (treeAt R S d) w first t table-written
+    table-agrees = agreement (entriesAt R S d) 1 (startSector R S d) (treeAt R S d) w first t table-written
 
     -- and it passes the strict check
     pub table-passes : (room : ℕ) → countOf R d ≤ room → strictOf w first t room ≡ gives (offsets (itemsAt R (p .sizes) d))

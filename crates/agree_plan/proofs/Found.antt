@@ -1,11 +1,15 @@
--- PATHS IN A PLANNED IMAGE: a path whose parts lead to an entry finds it with its planned sector and size, unless a link of 255 stands on the way. Assumes nothing.
+-- PATHS IN A PLANNED IMAGE: a path whose parts lead to an entry finds it with its planned sector and size, unless a link on the way is taken for absent.
+-- Assumes nothing.
+--     path-finds-by     of every set of absent links
+--     path-finds        of lookup's own: unless a link of 255 stands on the way; then 22
+--     path-always       of the walk's: always
 use Prim.Native.Nat.{ℕ, _+_, _/_, _%_, _≤_, _<_}
 use native.Mathlib.Omega.{arith}
 use native.Mathlib.Decide.{ℕ-discrete}
 use mathlib.Core.Path.{_≡_, refl, sym, ap, subst, _∙_}
-use mathlib.Core.Bool.{Bool, true}
+use mathlib.Core.Bool.{Bool, true, false}
 use mathlib.Core.Logic.{_⊎_, inl, inr}
-use mathlib.Core.List.{List, [], _∷_, _++_, map, List·Memᴰ, List·Memᴰ·head, List·Memᴰ·tail, List·Memᴰ·not-nil, List·Memᴰ·cases-cons, List·Memᴰ·append-cases, Memᴰ·append-left, Memᴰ·append-right}
+use mathlib.Core.List.{List, [], _∷_, _++_, map, List·Memᴰ, List·Memᴰ·head, List·Memᴰ·tail, List·Memᴰ·append-cases, Memᴰ·append-left, Memᴰ·append-right}
 use lib.Dec.{eqb}
 use lib.ListN.{length}
 use Rattle.units.specs.Told.{Told, gives, refuses, pick}
@@ -14,45 +18,49 @@ use Rattle.units.specs.declared.Region.{Region}
 use Rattle.layout_name.specs.Order.{raised}
 use Rattle.layout_node.specs.Header.{isDirectory}
 use Rattle.read_entry.specs.Entry.{readAt, nameOf}
-use Rattle.read_entry.specs.Links.{lookupAbsent}
-use Rattle.read_lookup.specs.Lookup.{Finding, lookupOf}
+use Rattle.read_entry.specs.Links.{lookupAbsent, walkAbsent}
+use Rattle.read_lookup.specs.Lookup.{Finding, lookupBy}
 use Rattle.read_path.specs.Path as path
-use Rattle.read_path.specs.Path.{lastOf, turnOf, onward, partsFrom, pathOf}
+use Rattle.read_path.specs.Path.{lastOf, turnOf, onward, partsFrom, pathBy, pathOf}
+use Rattle.lookup_way.specs.Along.{Along, Real, Clear, Cut}
+use Rattle.lookup_way.proofs.Along.{along-clear, along-absent, clear-or-cut}
+use Rattle.lookup_way.proofs.Sets.{without-255, with-255, walk-clear}
 use Rattle.table_model.specs.Entry.{Entry, Item, attributes, headerFor}
 use Rattle.table_model.proofs.Geometry.{of-item}
 use Rattle.img_model.specs.Shares.{Request, shareOf, directoriesOf, countOf, valueOf}
 use Rattle.img_model.specs.Shares as shares
 use Rattle.img_model.specs.Plan.{entriesAt, Plan}
 use Rattle.img_model.proofs.Rule.{some-directory, names-one}
-use Rattle.agree.specs.Written.{Written}
-use Rattle.agree.specs.Along.{Along}
-use Rattle.agree.specs.Agreement.{placedAt, Same, ReadBack}
+use Rattle.agree.specs.Agreement.{placedAt, Same, ReadBack, Reached}
 use Rattle.agree.specs.Given.{times}
-use Rattle.agree.proofs.Plain.{listed-found}
 use Rattle.avl_model.proofs.Frame.{δ-apart}
-use Rattle.agree_plan.specs.Planned.{treeAt, startSector, itemsAt, sectorAt}
+use Rattle.agree_plan.specs.Planned.{itemsAt, sectorAt}
 use Rattle.agree_plan.specs.Image.{Imaged, rootOf, RegionFor, Part, joined, Leads, last, into, regionOf, here, on, Finds, AllParts}
 use Rattle.agree_plan.proofs.Tables.{rule-kept}
 use Rattle.agree_plan.proofs.Sectors.{sectors-planned}
-use Rattle.agree_plan.proofs.Agrees.{directory-kind, table-written, table-agrees, root-region, entry-region}
+use Rattle.agree_plan.proofs.Agrees.{directory-kind, table-agrees, root-region, entry-region}
 use Rattle.agree_plan.proofs.Paths.{joined-path}
 
 -- ---- lists
 
-mem-dec : (k : ℕ) (ks : List ℕ) → List·Memᴰ k ks ⊎ (List·Memᴰ k ks → ⊥)
-mem-dec k [] = inr (λ m. List·Memᴰ·not-nil m)
-mem-dec k (j ∷ ks) = elim (ℕ-discrete k j) [
-  | yes e ↦ inl (List·Memᴰ·head e)
-  | no e ↦ go e (mem-dec k ks)
-]
+-- links one after the other
+real-append : (ks ls : List ℕ) → Real ks → Real ls → Real (ks ++ ls)
+real-append ks ls a b k m = go (List·Memᴰ·append-cases ks m)
   where
-    left-out : (k ≡ j → ⊥) → (List·Memᴰ k ks → ⊥) → (k ≡ j) ⊎ List·Memᴰ k ks → ⊥
-    left-out e f (inl q) = e q
-    left-out e f (inr m) = f m
+    go : List·Memᴰ k ks ⊎ List·Memᴰ k ls → (k ≡ 0 → ⊥) × (k ≡ 65535 → ⊥)
+    go (inl n) = a k n
+    go (inr n) = b k n
 
-    go : (k ≡ j → ⊥) → List·Memᴰ k ks ⊎ (List·Memᴰ k ks → ⊥) → List·Memᴰ k (j ∷ ks) ⊎ (List·Memᴰ k (j ∷ ks) → ⊥)
-    go e (inl m) = inl (List·Memᴰ·tail m)
-    go e (inr f) = inr (λ m. left-out e f (List·Memᴰ·cases-cons m))
+-- clear of a set and then cut by it: cut after them
+cut-after : (absent ks ls : List ℕ) → Clear absent ks → Cut absent (ks ++ ls) → Cut absent ls
+cut-after absent ks ls f t = go (List·Memᴰ·append-cases ks (t .among))
+  where
+    go : List·Memᴰ (t .link) ks ⊎ List·Memᴰ (t .link) ls → Cut absent ls
+    go (inl m) =
+        let z : false ≡ true = sym (f (t .link) m) ∙ t .taken in
+        let y : _≡_ {A = ℕ} 0 1 = cc in
+        absurd (omega arith)
+    go (inr m) = record { link = t .link; among = m; taken = t .taken }
 
 -- the item of a number
 record ItemOf (entry : ℕ → Entry) (sector : ℕ → ℕ) (xs : List Item) (i : ℕ) : Type 0 where
@@ -90,9 +98,6 @@ module _ (R : Request) (places : ℕ) (tables sectors : List ℕ) (p : Plan) (w 
     abbrev its : List Item
     its = itemsAt R S d
 
-    abbrev written : Written (entriesAt R S d) 1 (startSector R S d) (treeAt R S d) w first t
-    written = table-written R places tables sectors p w first I d hd t r
-
     -- its entry i
     module _ (i : ℕ) (hi : i < countOf R d) where
       own : ItemOf (entriesAt R S d) (sectorAt R p d) its i
@@ -110,23 +115,29 @@ module _ (R : Request) (places : ℕ) (tables sectors : List ℕ) (p : Plan) (w 
       record Looked (a : List ℕ) : Type 0 where
         links : List ℕ
         way : Along (readAt w first t) 0 (y .offset) links
-        real : (k : ℕ) → List·Memᴰ k links → (k ≡ 0 → ⊥) × (k ≡ 65535 → ⊥)
+        real : Real links
         headers : ℕ
-        hit : (List·Memᴰ 255 links → ⊥) → lookupOf w first t a ≡ gives (record { entry = placedAt place y; offset = y .offset; headers = headers })
-        miss : List·Memᴰ 255 links → (c : ℕ) × (lookupOf w first t a ≡ refuses 22 (c ∷ []))
+        hit : (absent : List ℕ) → Clear absent links → lookupBy absent w first t a ≡ gives (record { entry = placedAt place y; offset = y .offset; headers = headers })
+        miss : (absent : List ℕ) → Cut absent links → (c : ℕ) × (lookupBy absent w first t a ≡ refuses 22 (c ∷ []))
 
       looked : (a : List ℕ) → Part a → Same a (entriesAt R S d i .name) → Looked a
-      unfolding table-written
       looked a part same =
-          let f = listed-found (entriesAt R S d) 1 (startSector R S d) (treeAt R S d) w first t written a (part .ascii) y (own .among)
-          (same ∙ ap (λ (e : Entry). map raised (e .name)) (sym (own .entry-is))) in
-          record { links = f .0 .links; way = f .0 .way; real = f .0 .real; headers = 1 + length (f .0 .links); hit = f .1; miss = f .2 }
+          let v = of-item (Reached w first t place its) its y (table-agrees R places tables sectors p w first I d hd t r .reached) (own .among) in
+          let alike : Same a (y .entry .name) = same ∙ ap (λ (e : Entry). map raised (e .name)) (sym (own .entry-is)) in
+          record {
+            links = v .links;
+            way = v .way;
+            real = v .real;
+            headers = 1 + length (v .links);
+            hit = λ absent f. v .answers absent a (part .ascii) alike ∙ along-clear absent (placedAt place y) (y .offset) 1 (v .links) f;
+            miss = λ absent f. let k = along-absent absent (placedAt place y) (y .offset) 1 (v .links) f in (k .0, v .answers absent a (part .ascii) alike ∙ k .1);
+          }
 
       named : (a : List ℕ) → Same a (entriesAt R S d i .name) → Same a (nameOf w (place + y .offset) (length (y .entry .name)))
       named a same = same ∙ ap (λ (e : Entry). map raised (e .name)) (sym (own .entry-is)) ∙ ap (map raised) (sym (back .named))
 
       -- where it is the last part
-      ends : (a : List ℕ) → Part a → Same a (entriesAt R S d i .name) → Finds R p w first t (a ∷ []) d i (partsFrom lookupAbsent w first t (a ∷ []))
+      ends : (a : List ℕ) → Part a → Same a (entriesAt R S d i .name) → Finds R p w first t (a ∷ []) d i (λ absent. partsFrom absent w first t (a ∷ []))
       unfolding partsFrom
       ends a part same =
           let l = looked a part same in
@@ -140,8 +151,8 @@ module _ (R : Request) (places : ℕ) (tables sectors : List ℕ) (p : Plan) (w 
             links = l .links;
             way = here t a (y .offset) (placedAt place y) (l .links) (back .reads) (named a same) (l .way);
             real = l .real;
-            found = λ f. ap lastOf (l .hit f);
-            lost = λ m. ap lastOf (l .miss m .1);
+            found = λ absent f. ap lastOf (l .hit absent f);
+            lost = λ absent f. ap lastOf (l .miss absent f .1);
           }
 
       -- where it is not: the table that it names
@@ -157,19 +168,20 @@ module _ (R : Request) (places : ℕ) (tables sectors : List ℕ) (p : Plan) (w 
             ap (λ (n : ℕ). eqb (n / 16 % 2) 1) (ap (λ (e : Entry). attributes (e .kind)) (own .entry-is) ∙ directory-kind (shares.isDirectory (shareOf R d) i) dir)
 
         -- the lookup goes into it, or ends
-        through : (a b : List ℕ) (cs : List (List ℕ)) (l : Looked a) → (List·Memᴰ 255 (l .links) → ⊥)
-            → partsFrom lookupAbsent w first t (a ∷ b ∷ cs) ≡ partsFrom lookupAbsent w first u (b ∷ cs)
+        through : (absent a b : List ℕ) (cs : List (List ℕ)) (l : Looked a) → Clear absent (l .links)
+            → partsFrom absent w first t (a ∷ b ∷ cs) ≡ partsFrom absent w first u (b ∷ cs)
         unfolding partsFrom
-        through a b cs l f =
-            ap (λ (x : Told Finding). onward (turnOf x) (λ v. partsFrom lookupAbsent w first v (b ∷ cs))) (l .hit f)
-            ∙ ap (λ (c : Bool). onward (pick c (path.into u) (path.stops (refuses 27 []))) (λ v. partsFrom lookupAbsent w first v (b ∷ cs))) is-dir
+        through absent a b cs l f =
+            ap (λ (x : Told Finding). onward (turnOf x) (λ v. partsFrom absent w first v (b ∷ cs))) (l .hit absent f)
+            ∙ ap (λ (c : Bool). onward (pick c (path.into u) (path.stops (refuses 27 []))) (λ v. partsFrom absent w first v (b ∷ cs))) is-dir
 
-        stopped : (a b : List ℕ) (cs : List (List ℕ)) (l : Looked a) → List·Memᴰ 255 (l .links) → partsFrom lookupAbsent w first t (a ∷ b ∷ cs) ≡ refuses 22 []
+        stopped : (absent a b : List ℕ) (cs : List (List ℕ)) (l : Looked a) → Cut absent (l .links) → partsFrom absent w first t (a ∷ b ∷ cs) ≡ refuses 22 []
         unfolding partsFrom
-        stopped a b cs l m = ap (λ (x : Told Finding). onward (turnOf x) (λ v. partsFrom lookupAbsent w first v (b ∷ cs))) (l .miss m .1)
+        stopped absent a b cs l f = ap (λ (x : Told Finding). onward (turnOf x) (λ v. partsFrom absent w first v (b ∷ cs))) (l .miss absent f .1)
 
         goes : (a b : List ℕ) (cs : List (List ℕ)) (e j : ℕ) → Part a → Same a (entriesAt R S d i .name)
-            → Finds R p w first u (b ∷ cs) e j (partsFrom lookupAbsent w first u (b ∷ cs)) → Finds R p w first t (a ∷ b ∷ cs) e j (partsFrom lookupAbsent w first t (a ∷ b ∷ cs))
+            → Finds R p w first u (b ∷ cs) e j (λ absent. partsFrom absent w first u (b ∷ cs))
+            → Finds R p w first t (a ∷ b ∷ cs) e j (λ absent. partsFrom absent w first t (a ∷ b ∷ cs))
         goes a b cs e j part same n =
             let l = looked a part same in
             record {
@@ -181,25 +193,21 @@ module _ (R : Request) (places : ℕ) (tables sectors : List ℕ) (p : Plan) (w 
               at-sector = n .at-sector;
               links = l .links ++ n .links;
               way = on t a b cs (y .offset) (placedAt place y) (placedAt (n .place) (n .item)) (l .links) (n .links) (back .reads) (named a same) (l .way) (n .way);
-              real = λ k m. either k l (List·Memᴰ·append-cases (l .links) m);
-              found = λ f. through a b cs l (λ m. f (Memᴰ·append-left (n .links) m)) ∙ n .found (λ m. f (Memᴰ·append-right (l .links) m));
-              lost = λ m. missed l (mem-dec 255 (l .links)) (List·Memᴰ·append-cases (l .links) m);
+              real = real-append (l .links) (n .links) (l .real) (n .real);
+              found = λ absent f.
+                  through absent a b cs l (λ k m. f k (Memᴰ·append-left (n .links) m)) ∙ n .found absent (λ k m. f k (Memᴰ·append-right (l .links) m));
+              lost = λ absent f. missed absent l f (clear-or-cut absent (l .links));
             }
           where
-            either : (k : ℕ) (l : Looked a) → List·Memᴰ k (l .links) ⊎ List·Memᴰ k (n .links) → (k ≡ 0 → ⊥) × (k ≡ 65535 → ⊥)
-            either k l (inl m) = l .real k m
-            either k l (inr m) = n .real k m
-
-            missed : (l : Looked a) → List·Memᴰ 255 (l .links) ⊎ (List·Memᴰ 255 (l .links) → ⊥) → List·Memᴰ 255 (l .links) ⊎ List·Memᴰ 255 (n .links)
-                → partsFrom lookupAbsent w first t (a ∷ b ∷ cs) ≡ refuses 22 []
-            missed l (inl m) c = stopped a b cs l m
-            missed l (inr f) (inl m) = absurd (f m)
-            missed l (inr f) (inr m) = through a b cs l f ∙ n .lost m
+            missed : (absent : List ℕ) (l : Looked a) → Cut absent (l .links ++ n .links) → Clear absent (l .links) ⊎ Cut absent (l .links)
+                → partsFrom absent w first t (a ∷ b ∷ cs) ≡ refuses 22 []
+            missed absent l f (inl c) = through absent a b cs l c ∙ n .lost absent (cut-after absent (l .links) (n .links) c f)
+            missed absent l f (inr c) = stopped absent a b cs l c
 
   -- ---- all the way, from a region of directory d's table on
 
   leads-to : (d e j : ℕ) (cs : List (List ℕ)) → Leads R p d cs e j → d < directoriesOf R → (t : Region) → RegionFor p d t
-      → Finds R p w first t cs e j (partsFrom lookupAbsent w first t cs)
+      → Finds R p w first t cs e j (λ absent. partsFrom absent w first t cs)
   leads-to d e j cs (last _ _ a hi part same) hd t r = ends d hd t r j hi a part same
   leads-to d e j cs (into _ i _ _ a b bs hi part same dir rest) hd t r =
       goes d hd t r i hi dir a b bs e j part same
@@ -211,11 +219,24 @@ module _ (R : Request) (places : ℕ) (tables sectors : List ℕ) (p : Plan) (w 
   all-parts d e j cs (into _ i _ _ a b bs hi part same dir rest) = (part, all-parts (valueOf (shareOf R d) i) e j (b ∷ bs) rest)
 
   -- THE PARTS, one after the other, from the root
-  pub parts-find : (e j : ℕ) (cs : List (List ℕ)) → Leads R p 0 cs e j → Finds R p w first (rootOf p) cs e j (partsFrom lookupAbsent w first (rootOf p) cs)
+  pub parts-find : (e j : ℕ) (cs : List (List ℕ)) → Leads R p 0 cs e j → Finds R p w first (rootOf p) cs e j (λ absent. partsFrom absent w first (rootOf p) cs)
   parts-find e j cs l =
       leads-to 0 e j cs l (some-directory R (rule-kept R places tables sectors p (I .planned))) (rootOf p) (root-region R places tables sectors p w first I)
 
-  -- THE PATH that has slashes between them
-  pub path-finds : (e j : ℕ) (cs : List (List ℕ)) → Leads R p 0 cs e j → Finds R p w first (rootOf p) cs e j (pathOf w first (rootOf p) (joined cs))
+  -- THE PATH that has slashes between them, for every set of absent links
+  pub path-finds-by : (e j : ℕ) (cs : List (List ℕ)) → Leads R p 0 cs e j → Finds R p w first (rootOf p) cs e j (λ absent. pathBy absent w first (rootOf p) (joined cs))
+  path-finds-by e j cs l =
+      subst (Finds R p w first (rootOf p) cs e j) (sym (λ k absent. joined-path absent w first (rootOf p) cs (all-parts 0 e j cs l) k)) (parts-find e j cs l)
+
+  -- A PATH finds the planned entry, unless a link of 255 stands on the way; then 22
+  pub path-finds : (e j : ℕ) (cs : List (List ℕ)) → Leads R p 0 cs e j → (f : Finds R p w first (rootOf p) cs e j (λ absent. pathBy absent w first (rootOf p) (joined cs)))
+      × ((List·Memᴰ 255 (f .links) → ⊥) → pathOf w first (rootOf p) (joined cs) ≡ gives (placedAt (f .place) (f .item)))
+      × (List·Memᴰ 255 (f .links) → pathOf w first (rootOf p) (joined cs) ≡ refuses 22 [])
   path-finds e j cs l =
-      subst (Finds R p w first (rootOf p) cs e j) (sym (joined-path lookupAbsent w first (rootOf p) cs (all-parts 0 e j cs l))) (parts-find e j cs l)
+      let f = path-finds-by e j cs l in
+      (f, (λ n. f .found lookupAbsent (without-255 (f .links) (f .real) n)), (λ m. f .lost lookupAbsent (with-255 (f .links) m)))
+
+  -- WITH THE WALK'S ABSENT LINKS in the place of lookup's own, it always finds it
+  pub path-always : (e j : ℕ) (cs : List (List ℕ)) → Leads R p 0 cs e j → (f : Finds R p w first (rootOf p) cs e j (λ absent. pathBy absent w first (rootOf p) (joined cs)))
+      × (pathBy walkAbsent w first (rootOf p) (joined cs) ≡ gives (placedAt (f .place) (f .item)))
+  path-always e j cs l = let f = path-finds-by e j cs l in (f, f .found walkAbsent (walk-clear (f .links) (f .real)))

@@ -14,10 +14,11 @@ use Rattle.layout_name.specs.Order.{raised}
 use Rattle.layout_node.specs.Header as node
 use Rattle.dirtab_entry.specs.declared.Kind.the-variants.{File, Directory}
 use Rattle.read_entry.specs.Entry.{Placed}
-use Rattle.read_entry.specs.Links.{lookupAbsent}
+use Rattle.read_entry.specs.Links.{isIn, lookupAbsent}
 use Rattle.read_lookup.specs.Lookup.{Finding, lookupBy}
-use Rattle.read_path.specs.Path.{lastOf, turnOf, onward, partsFrom, pathOf}
+use Rattle.read_path.specs.Path.{lastOf, turnOf, onward, partsFrom, pathBy, pathOf}
 use Rattle.read_path.specs.Path as path
+use Rattle.lookup_way.proofs.Sets.{lookup-0}
 use Rattle.avl_model.proofs.Frame.{δ-same}
 use Rattle.table_model.specs.Entry.{Entry, Item, attributes, headerFor}
 use Rattle.img_model.specs.Shares.{Request, shareOf, directoriesOf, countOf, isDirectory, valueOf}
@@ -69,7 +70,7 @@ no-parts : {R : Request} {p : Plan} {d e j : ℕ} (cs : List (List ℕ)) → Lea
 no-parts cs (last _ _ a hi part same) q = let z : _≡_ {A = ℕ} 0 1 = cc in omega arith
 no-parts cs (into _ i _ _ a b bs hi part same dir rest) q = let z : _≡_ {A = ℕ} 0 1 = cc in omega arith
 
-module _ (R : Request) (places : ℕ) (tables sectors : List ℕ) (p : Plan) (w : List ℕ) (first : Sector) (I : Imaged R places tables sectors p w first) where
+module _ (R : Request) (places : ℕ) (tables sectors : List ℕ) (p : Plan) (w : List ℕ) (first : Sector) (I : Imaged R places tables sectors p w first) (absent : List ℕ) (none : isIn 0 absent ≡ true) where
   module _ (d : ℕ) (hd : d < directoriesOf R) (t : Region) (r : RegionFor p d t) (a : List ℕ) (part : Part a) where
     abbrev place : ℕ
     place = I .stand d hd .place
@@ -105,10 +106,10 @@ module _ (R : Request) (places : ℕ) (tables sectors : List ℕ) (p : Plan) (w 
         }
 
     abbrev Sound : Told Finding → Type 0
-    Sound = agreement.Sound lookupAbsent w first t place (itemsAt R (p .sizes) d) mostHeaders a
+    Sound = agreement.Sound place (itemsAt R (p .sizes) d) mostHeaders a
 
-    looked : Sound (lookupBy lookupAbsent w first t a)
-    looked = table-agrees R places tables sectors p w first I d hd t r .sound a (part .ascii)
+    looked : Sound (lookupBy absent w first t a)
+    looked = table-agrees R places tables sectors p w first I d hd t r .sound absent none a (part .ascii)
 
     ends : (x : Told Finding) → Sound x → Only R p first d (a ∷ []) (lastOf x)
     ends x (agreement.found y c m s k) =
@@ -117,7 +118,7 @@ module _ (R : Request) (places : ℕ) (tables sectors : List ℕ) (p : Plan) (w 
     ends x (agreement.missing c k) = misses
 
     -- further parts
-    module _ (b : List ℕ) (cs : List (List ℕ)) (next : (d₁ : ℕ) → d₁ < directoriesOf R → (u : Region) → RegionFor p d₁ u → Only R p first d₁ (b ∷ cs) (partsFrom lookupAbsent w first u (b ∷ cs))) where
+    module _ (b : List ℕ) (cs : List (List ℕ)) (next : (d₁ : ℕ) → d₁ < directoriesOf R → (u : Region) → RegionFor p d₁ u → Only R p first d₁ (b ∷ cs) (partsFrom absent w first u (b ∷ cs))) where
       lift : (i : ℕ) → i < countOf R d → Same a (entriesAt R (p .sizes) d i .name) → isDirectory (shareOf R d) i ≡ true → (x : Told Placed)
           → Only R p first (valueOf (shareOf R d) i) (b ∷ cs) x → Only R p first d (a ∷ b ∷ cs) x
       lift i hi s dir x (finds e j pl y l q v at) = finds e j pl y (into d i e j a b cs hi part s dir l) q v at
@@ -126,7 +127,7 @@ module _ (R : Request) (places : ℕ) (tables sectors : List ℕ) (p : Plan) (w 
       lift i hi s dir x (meets e j (c ∷ front) b₁ cs₁ q l f) = meets e j (a ∷ c ∷ front) b₁ cs₁ (ap (λ (z : List (List ℕ)). a ∷ z) q) (into d i e j a c front hi part s dir l) f
 
       by-kind : (y : Item) (h : Hit y) (c : Bool) → isDirectory (shareOf R d) (h .number) ≡ c
-          → Only R p first d (a ∷ b ∷ cs) (onward (pick (node.isDirectory (headerFor y)) (path.into (regionOf (placedAt place y))) (path.stops (refuses 27 []))) (λ u. partsFrom lookupAbsent w first u (b ∷ cs)))
+          → Only R p first d (a ∷ b ∷ cs) (onward (pick (node.isDirectory (headerFor y)) (path.into (regionOf (placedAt place y))) (path.stops (refuses 27 []))) (λ u. partsFrom absent w first u (b ∷ cs)))
       by-kind y h true dir =
           let is-dir : node.isDirectory (headerFor y) ≡ true =
           ap (λ (n : ℕ). eqb (n / 16 % 2) 1) (ap (λ (e : Entry). attributes (e .kind)) (h .entry-is) ∙ directory-kind (isDirectory (shareOf R d) (h .number)) dir) in
@@ -139,19 +140,24 @@ module _ (R : Request) (places : ℕ) (tables sectors : List ℕ) (p : Plan) (w 
           ap (λ (n : ℕ). eqb (n / 16 % 2) 1) (ap (λ (e : Entry). attributes (e .kind)) (h .entry-is) ∙ file-kind (isDirectory (shareOf R d) (h .number)) dir) in
           rw is-file (meets d (h .number) (a ∷ []) b cs refl (last d (h .number) a (h .inside) part (h .same)) dir)
 
-      goes : (x : Told Finding) → Sound x → Only R p first d (a ∷ b ∷ cs) (onward (turnOf x) (λ u. partsFrom lookupAbsent w first u (b ∷ cs)))
+      goes : (x : Told Finding) → Sound x → Only R p first d (a ∷ b ∷ cs) (onward (turnOf x) (λ u. partsFrom absent w first u (b ∷ cs)))
       goes x (agreement.found y c m s k) = let h = hit y m s in by-kind y h (isDirectory (shareOf R d) (h .number)) refl
       goes x (agreement.missing c k) = misses
 
   -- ANY PARTS, from a region of directory d's table on
-  pub parts-only : (cs : List (List ℕ)) → AllParts cs → (d : ℕ) → d < directoriesOf R → (t : Region) → RegionFor p d t → Only R p first d cs (partsFrom lookupAbsent w first t cs)
+  pub parts-only : (cs : List (List ℕ)) → AllParts cs → (d : ℕ) → d < directoriesOf R → (t : Region) → RegionFor p d t → Only R p first d cs (partsFrom absent w first t cs)
   unfolding partsFrom
   parts-only [] ps d hd t r = absurd ps
-  parts-only (a ∷ []) ps d hd t r = ends d hd t r a ps (lookupBy lookupAbsent w first t a) (looked d hd t r a ps)
-  parts-only (a ∷ b ∷ cs) ps d hd t r = goes d hd t r a (ps .0) b cs (parts-only (b ∷ cs) (ps .1)) (lookupBy lookupAbsent w first t a) (looked d hd t r a (ps .0))
+  parts-only (a ∷ []) ps d hd t r = ends d hd t r a ps (lookupBy absent w first t a) (looked d hd t r a ps)
+  parts-only (a ∷ b ∷ cs) ps d hd t r = goes d hd t r a (ps .0) b cs (parts-only (b ∷ cs) (ps .1)) (lookupBy absent w first t a) (looked d hd t r a (ps .0))
 
-  -- ANY PATH of them, from the root
-  pub path-only : (cs : List (List ℕ)) → AllParts cs → Only R p first 0 cs (pathOf w first (rootOf p) (joined cs))
-  path-only cs ps =
-      subst (Only R p first 0 cs) (sym (joined-path lookupAbsent w first (rootOf p) cs ps))
+  -- ANY PATH of them, from the root, for every set of absent links that has 0 in it
+  pub path-only-by : (cs : List (List ℕ)) → AllParts cs → Only R p first 0 cs (pathBy absent w first (rootOf p) (joined cs))
+  path-only-by cs ps =
+      subst (Only R p first 0 cs) (sym (joined-path absent w first (rootOf p) cs ps))
       (parts-only cs ps 0 (some-directory R (rule-kept R places tables sectors p (I .planned))) (rootOf p) (root-region R places tables sectors p w first I))
+
+-- ANY PATH of them, from the root
+pub path-only : (R : Request) (places : ℕ) (tables sectors : List ℕ) (p : Plan) (w : List ℕ) (first : Sector) → Imaged R places tables sectors p w first
+    → (cs : List (List ℕ)) → AllParts cs → Only R p first 0 cs (pathOf w first (rootOf p) (joined cs))
+path-only R places tables sectors p w first I = path-only-by R places tables sectors p w first I lookupAbsent lookup-0

@@ -11,12 +11,12 @@ use Rattle.units.specs.declared.Sector.{Sector}
 use Rattle.units.specs.declared.Region.{Region}
 use Rattle.read_entry.specs.Entry.{Placed, readAt, nameOf}
 use Rattle.read_lookup.specs.Lookup.{anyHigh}
+use Rattle.lookup_way.specs.Along.{Along, Real, Clear, Cut}
 use Rattle.table_model.specs.Entry.{Item}
 use Rattle.table_model.specs.Table.{tableBytes}
 use Rattle.img_model.specs.Shares.{Request, shareOf, directoriesOf, countOf, isDirectory, valueOf}
 use Rattle.img_model.specs.Plan.{tableIn, entriesAt, Plan}
 use Rattle.agree.specs.Written.{Stand, SizedFor}
-use Rattle.agree.specs.Along.{Along}
 use Rattle.agree.specs.Agreement.{placedAt, Same}
 use Rattle.agree_plan.specs.Planned.{
   treeAt,
@@ -92,9 +92,10 @@ pub data Way (w : List ℕ) (first : Sector) : Region → List (List ℕ) → Li
       → Same a (nameOf w (x .place) (x .header .«name_len»)) → Along (readAt w first t) 0 o ks
       → Way w first (regionOf x) (b ∷ cs) ls y → Way w first t (a ∷ b ∷ cs) (ks ++ ls) y
 
--- THE ANSWER is the planned entry j of directory e, unless a link of 255 stands on the way; then 22
+-- THE ANSWER is the planned entry j of directory e, unless a link on the way is taken for absent; then 22.
+-- `answer absent` is the answer where the links of a set are taken for absent
 pub record Finds (R : Request) (p : Plan) (w : List ℕ) (first : Sector) (t : Region) (parts : List (List ℕ)) (e j : ℕ)
-    (answer : Told Placed) : Type 0 where
+    (answer : List ℕ → Told Placed) : Type 0 where
   -- the planned entry: the item of directory e's table that is entry j with its planned sector. The table's first
   -- byte is at `place` of the window
   pub item : Item
@@ -103,13 +104,14 @@ pub record Finds (R : Request) (p : Plan) (w : List ℕ) (first : Sector) (t : R
   pub sector-is : item .sector ≡ sectorAt R p e j
   pub place : ℕ
   pub at-sector : 2048 * tableSector p e ≡ 2048 * first .0 + place
-  -- the way to it, and its links. (None of them is 0 or 65,535, so that the one that lookup takes for absent is 255)
+  -- the way to it, and its links. None of them is 0 or 65,535, so that of them lookup takes exactly 255 for absent,
+  -- and the walk none
   pub links : List ℕ
   pub way : Way w first t parts links (placedAt place item)
-  pub real : (k : ℕ) → List·Memᴰ k links → (k ≡ 0 → ⊥) × (k ≡ 65535 → ⊥)
+  pub real : Real links
   -- the answer
-  pub found : (List·Memᴰ 255 links → ⊥) → answer ≡ gives (placedAt place item)
-  pub lost : List·Memᴰ 255 links → answer ≡ refuses 22 []
+  pub found : (absent : List ℕ) → Clear absent links → answer absent ≡ gives (placedAt place item)
+  pub lost : (absent : List ℕ) → Cut absent links → answer absent ≡ refuses 22 []
 
 -- NOTHING ELSE IS FOUND: what any parts find from directory d on is a planned entry to which they lead; else the
 -- answer is 22, or 27 where some first parts of them lead to a file and more follow

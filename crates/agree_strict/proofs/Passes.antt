@@ -19,6 +19,7 @@ use Rattle.layout_name.specs.Order.{nameOrder}
 use Rattle.layout_node.specs.Header.{entryLength}
 use Rattle.read_entry.specs.Entry.{Placed, readAt, nameOf}
 use Rattle.read_entry.specs.Links.{isIn, walkAbsent}
+use Rattle.lookup_way.proofs.Sets.{in-walk, walk-0}
 use Rattle.read_walk.specs.Walk.{before}
 use Rattle.read_walk.proofs.Steps.{before-none, before-before}
 use Rattle.strict_rule.specs.Strict as strict
@@ -40,7 +41,7 @@ use Rattle.agree.proofs.Sized.{empty-size}
 use Rattle.agree.proofs.Setting.{Setting, start, stop, end, link, next, free, item, its, reads, Back}
 use Rattle.agree.proofs.Holds.{Ready, has-node, started, left-ready, right-ready, linked, ends, at-zero, all-back, setting, ready}
 use Rattle.agree.proofs.FromList.{list-written, list-size}
-use Rattle.agree.proofs.Walks.{link-there, link-none, empty-read}
+use Rattle.agree.proofs.Walks.{empty-read}
 
 abbrev AllOf : (ℕ → Type 0) → List ℕ → Type 0
 AllOf P [] = Unit {0}
@@ -83,7 +84,7 @@ push-there k v stack e = rw e
 
 push-none : (v : Visit) (stack : List Visit) → push 0 v stack ≡ stack
 unfolding push
-push-none v stack = rw link-none
+push-none v stack = rw walk-0
 
 module _ (F : Setting) where
   abbrev f : ℕ → Told (Option Placed)
@@ -210,7 +211,7 @@ module _ (F : Setting) where
       let k = linked F l i r e s g h in
       let d : suc room - size (node l i r) ≡ room - size l - size r = omega arith in
       ap (check (suc room) seen)
-      (push-there (start F e i / 4) (visit (4 * (start F e i / 4)) under over) rest (link-there (start F e i / 4) (k .0) (k .1)) ∙ ap (λ (o : ℕ). visit o under over ∷ rest) (sym (k .2)))
+      (push-there (start F e i / 4) (visit (4 * (start F e i / 4)) under over) rest (in-walk (start F e i / 4) (k .0) (k .1)) ∙ ap (λ (o : ℕ). visit o under over ∷ rest) (sym (k .2)))
       ∙ rw d (at-node l i r e s g ord
       (passes l (stop F e i) (next F s i) (omega arith) (left-ready F l i r e s g) (ord .2))
       (passes r (end F (stop F e i) l) (free F (next F s i) l) (omega (arith, ends F l i r e s g .0)) (right-ready F l i r e s g) (ord .3))

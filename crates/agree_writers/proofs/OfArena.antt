@@ -10,7 +10,6 @@ use Rattle.units.specs.Told.{Told, gives, refuses, pick}
 use Rattle.units.specs.declared.Sector.{Sector}
 use Rattle.units.specs.declared.Region.{Region}
 use Rattle.dirtab_entry.specs.Entry.{rounded, checkOf}
-use Rattle.read_entry.specs.Links.{isIn, lookupAbsent}
 use Rattle.avl_model.specs.Tree.{Tree, cnt}
 use Rattle.avl_model.specs.Laws.{All, Ordered}
 use Rattle.avl_model.specs.Names.{toName}
@@ -36,7 +35,6 @@ use Rattle.agree.specs.Agreement.{offsets, Agreement}
 use Rattle.agree.specs.Given.{EachOnce}
 use Rattle.agree.proofs.Sized.{as-reported}
 use Rattle.agree.proofs.Agrees as agrees
-use Rattle.agree.proofs.Plain.{lookup-0}
 use Rattle.agree.proofs.FromList.{times-order}
 use Rattle.agree_strict.proofs.Passes.{written-passes}
 use Rattle.agree_writers.specs.Wrote.{WroteArena}
@@ -120,9 +118,9 @@ module _ (A : Arena) (s n m : ℕ) (out : List ℕ) (p : Placing) (w : List ℕ)
   }
 
   -- DEMAND 3 OF WHAT IS WRITTEN: reading finds the held entries
-  pub arena-agrees : Agreement lookupAbsent w first t (g .stand .place) (items (entryAt A) 1 0 s (treeOf A))
+  pub arena-agrees : Agreement w first t (g .stand .place) (items (entryAt A) 1 0 s (treeOf A))
   unfolding arena-wrote first-stand
-  arena-agrees = agrees.agreement lookupAbsent lookup-0 (entryAt A) 1 s (treeOf A) w first t arena-wrote
+  arena-agrees = agrees.agreement (entryAt A) 1 s (treeOf A) w first t arena-wrote
 
   -- and it passes the strict check, which lists the same
   pub arena-strict : (room : ℕ) → A .count ≤ room → strictOf w first t room ≡ gives (offsets (items (entryAt A) 1 0 s (treeOf A)))

@@ -17,7 +17,6 @@ use Rattle.layout_name.specs.declared.Order.the-variants.{Equal}
 use Rattle.layout_name.specs.Order.{nameOrder}
 use Rattle.layout_name.proofs.Laws.{name-equal→}
 use Rattle.dirtab_entry.specs.Entry.{rounded, nameIn, checkOf}
-use Rattle.read_entry.specs.Links.{isIn, lookupAbsent}
 use Rattle.avl_model.specs.declared.Place.{Place}
 use Rattle.avl_model.specs.declared.Place.the-variants.{Root}
 use Rattle.avl_model.specs.declared.Spot.{Spot}
@@ -43,7 +42,6 @@ use Rattle.agree.specs.Agreement.{offsets, Agreement}
 use Rattle.agree.specs.Given.{grown, EachOnce}
 use Rattle.agree.proofs.Sized.{as-reported}
 use Rattle.agree.proofs.Agrees as agrees
-use Rattle.agree.proofs.Plain.{lookup-0}
 use Rattle.agree.proofs.FromList.{grown-below, grown-avl, grown-size, grown-each}
 use Rattle.agree_strict.proofs.Passes.{written-passes}
 use Rattle.agree_writers.specs.Wrote.{WroteList, Taken}
@@ -188,9 +186,9 @@ module _ (L : Listing) (shortest s : ℕ) (out : List ℕ) (p : Placing) (w : Li
   }
 
   -- DEMAND 3 OF WHAT IS WRITTEN: reading finds the list's entries
-  pub list-agrees : Agreement lookupAbsent w first t (g .stand .place) (items (entryIn L) 1 0 s (grown (entryIn L) (L .count)))
+  pub list-agrees : Agreement w first t (g .stand .place) (items (entryIn L) 1 0 s (grown (entryIn L) (L .count)))
   unfolding list-wrote first-stand
-  list-agrees = agrees.agreement lookupAbsent lookup-0 (entryIn L) 1 s (grown (entryIn L) (L .count)) w first t list-wrote
+  list-agrees = agrees.agreement (entryIn L) 1 s (grown (entryIn L) (L .count)) w first t list-wrote
 
   -- each of them once
   pub list-each : EachOnce (entryIn L) (L .count) (items (entryIn L) 1 0 s (grown (entryIn L) (L .count)))

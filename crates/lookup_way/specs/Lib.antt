@@ -1,0 +1,2 @@
+-- The ways from entry to entry along links.
+pub mod Along
