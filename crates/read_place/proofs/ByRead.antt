@@ -5,24 +5,21 @@ use mathlib.Core.List.{List}
 use Rattle.units.specs.declared.Sector.{Sector}
 use Rattle.units.specs.declared.Offset.{Offset}
 use Rattle.units.specs.declared.Region.{Region}
+use Rattle.units.specs.declared.Link.{Link}
+use Rattle.layout_node.specs.declared.Header.{Header}
 use Rattle.read_entry.specs.declared.Read.{Read}
 use Rattle.read_entry.specs.Entry.{told, readAt}
 use Rattle.read_place.specs.declared.Entered.{Entered}
 use Rattle.read_place.specs.declared.Linked.{Linked}
-use Rattle.read_place.specs.Place.{entered, tableOf, tableAt, linked, leftOf, leftAt, rightOf, rightAt, nameIn, nameAt}
+use Rattle.read_place.specs.Place.{entered, tableOf, tableAt, linked, linkOf, nameIn, nameAt}
 
 module _ (w : List ℕ) (first : Sector) (t : Region) (o : Offset) (r : Read) (reading : told r ≡ readAt w first t (o .0)) (v : Read) (is : r ≡ v) where
   pub by-table : (a : Entered) → entered a ≡ tableOf (told v) → entered a ≡ tableAt w first t (o .0)
   unfolding tableAt
   by-table a e = rw (← reading, is) e
 
-  pub by-left : (a : Linked) → linked a ≡ leftOf (told v) → linked a ≡ leftAt w first t (o .0)
-  unfolding leftAt
-  by-left a e = rw (← reading, is) e
-
-  pub by-right : (a : Linked) → linked a ≡ rightOf (told v) → linked a ≡ rightAt w first t (o .0)
-  unfolding rightAt
-  by-right a e = rw (← reading, is) e
+  pub by-side : (side : Header → Link) (a : Linked) → linked a ≡ linkOf side (told v) → linked a ≡ linkOf side (readAt w first t (o .0))
+  by-side side a e = rw (← reading, is) e
 
   pub by-name : (name : List ℕ) → name ≡ nameIn w (told v) → name ≡ nameAt w first t (o .0)
   unfolding nameAt

@@ -6,6 +6,7 @@ use mathlib.Core.Option.{Option, some, none}
 use Rattle.units.specs.Told.{Told, gives, refuses, pick}
 use Rattle.units.specs.declared.Sector.{Sector}
 use Rattle.units.specs.declared.Region.{Region}
+use Rattle.units.specs.declared.Link.{Link}
 use Rattle.layout_node.specs.declared.Header.{Header}
 use Rattle.layout_node.specs.Header.{isDirectory}
 use Rattle.read_entry.specs.Entry.{Placed, readAt, nameOf}
@@ -33,24 +34,19 @@ tableAt w first t o = tableOf (readAt w first t o)
 unfoldable pub byLink : List ℕ → ℕ → Told (Option ℕ)
 byLink absent k = pick (isIn k absent) (gives none) (gives (some (4 * k)))
 
--- the left and the right link of an entry that is read, with the links that the walk takes for absent; no entry has
--- none
-abbrev pub leftOf : Told (Option Placed) → Told (Option ℕ)
-leftOf (gives (some x)) = byLink walkAbsent (x .header .left .0)
-leftOf (gives none) = gives none
-leftOf (refuses k vs) = refuses k vs
-
-abbrev pub rightOf : Told (Option Placed) → Told (Option ℕ)
-rightOf (gives (some x)) = byLink walkAbsent (x .header .right .0)
-rightOf (gives none) = gives none
-rightOf (refuses k vs) = refuses k vs
+-- by one link of an entry that is read, with the links that the walk takes for absent: the side is the header's left
+-- or right link; no entry has none
+abbrev pub linkOf : (Header → Link) → Told (Option Placed) → Told (Option ℕ)
+linkOf side (gives (some x)) = byLink walkAbsent (side (x .header) .0)
+linkOf side (gives none) = gives none
+linkOf side (refuses k vs) = refuses k vs
 
 -- where the links of the entry at an offset lead
 unfoldable pub leftAt : List ℕ → Sector → Region → ℕ → Told (Option ℕ)
-leftAt w first t o = leftOf (readAt w first t o)
+leftAt w first t o = linkOf (λ h. h .left) (readAt w first t o)
 
 unfoldable pub rightAt : List ℕ → Sector → Region → ℕ → Told (Option ℕ)
-rightAt w first t o = rightOf (readAt w first t o)
+rightAt w first t o = linkOf (λ h. h .right) (readAt w first t o)
 
 -- the name of an entry that is read; empty where none is
 abbrev pub nameIn : List ℕ → Told (Option Placed) → List ℕ

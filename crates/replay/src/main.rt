@@ -27,8 +27,13 @@
 //         one byte, then the names; then, where it is planned, for each directory its size, for each its table's
 //         sector, and for each entry its sector. There are at most 16 directories and 2,112 entries. Which entry or
 //         directory is refused and the next free sector are not in it: the Rust does not tell.
-use replay_record::part;
-use replay_record::short_at;
+mod plan; // recorded plans
+mod read; // recorded lookups, paths and walks
+mod record; // what stands at a place of a record
+mod table; // recorded tables
+
+use record::part;
+use record::short_at;
 
 // How many records of each kind were run, and how many differ.
 struct Tally {
@@ -64,23 +69,23 @@ fn run(t: Tally, s: &[u8]) -> Tally {
     }
     if s[0] == b't' {
         u.tables = one_more(t.tables);
-        return with(u, replay_table::same_table(s));
+        return with(u, table::same_table(s));
     }
     if s[0] == b'i' {
         u.plans = one_more(t.plans);
-        return with(u, replay_plan::same_plan(s));
+        return with(u, plan::same_plan(s));
     }
     if s[0] == b'l' {
         u.lookups = one_more(t.lookups);
-        return with(u, replay_read::same_lookup(s));
+        return with(u, read::same_lookup(s));
     }
     if s[0] == b'p' {
         u.paths = one_more(t.paths);
-        return with(u, replay_read::same_path(s));
+        return with(u, read::same_path(s));
     }
     if s[0] == b'w' {
         u.walks = one_more(t.walks);
-        return with(u, replay_read::same_walk(s));
+        return with(u, read::same_walk(s));
     }
     with(u, false)
 }

@@ -1,11 +1,11 @@
 // Recorded plans: the front door plans the same directories, and the answer's number and all that is lent are
 // compared. crates/replay/src/main.rt describes the records.
-use replay_record::fill;
-use replay_record::fill_long;
-use replay_record::is;
-use replay_record::is_row;
-use replay_record::part;
-use replay_record::short_at;
+use crate::record::fill;
+use crate::record::fill_long;
+use crate::record::is;
+use crate::record::is_row;
+use crate::record::part;
+use crate::record::short_at;
 use xdvdfs::Planned;
 ghost use mathlib.Core.Path.{_≡_};
 ghost use Prim.Native.Nat.{_<_, _≤_};

@@ -1,11 +1,11 @@
 // Recorded lookups, paths and walks: the front door is asked the same, and its whole answer compared.
 // crates/replay/src/main.rt describes the records.
-use replay_record::is;
-use replay_record::is_row;
-use replay_record::number_at;
-use replay_record::part;
-use replay_record::rest;
-use replay_record::short_at;
+use crate::record::is;
+use crate::record::is_row;
+use crate::record::number_at;
+use crate::record::part;
+use crate::record::rest;
+use crate::record::short_at;
 use xdvdfs::Header;
 use xdvdfs::Looked;
 use xdvdfs::PathFound;

@@ -1,9 +1,9 @@
--- `replay_plan::are_zero` stays in bounds and ends. Assumes nothing.
+-- `replay::plan::are_zero` stays in bounds and ends. Assumes nothing.
 use Prim.Native.Nat.{_-_}
 use lib.ListN.{length}
 use borrow.Author.Needs.{needs}
-use Rattle.replay_plan.proofs.are_zero.Statement.{statement}
-use Rattle.replay_plan.proofs.are_zero.Tie as tie
+use Rattle.replay.proofs.plan.are_zero.Statement.{statement}
+use Rattle.replay.proofs.plan.are_zero.Tie as tie
 
 abbrev Inv-loop : tie.InvT-loop
 Inv-loop s i₀ i = Unit {0}

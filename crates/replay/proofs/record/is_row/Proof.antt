@@ -1,9 +1,9 @@
--- `replay_record::is_row` stays in bounds and ends. Assumes nothing.
+-- `replay::record::is_row` stays in bounds and ends. Assumes nothing.
 use Prim.Native.Nat.{_-_}
 use lib.ListN.{length}
 use borrow.Author.Needs.{needs}
-use Rattle.replay_record.proofs.is_row.Statement.{statement}
-use Rattle.replay_record.proofs.is_row.Tie as tie
+use Rattle.replay.proofs.record.is_row.Statement.{statement}
+use Rattle.replay.proofs.record.is_row.Tie as tie
 
 abbrev Inv-loop : tie.InvT-loop
 Inv-loop s at row n x i₀ i = Unit {0}

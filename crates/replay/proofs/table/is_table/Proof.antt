@@ -1,11 +1,11 @@
--- `replay_table::is_table` stays in bounds and ends. Assumes nothing.
+-- `replay::table::is_table` stays in bounds and ends. Assumes nothing.
 use Prim.Native.Nat.{_-_}
 use mathlib.Core.Path.{_≡_}
 use native.Mathlib.Omega.{arith}
 use lib.ListN.{length, length-set}
 use borrow.Author.Needs.{needs}
-use Rattle.replay_table.proofs.is_table.Statement.{statement}
-use Rattle.replay_table.proofs.is_table.Tie as tie
+use Rattle.replay.proofs.table.is_table.Statement.{statement}
+use Rattle.replay.proofs.table.is_table.Tie as tie
 
 abbrev Inv-loop : tie.InvT-loop
 Inv-loop out table i₀ i = Unit {0}

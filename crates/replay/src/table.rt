@@ -1,10 +1,10 @@
 // Recorded tables: the front door writes the same list, and its whole answer and the bytes are compared.
 // crates/replay/src/main.rt describes the records.
-use replay_record::fill;
-use replay_record::is;
-use replay_record::number_at;
-use replay_record::part;
-use replay_record::short_at;
+use crate::record::fill;
+use crate::record::is;
+use crate::record::number_at;
+use crate::record::part;
+use crate::record::short_at;
 use xdvdfs::ListWritten;
 use xdvdfs::Sector;
 ghost use Prim.Native.Nat.{_<_};
