@@ -168,12 +168,12 @@ reads-abc = readAt (bytesOf abc 34) (record { 0 = 33 }) (regionOf abc)
 
 reads-b : reads-abc 0 ≡ gives (some at-b)
 unfolding grown bal items endOf freeOf startAfter sectorsFor tableBytes bytesFrom entryBytes headerBytes raised numberOrder listOrder orderBy nameOrder
-    readAt readHere isBlank all headerOf
+    locateOf readAt readHere isBlank all headerOf
 reads-b = refl
 
 reads-a : reads-abc 16 ≡ gives (some at-a)
 unfolding grown bal items endOf freeOf startAfter sectorsFor tableBytes bytesFrom entryBytes headerBytes raised numberOrder listOrder orderBy nameOrder
-    readAt readHere isBlank all headerOf
+    locateOf readAt readHere isBlank all headerOf
 reads-a = refl
 
 pub two-ways : Along reads-abc 0 16 (4 ∷ []) × Along reads-abc 0 16 (4 ∷ 0 ∷ 4 ∷ [])
