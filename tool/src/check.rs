@@ -234,6 +234,7 @@ impl<'a, 'b> Checker<'a, 'b> {
     }
 
     fn look_up_each(&mut self, directory: usize, table: Table, entries: &[Listed<'a>]) {
+        let mut parents = None;
         for (i, l) in entries.iter().enumerate() {
             if i % 1024 == 1023 {
                 self.progress.tell(self.tables, self.entries.saturating_add(i as u64));
@@ -253,7 +254,18 @@ impl<'a, 'b> Checker<'a, 'b> {
                 Ok(found) if found.offset != l.offset => (None, format!("a lookup finds the entry at offset {}", found.offset)),
                 Ok(_) if l.entry.name.contains(&b'/') => (None, "no path leads to it, for its name has a slash".to_owned()),
                 Ok(_) => continue,
-                Err(error) => (Some(error.number()), format!("a lookup does not find it: {}", words(error))),
+                Err(error) => {
+                    let mut why = format!("a lookup does not find it: {}", words(error));
+                    let parents = parents.get_or_insert_with(|| parents_of(entries));
+                    if let (Error::DoesNotExist { .. }, Some(at)) = (error, unfollowed(parents, l.offset)) {
+                        why += &format!(
+                            "; a link of {} at offset {} is {UNFOLLOWED}, which a lookup takes for none",
+                            shown(at.entry.name),
+                            at.offset
+                        );
+                    }
+                    (Some(error.number()), why)
+                }
             };
             let message = format!("{} at offset {} is listed, but {why}", shown(l.entry.name), l.offset);
             self.add(Kind::Hidden, directory, Some((l.offset, Some(l.entry.name))), number, message);
@@ -295,6 +307,36 @@ impl<'a, 'b> Checker<'a, 'b> {
         }
         names.iter().rev().fold(self.start.clone(), |path, name| path.join(name))
     }
+}
+
+/// The link that the walk follows and a lookup does not: an entry at offset 1,020, and what is below it, is listed and not found.
+const UNFOLLOWED: u16 = 255;
+
+/// Of each offset that a listed entry's links lead to, that entry, and the link; the first that does.
+fn parents_of<'a>(entries: &[Listed<'a>]) -> HashMap<u32, (Listed<'a>, u16)> {
+    let mut parents = HashMap::new();
+    for l in entries {
+        for link in [l.entry.header.left, l.entry.header.right] {
+            if link != 0 && link != u16::MAX {
+                parents.entry(4 * u32::from(link)).or_insert((*l, link));
+            }
+        }
+    }
+    parents
+}
+
+/// The nearest entry above an offset whose link on the way there is one that no lookup follows.
+fn unfollowed<'a>(parents: &HashMap<u32, (Listed<'a>, u16)>, offset: u32) -> Option<Listed<'a>> {
+    let mut at = offset;
+    // no way up is longer, but where it goes round in a circle
+    for _ in 0..parents.len() {
+        let (parent, link) = parents.get(&at)?;
+        if *link == UNFOLLOWED {
+            return Some(*parent);
+        }
+        at = parent.offset;
+    }
+    None
 }
 
 /// The entry of a table whose link leads to an offset, as the walk follows links; the first that the walk meets.

@@ -47,9 +47,10 @@ fn statuses_and_streams() {
 #[test]
 fn a_closed_pipe() {
     let folder = Folder::new();
-    let many = (0..15_000).map(|i| file(&format!("{i:05}"), 1)).collect::<Vec<_>>();
-    let image = folder.file("game.iso", &image_of(&many));
-    for args in [&["ls", &image][..], &["ls", "-l", &image], &["ls", "--json", &image], &["--help"], &["check", "--json", &image]] {
+    let path = folder.path().join("game.iso");
+    sparse_image(&path, &fifteen_thousand(), 0, 4 * GIB);
+    let image = path.to_str().unwrap();
+    for args in [&["ls", image][..], &["ls", "-l", image], &["ls", "--json", image], &["--help"], &["check", "--json", image]] {
         let mut child = Command::new(PROGRAM).args(args).stdout(Stdio::piped()).stderr(Stdio::piped()).spawn().unwrap();
         let mut stdout = child.stdout.take().unwrap();
         stdout.read_exact(&mut [0; 4]).unwrap();
@@ -59,7 +60,7 @@ fn a_closed_pipe() {
         assert!(matches!(ended.status.code(), Some(0 | 1)), "{args:?}: {}", ended.status);
     }
     let full = std::fs::OpenOptions::new().write(true).open("/dev/full").unwrap();
-    let ended = Command::new(PROGRAM).args(["ls", &image]).stdout(full).output().unwrap();
+    let ended = Command::new(PROGRAM).args(["ls", image]).stdout(full).output().unwrap();
     assert_eq!(ended.status.code(), Some(1));
     assert!(String::from_utf8_lossy(&ended.stderr).contains("cannot write the output"));
     let full = std::fs::OpenOptions::new().write(true).open("/dev/full").unwrap();
@@ -100,7 +101,7 @@ fn least_time(args: &[&str], status: i32) -> Duration {
 #[test]
 fn large_images_at_once() {
     let folder = Folder::new();
-    let mut members = vec![directory("many", (0..15_000).map(|i| file(&format!("{i:05}"), 100_000)).collect())];
+    let mut members = vec![directory("many", fifteen_thousand())];
     let small = |i: u32| directory(&format!("d{i:03}"), (0..9).map(|k| file(&format!("f{k}"), 1000)).collect());
     members.extend((0..1000).map(small));
     for partition in [0, 0x1830_0000, 0x0fd9_0000, 0x0208_0000] {
@@ -111,7 +112,7 @@ fn large_images_at_once() {
             (&["info", image][..], 0),
             (&["ls", image], 0),
             (&["ls", "-l", image, "many"], 0),
-            (&["find", image, "MANY/07777"], 0),
+            (&["find", image, "MANY/AZ"], 0),
             (&["check", image], 1), // a link of 255 hides names of the root
             (&["check", image, "many"], 1),
             (&["check", "--all", image], 1),

@@ -188,6 +188,17 @@ pub fn sample() -> Vec<Member> {
     vec![file("default.xbe", 7), directory("maps", maps), file("save", 2048), directory("empty", vec![]), file("a b", 0)]
 }
 
+/// 15,000 files in one directory, which is nearly all that a table takes: their names are as short as can be, control bytes among them.
+pub fn fifteen_thousand() -> Vec<Member> {
+    let letters: Vec<char> = (1..128u8).map(char::from).filter(|c| !c.is_ascii_lowercase() && *c != '/').collect();
+    let names = |length: u32| {
+        let letters = letters.clone();
+        (0..letters.len().pow(length))
+            .map(move |i| (0..length).map(|k| letters[i / letters.len().pow(k) % letters.len()]).collect::<String>())
+    };
+    names(1).chain(names(2)).chain(names(3)).take(15_000).map(|name| file(&name, 100_000)).collect()
+}
+
 /// Numbers that look random and are the same in each run.
 pub struct Dice(u64);
 
