@@ -94,6 +94,7 @@ struct Checker<'a, 'b> {
     faults: u64,
     hidden: u64,
     untold: u64,
+    stopped: bool,
     progress: Progress,
 }
 
@@ -114,6 +115,7 @@ impl<'a, 'b> Checker<'a, 'b> {
             faults: 0,
             hidden: 0,
             untold: 0,
+            stopped: false,
             progress,
         }
     }
@@ -142,7 +144,7 @@ impl<'a, 'b> Checker<'a, 'b> {
             if let Some(&(first, is_open)) = self.met.get(&(table.sector, table.size)) {
                 self.met_again(above, name, table, first, is_open);
             } else if self.is_spent() {
-                self.add(Kind::Stopped, above, None, None, self.spent());
+                self.stop(above);
                 return;
             } else if deep > MOST_DEEP {
                 self.add(Kind::Stopped, above, None, None, format!("directories more than {MOST_DEEP} deep are not gone into"));
@@ -234,13 +236,13 @@ impl<'a, 'b> Checker<'a, 'b> {
     }
 
     fn look_up_each(&mut self, directory: usize, table: Table, entries: &[Listed<'a>]) {
-        let mut parents = None;
+        let mut behind = None;
         for (i, l) in entries.iter().enumerate() {
             if i % 1024 == 1023 {
                 self.progress.tell(self.tables, self.entries.saturating_add(i as u64));
             }
             if self.headers > MOST_HEADERS {
-                self.add(Kind::Stopped, directory, None, None, self.spent());
+                self.stop(directory);
                 return;
             }
             let looked_up = self.window.look_up(table, l.entry.name);
@@ -256,8 +258,8 @@ impl<'a, 'b> Checker<'a, 'b> {
                 Ok(_) => continue,
                 Err(error) => {
                     let mut why = format!("a lookup does not find it: {}", words(error));
-                    let parents = parents.get_or_insert_with(|| parents_of(entries));
-                    if let (Error::DoesNotExist { .. }, Some(at)) = (error, unfollowed(parents, l.offset)) {
+                    let behind = behind.get_or_insert_with(|| behind_unfollowed(entries));
+                    if let (Error::DoesNotExist { .. }, Some(at)) = (error, behind.get(&l.offset)) {
                         why += &format!(
                             "; a link of {} at offset {} is {UNFOLLOWED}, which a lookup takes for none",
                             shown(at.entry.name),
@@ -286,6 +288,14 @@ impl<'a, 'b> Checker<'a, 'b> {
         self.findings.push(Finding { kind, directory, offset, name, number, message });
     }
 
+    /// Told once, where it came to that.
+    fn stop(&mut self, directory: usize) {
+        if !self.stopped {
+            self.stopped = true;
+            self.add(Kind::Stopped, directory, None, None, self.spent());
+        }
+    }
+
     fn is_spent(&self) -> bool {
         self.entries > MOST_ENTRIES || self.headers > MOST_HEADERS
     }
@@ -294,7 +304,7 @@ impl<'a, 'b> Checker<'a, 'b> {
         if self.entries > MOST_ENTRIES {
             format!("the directories list more than {MOST_ENTRIES} entries")
         } else {
-            format!("more than {MOST_HEADERS} entry headers were read, or may have been in tables that cannot be listed")
+            format!("there is too much to read: more than {MOST_HEADERS} entry headers")
         }
     }
 
@@ -312,31 +322,18 @@ impl<'a, 'b> Checker<'a, 'b> {
 /// The link that the walk follows and a lookup does not: an entry at offset 1,020, and what is below it, is listed and not found.
 const UNFOLLOWED: u16 = 255;
 
-/// Of each offset that a listed entry's links lead to, that entry, and the link; the first that does.
-fn parents_of<'a>(entries: &[Listed<'a>]) -> HashMap<u32, (Listed<'a>, u16)> {
-    let mut parents = HashMap::new();
+/// Of each offset to which such a link is on the way, the entry that has it; the first on the way down. Entries come in walk order, each after the one that leads to it.
+fn behind_unfollowed<'a>(entries: &[Listed<'a>]) -> HashMap<u32, Listed<'a>> {
+    let mut behind = HashMap::new();
     for l in entries {
+        let above = behind.get(&l.offset).copied();
         for link in [l.entry.header.left, l.entry.header.right] {
-            if link != 0 && link != u16::MAX {
-                parents.entry(4 * u32::from(link)).or_insert((*l, link));
+            if let Some(at) = above.or((link == UNFOLLOWED).then_some(*l)) {
+                behind.entry(4 * u32::from(link)).or_insert(at);
             }
         }
     }
-    parents
-}
-
-/// The nearest entry above an offset whose link on the way there is one that no lookup follows.
-fn unfollowed<'a>(parents: &HashMap<u32, (Listed<'a>, u16)>, offset: u32) -> Option<Listed<'a>> {
-    let mut at = offset;
-    // no way up is longer, but where it goes round in a circle
-    for _ in 0..parents.len() {
-        let (parent, link) = parents.get(&at)?;
-        if *link == UNFOLLOWED {
-            return Some(*parent);
-        }
-        at = parent.offset;
-    }
-    None
+    behind
 }
 
 /// The entry of a table whose link leads to an offset, as the walk follows links; the first that the walk meets.

@@ -29,11 +29,16 @@ fn number_of(ran: &Ran) -> u64 {
     ran.json()["refused"]["number"].as_u64().unwrap()
 }
 
-/// What the tool says of a directory, and the question to the Rust.
+/// What the tool says of a directory, and the question to the Rust. Of a table that cannot be listed it does not say where it is: that of the root is asked for by itself.
 fn listed(image: &str, path: &str) -> Option<(Vec<String>, String)> {
     let ran = xdvdfs(&["ls", "--json", "--", image, path]);
     if ran.status != 0 {
-        return None;
+        // where the list is full the Rust may never return
+        if path != "/" || number_of(&ran) == 26 {
+            return None;
+        }
+        let root = &xdvdfs(&["info", "--json", image]).json()["root"];
+        return Some((vec![format!("refused {}", number_of(&ran))], format!("walk {} {}", root["sector"], root["size"])));
     }
     let answer = ran.json();
     let text = |v: &serde_json::Value| v.as_str().map_or(v.to_string(), str::to_owned);
@@ -73,12 +78,13 @@ fn as_the_rust_answers() {
     let many = (0..100).map(|i| file(&format!("file{i:02}"), i)).collect::<Vec<_>>();
     let bases = [image_of(&sample()), image_of(&many), image_of(&[directory("maps", many)]), image_of(&[])];
     let mut dice = Dice::new(7);
-    let (mut lists, mut paths) = (0, 0);
+    let (mut lists, mut faults, mut paths) = (0, 0, 0);
     for round in 0..400 {
         let mut bytes = bases[round % bases.len()].clone();
         if round >= bases.len() {
             for _ in 0..=dice.below(5) {
-                let place = 33 * 2048 + dice.below(if dice.below(2) == 0 { 64 } else { 3 * 2048 }.min(bytes.len() - 33 * 2048));
+                let most = [64, 3 * 2048][dice.below(2)].min(bytes.len() - 33 * 2048);
+                let place = 33 * 2048 + dice.below(most);
                 bytes[place] = [0, 4, 8, 16, 255, dice.next() as u8][dice.below(6)];
             }
         }
@@ -87,6 +93,7 @@ fn as_the_rust_answers() {
         for path in ["/", "maps", "maps/night", "empty"] {
             if let Some((lines, question)) = listed(&image, path) {
                 questions.push(question);
+                faults += usize::from(lines[0].starts_with("refused"));
                 own.extend(lines);
                 lists += 1;
             }
@@ -106,6 +113,6 @@ fn as_the_rust_answers() {
         let at = |i: usize| (own.get(i), theirs.get(i));
         assert_eq!((own.len(), differs), (theirs.len(), None), "round {round}: {:?}", differs.map(at));
     }
-    let _ = writeln!(std::io::stderr(), "compared with the Rust: {lists} directories, {paths} paths");
-    assert!(lists > 400 && paths > 20_000);
+    let _ = writeln!(std::io::stderr(), "compared with the Rust: {lists} directories, {faults} of them refused, and {paths} paths");
+    assert!(lists > 400 && faults > 20 && paths > 20_000);
 }

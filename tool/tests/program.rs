@@ -133,6 +133,41 @@ fn large_images_at_once() {
     }
 }
 
+/// Tables whose entries hang on one another in a row, so that lookups take long: `check --all` tells on a terminal how far it is, and elsewhere nothing.
+#[test]
+fn progress() {
+    let folder = Folder::new();
+    let after = |i: u16, last: u16, units: u16| if i == last { 0 } else { units * (i + 1) };
+    let row: Vec<Vec<u8>> = (0..8000).map(|i| entry(0, after(i, 7999, 8), 1, 1, 0x20, format!("{i:018}").as_bytes())).collect();
+    let places = |d: u16| 34 + 125 * u32::from(d);
+    let root = (0..5).map(|d| entry(0, after(d, 4, 4), places(d), 256_000, 0x10, &[b'0' + d as u8])).collect();
+    let mut tables = vec![(33, root)];
+    tables.extend((0..5).map(|d| (places(d), row.clone())));
+    let image = folder.file("slow.iso", &image_by_hand(&tables));
+    let started = Instant::now();
+    let quiet = start(&["check", "--all", &image]);
+    let took = started.elapsed();
+    assert_eq!((quiet.status.code(), quiet.stderr.is_empty()), (Some(0), true));
+    assert_eq!(String::from_utf8(quiet.stdout).unwrap(), "6 tables, 40005 entries: good, and a lookup finds every name\n");
+    if took < Duration::from_secs(2) || Command::new("script").arg("--version").output().is_err() {
+        let _ = writeln!(
+            std::io::stderr(),
+            "skipped: progress on a terminal: no program 'script', or the check takes {took:?}, too short to be told of"
+        );
+        return;
+    }
+    let told = Command::new("script")
+        .args(["-qec", &format!("{PROGRAM} check --all {image}"), "/dev/null"])
+        .stdin(Stdio::null())
+        .output()
+        .unwrap();
+    let told = String::from_utf8(told.stdout).unwrap();
+    // lines of progress, the last of which is gone before the answer comes
+    let (progress, answer) = told.split_at(told.rfind("\u{1b}[2K").expect("a line that is cleared"));
+    assert!(progress.contains(" tables, ") && progress.contains(" entries"), "{progress:?}");
+    assert!(answer.contains("6 tables, 40005 entries: ") && answer.contains("good, and a lookup finds every name"), "{answer:?}");
+}
+
 /// On a terminal there are colours, unless NO_COLOR says otherwise; a table's bytes are refused there.
 #[test]
 fn on_a_terminal() {

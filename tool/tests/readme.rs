@@ -1,6 +1,7 @@
 //! README's section on the tool, run as printed: each line that starts with `$ ` in a folder that has the repository's crates/, and the lines after it compared.
 mod common;
 use common::*;
+use std::io::Write;
 use std::path::Path;
 use std::process::Command;
 
@@ -24,7 +25,12 @@ fn the_section_runs_as_printed() {
         }
     }
     assert!(printed.len() >= 10, "only {} commands in the section", printed.len());
+    let has_jq = Command::new("jq").arg("--version").output().is_ok();
     for (command, wanted) in printed {
+        if command.contains("| jq") && !has_jq {
+            let _ = writeln!(std::io::stderr(), "skipped: {command}: no program 'jq'");
+            continue;
+        }
         let ran = Command::new("bash").args(["-c", &format!("{{ {command}; }} 2>&1")]).current_dir(folder.path()).output().unwrap();
         assert_eq!(String::from_utf8(ran.stdout).unwrap(), wanted, "$ {command}");
     }
