@@ -50,6 +50,7 @@ impl Image {
         }
         // SAFETY: the map is read only and lives as long as the slices of it. That nobody shortens or changes the file meanwhile cannot be had from the
         // system; README says that this is outside the promise: the program may be ended by a signal, or answer out of both contents.
+        #[allow(unsafe_code)]
         let map = unsafe { MmapOptions::new().len(length).map(&file) }.map_err(|e| unfit(&e))?;
         Ok(Image { map: Some(map) })
     }

@@ -1,5 +1,6 @@
 //! What the program `xdvdfs` does, as a library, so that tests call it in their own process. Every answer about an image, a table or a plan comes from the proved
 //! library through `xdvdfs_tables`; this crate opens files, splits paths, and puts answers into words or JSON.
+#![deny(unsafe_code)] // but for the map of the image, image.rs
 mod arguments;
 mod check;
 mod fault;

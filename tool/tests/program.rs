@@ -104,6 +104,7 @@ fn large_images_at_once() {
     let mut members = vec![directory("many", fifteen_thousand())];
     let small = |i: u32| directory(&format!("d{i:03}"), (0..9).map(|k| file(&format!("f{k}"), 1000)).collect());
     members.extend((0..1000).map(small));
+    let mut slowest = Duration::ZERO;
     for partition in [0, 0x1830_0000, 0x0fd9_0000, 0x0208_0000] {
         let path = folder.path().join("game.iso");
         sparse_image(&path, &members, partition, 4 * GIB);
@@ -118,12 +119,7 @@ fn large_images_at_once() {
             (&["check", "--all", image], 1),
         ] {
             let time = least_time(args, status);
-            let _ = writeln!(
-                std::io::stderr(),
-                "4 GiB, partition at {partition:#x}: {:?} {:.3} s",
-                &args[..args.len().min(2)],
-                time.as_secs_f64()
-            );
+            slowest = slowest.max(time);
             assert!(time < Duration::from_secs(1), "{args:?} took {time:?}");
         }
         let info: serde_json::Value = serde_json::from_slice(&start(&["info", "--json", image]).stdout).unwrap();
@@ -131,6 +127,7 @@ fn large_images_at_once() {
         assert_eq!(start(&["ls", image, "many"]).stdout.iter().filter(|&&b| b == b'\n').count(), 15_000);
         std::fs::remove_file(path).unwrap();
     }
+    let _ = writeln!(std::io::stderr(), "sparse images of 4 GiB: the slowest command took {:.3} s", slowest.as_secs_f64());
 }
 
 /// Tables whose entries hang on one another in a row, so that lookups take long: `check --all` tells on a terminal how far it is, and elsewhere nothing.
