@@ -8,6 +8,14 @@ pub struct Table {
     pub size: u32,
 }
 
+impl Table {
+    /// How many entries a table of this size lists at most, if none of them twice: an entry starts at a multiple of four below the size, and no link reaches past 262,140.
+    /// A list of so many places is too short ([`Error::WalkFull`]) only where an entry is listed twice, or where the links lead round in a circle.
+    pub fn most_entries(self) -> usize {
+        self.size.div_ceil(4).min(65_536) as usize
+    }
+}
+
 /// The header of an entry. Links are in units of four bytes.
 #[derive(Clone, Copy, Debug, PartialEq, Eq)]
 pub struct Header {

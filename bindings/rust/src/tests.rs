@@ -95,6 +95,23 @@ fn walking_and_lent_memory() {
 }
 
 #[test]
+fn a_list_of_most_entries_is_long_enough() {
+    let most = |size| Table { sector: 0, size }.most_entries();
+    assert_eq!([0, 1, 4, 5, 262_140, 262_144, u32::MAX].map(most), [0, 1, 1, 2, 65_535, 65_536, 65_536]);
+    // entries at every multiple of four, over one another, each the right child of the one before it; the last is blank
+    let mut bytes = vec![0; 4 * 65_534 + 14];
+    for unit in 0..65_534u16 {
+        bytes[4 * usize::from(unit) + 2..][..2].copy_from_slice(&(unit + 1).to_le_bytes());
+    }
+    let table = Table { sector: 0, size: u32::MAX };
+    let window = Window { bytes: &bytes, first: 0 };
+    assert_eq!(window.list(table, table.most_entries()).map(|l| l.len()), Ok(65_534));
+    let last = 4 * 65_534 + 2;
+    bytes[last..last + 2].copy_from_slice(&1u16.to_le_bytes()); // a circle
+    assert_eq!(Window { bytes: &bytes, first: 0 }.list(table, table.most_entries()), Err(Error::WalkFull));
+}
+
+#[test]
 fn strict_faults() {
     let (mut bytes, w) = table_of(&["a", "b", "c"], 34);
     let table = Table { sector: 0, size: w.size };

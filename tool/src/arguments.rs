@@ -1,0 +1,279 @@
+//! The command line. Help has at most 80 columns; tests/help/ has what it looks like.
+use clap::{Args, Parser, Subcommand};
+use std::ffi::OsString;
+use std::path::PathBuf;
+
+const AFTER: &str = "\
+Examples:
+  xdvdfs ls game.iso              the root directory
+  xdvdfs ls -l game.iso maps      a directory, with sectors, sizes and offsets
+  xdvdfs find game.iso maps/one   where a file stands
+  xdvdfs check --all game.iso     whether every table is sound, every name found
+  xdvdfs plan --dir folder        where an image of a folder has everything
+
+The game partition is sought at the bytes 0, 0x18300000 (XGD1), 0x0fd90000
+(XGD2) and 0x02080000 (XGD3) of the file, and starts at the first of them that
+has a volume descriptor at its sector 32. Sectors have 2048 bytes and are
+counted from the start of the partition.
+
+Names are bytes. As text a backslash is doubled, and a byte that cannot be
+printed is \\xNN. In JSON a name is there twice: name is a string, or null where
+the bytes are not UTF-8, and name_hex is the bytes; so with path and path_hex.
+
+A refusal goes to standard error, in words and with its number. With --json
+there is an object on standard output too, {command, refused: {number, message,
+offset, headers}}; what does not apply is null.
+
+Exit status: 0 done; 1 refused, or check found a fault; 2 wrong usage.
+Each command says more with --help.";
+
+/// Lists, searches, checks and plans XDVDFS images with proved code
+#[derive(Debug, Parser)]
+#[command(name = "xdvdfs", version, after_help = AFTER, arg_required_else_help = true, disable_help_subcommand = true)]
+pub struct Arguments {
+    /// Answer with one JSON object on one line
+    #[arg(long, global = true)]
+    pub json: bool,
+    #[command(subcommand)]
+    pub command: Command,
+}
+
+#[derive(Debug, Subcommand)]
+pub enum Command {
+    Ls(LsArguments),
+    Find(FindArguments),
+    Check(CheckArguments),
+    Info(InfoArguments),
+    Plan(PlanArguments),
+    Table(TableArguments),
+}
+
+impl Command {
+    pub fn name(&self) -> &'static str {
+        match self {
+            Command::Ls(_) => "ls",
+            Command::Find(_) => "find",
+            Command::Check(_) => "check",
+            Command::Info(_) => "info",
+            Command::Plan(_) => "plan",
+            Command::Table(_) => "table",
+        }
+    }
+}
+
+#[derive(Debug, Args)]
+pub struct ImageArguments {
+    /// The image: a file or a block device
+    pub image: PathBuf,
+    /// Byte of the file at which the game partition starts
+    #[arg(long, value_name = "BYTE", value_parser = number)]
+    pub offset: Option<u64>,
+}
+
+const LS: &str = "\
+The entries come in the order of the table's tree. A directory's name ends with
+a slash. An empty directory prints nothing.
+
+Examples:
+  xdvdfs ls game.iso
+  xdvdfs ls -l game.iso maps/day
+  xdvdfs ls --json game.iso | jq -r '.entries[].name'
+
+JSON: {command, image, partition: {offset, name}, path, path_hex,
+       table: {sector, size}, entries: [{name, name_hex, kind, sector, size,
+       offset, attributes}]}
+kind is \"file\" or \"directory\".";
+
+/// Lists a directory
+#[derive(Debug, Args)]
+#[command(after_help = LS)]
+pub struct LsArguments {
+    #[command(flatten)]
+    pub image: ImageArguments,
+    /// The directory; nothing or slashes alone: the root
+    pub path: Option<OsString>,
+    /// With kind, first sector, size, and offset in the table
+    #[arg(short, long)]
+    pub long: bool,
+}
+
+const FIND: &str = "\
+A name is found whatever the case of its letters a to z. The headers are the
+entry headers that the lookup read, the found one among them.
+
+Examples:
+  xdvdfs find game.iso default.xbe
+  xdvdfs find game.iso Maps/ONE.BIN
+  xdvdfs find --json game.iso default.xbe | jq .entry.sector
+
+JSON: {command, image, partition: {offset, name}, path, path_hex, entry, byte,
+       headers, steps: [{name, name_hex, table: {sector, size}, offset,
+       headers}]}
+entry is as ls has it, byte the one of the file at which its data starts; there
+is a step for each part of the path.";
+
+/// Finds a file or a directory by its path
+#[derive(Debug, Args)]
+#[command(after_help = FIND)]
+pub struct FindArguments {
+    #[command(flatten)]
+    pub image: ImageArguments,
+    /// The path, its parts separated by slashes
+    pub path: OsString,
+}
+
+const CHECK: &str = "\
+Two things are checked of a table. The strict check: no entry is reached twice,
+none overlaps another, crosses a sector line or leaves the table, and each name
+is on the right side of its parent's; the first fault is told. And of each name
+that is listed, whether a lookup of it finds that same entry: a table may list a
+file that no lookup finds. A name that has a byte above 127, or a slash, cannot
+be asked for, and counts as hidden.
+
+With --all every directory is gone through, each table once; a directory inside
+of itself is a fault. So is what is too much to go through: directories more
+than 128 deep, 4194304 entries, a billion headers to read.
+
+Examples:
+  xdvdfs check game.iso
+  xdvdfs check game.iso maps
+  xdvdfs check --all game.iso && echo good
+
+JSON: {command, image, partition: {offset, name}, path, path_hex, all, good,
+       tables, entries, faults, hidden, shared, untold}
+faults, hidden and shared are lists of {path, path_hex, table: {sector, size},
+kind, number, message, offset, name, name_hex}: faults with kind \"strict\",
+\"walk\" (the table cannot be listed), \"cycle\" or \"stopped\"; names that a lookup
+does not find; directories whose table was checked under another name, which is
+no fault. untold is how many of these are left out, after 65536.";
+
+/// Checks a directory's table, or every table of the image
+#[derive(Debug, Args)]
+#[command(after_help = CHECK)]
+pub struct CheckArguments {
+    #[command(flatten)]
+    pub image: ImageArguments,
+    /// The directory; nothing or slashes alone: the root
+    pub path: Option<OsString>,
+    /// The tables of all directories below it too
+    #[arg(long)]
+    pub all: bool,
+}
+
+const INFO: &str = "\
+Examples:
+  xdvdfs info game.iso
+  xdvdfs info --json game.iso | jq .root.sector
+
+JSON: {command, image, length, partition: {offset, name}, sectors,
+       root: {sector, size}}
+length is that of the file; sectors are the whole ones from the partition's
+start to the end of the file.";
+
+/// Shows where the game partition and the root directory are
+#[derive(Debug, Args)]
+#[command(after_help = INFO)]
+pub struct InfoArguments {
+    #[command(flatten)]
+    pub image: ImageArguments,
+}
+
+#[derive(Debug, Args)]
+pub struct SourceArguments {
+    /// The list of directories and files; - for standard input
+    #[arg(required_unless_present = "dir", conflicts_with = "dir")]
+    pub manifest: Option<PathBuf>,
+    /// The directories and files of a folder instead
+    #[arg(long, value_name = "FOLDER")]
+    pub dir: Option<PathBuf>,
+}
+
+macro_rules! with_manifest {
+    ($rest:literal) => {
+        concat!(
+            "\
+A manifest is text or a JSON list. In text a line is a file with its size, or a
+directory; the path goes to the end of the line; empty lines and lines that
+start with # do not count:
+  d maps
+  f 5000 maps/two.bin
+  f 7 limits
+The same in JSON:
+  [{\"directory\": \"maps\"}, {\"file\": \"maps/two.bin\", \"size\": 5000},
+   {\"file\": \"limits\", \"size\": 7}]
+The directories that a path leads through need no line of their own. Sectors
+are given out directory by directory: to what the root has, then to what the
+others have, in the order in which the manifest first names them. A folder is
+read level by level, its names sorted by their bytes; links to files are
+followed.
+
+",
+            $rest
+        )
+    };
+}
+
+const PLAN: &str = with_manifest!(
+    "\
+Printed are, by sector, kind, first sector, number of sectors, size and path; a
+directory's size is that of its table, not rounded.
+
+Examples:
+  xdvdfs plan game.txt
+  printf 'f 7 limits\\nf 5000 maps/two.bin\\n' | xdvdfs plan -
+  xdvdfs plan --dir folder --json | jq .next_free
+
+JSON: {command, directories: [{path, path_hex, sector, sectors, size}],
+       files: [the same], next_free, bytes}
+next_free is the first sector that nothing takes, bytes the length of an image
+that ends there."
+);
+
+/// Plans an image: where each directory's table and each file would be
+#[derive(Debug, Args)]
+#[command(after_help = PLAN, override_usage = "xdvdfs plan [OPTIONS] <MANIFEST|--dir <FOLDER>>")]
+pub struct PlanArguments {
+    #[command(flatten)]
+    pub source: SourceArguments,
+}
+
+const TABLE: &str = with_manifest!(
+    "\
+The bytes are whole sectors. They go to the sector that plan has for the
+directory. They are not written to a terminal.
+
+Examples:
+  xdvdfs table game.txt -o root.table
+  xdvdfs table game.txt --path maps | xxd -l 64
+
+JSON, which needs -o FILE: {command, path, path_hex, sector, size, bytes, first,
+       output}
+sector is where the table goes, size not rounded, bytes the number written,
+first the sector of the first of its entries, null where there is none."
+);
+
+/// Writes the table of one directory of a planned image
+#[derive(Debug, Args)]
+#[command(after_help = TABLE, override_usage = "xdvdfs table [OPTIONS] <MANIFEST|--dir <FOLDER>>")]
+pub struct TableArguments {
+    #[command(flatten)]
+    pub source: SourceArguments,
+    /// The directory, the root if not given
+    #[arg(long, value_name = "PATH")]
+    pub path: Option<OsString>,
+    /// Where to write, standard output if not given
+    #[arg(short, long, value_name = "FILE")]
+    pub output: Option<PathBuf>,
+}
+
+/// A number of bytes, decimal or with 0x in front.
+fn number(text: &str) -> Result<u64, String> {
+    let (digits, base) = match text.strip_prefix("0x").or_else(|| text.strip_prefix("0X")) {
+        Some(digits) => (digits, 16),
+        None => (text, 10),
+    };
+    if digits.is_empty() || !digits.chars().all(|c| c.is_digit(base)) {
+        return Err("no number; 12345 or 0x3039 is one".to_owned());
+    }
+    u64::from_str_radix(digits, base).map_err(|e| e.to_string())
+}
