@@ -6,10 +6,11 @@
 use Prim.Native.Nat.{ℕ, _+_, _/_, _%_, _≤_, _<_}
 use native.Mathlib.Omega.{arith}
 use native.Mathlib.Decide.{ℕ-discrete}
-use mathlib.Core.Path.{_≡_, refl, sym, ap, subst, _∙_}
+use mathlib.Core.Path.{_≡_, refl, sym, ap, ap₂, subst, _∙_}
 use mathlib.Core.Bool.{Bool, true, false}
 use mathlib.Core.Logic.{_⊎_, inl, inr}
 use mathlib.Core.List.{List, [], _∷_, _++_, map, List·Memᴰ, List·Memᴰ·head, List·Memᴰ·tail, List·Memᴰ·append-cases, Memᴰ·append-left, Memᴰ·append-right}
+use mathlib.Core.Option.{some}
 use lib.Dec.{eqb}
 use lib.ListN.{length}
 use Rattle.units.specs.Told.{Told, gives, refuses, pick}
@@ -17,7 +18,7 @@ use Rattle.units.specs.declared.Sector.{Sector}
 use Rattle.units.specs.declared.Region.{Region}
 use Rattle.layout_name.specs.Order.{raised}
 use Rattle.layout_node.specs.Header.{isDirectory}
-use Rattle.read_entry.specs.Entry.{readAt, nameOf}
+use Rattle.read_entry.specs.Entry.{Placed, readAt, nameOf}
 use Rattle.read_entry.specs.Links.{lookupAbsent, walkAbsent}
 use Rattle.read_lookup.specs.Lookup.{Finding, lookupBy}
 use Rattle.read_path.specs.Path as path
@@ -33,12 +34,13 @@ use Rattle.img_model.specs.Plan.{entriesAt, Plan}
 use Rattle.img_model.proofs.Rule.{some-directory, names-one}
 use Rattle.agree.specs.Agreement.{placedAt, Same, ReadBack, Reached}
 use Rattle.agree.specs.Given.{times}
+use Rattle.agree.proofs.Unique.{way-ends}
 use Rattle.avl_model.proofs.Frame.{δ-apart}
-use Rattle.agree_plan.specs.Planned.{itemsAt, sectorAt}
-use Rattle.agree_plan.specs.Image.{Imaged, rootOf, RegionFor, Part, joined, Leads, last, into, regionOf, here, on, Finds, AllParts}
+use Rattle.agree_plan.specs.Planned.{treeAt, startSector, itemsAt, sectorAt}
+use Rattle.agree_plan.specs.Image.{Imaged, rootOf, RegionFor, Part, joined, Leads, last, into, regionOf, Way, here, on, Finds, AllParts}
 use Rattle.agree_plan.proofs.Tables.{rule-kept}
 use Rattle.agree_plan.proofs.Sectors.{sectors-planned}
-use Rattle.agree_plan.proofs.Agrees.{directory-kind, table-agrees, root-region, entry-region}
+use Rattle.agree_plan.proofs.Agrees.{directory-kind, table-written, table-agrees, root-region, entry-region}
 use Rattle.agree_plan.proofs.Paths.{joined-path}
 
 -- ---- lists
@@ -61,6 +63,61 @@ cut-after absent ks ls f t = go (List·Memᴰ·append-cases ks (t .among))
         let y : _≡_ {A = ℕ} 0 1 = cc in
         absurd (omega arith)
     go (inr m) = record { link = t .link; among = m; taken = t .taken }
+
+real-front : (ks ls ms : List ℕ) → ms ≡ ks ++ ls → Real ms → Real ks
+real-front ks ls ms e r k m = r k (subst (List·Memᴰ k) (sym e) (Memᴰ·append-left ls m))
+
+real-back : (ks ls ms : List ℕ) → ms ≡ ks ++ ls → Real ms → Real ls
+real-back ks ls ms e r k m = r k (subst (List·Memᴰ k) (sym e) (Memᴰ·append-right ks m))
+
+-- an answer gives one finding
+one-given : {a : Told Finding} {x y : Finding} → a ≡ gives x → a ≡ gives y → x ≡ y
+one-given p q = cc
+
+-- ---- a way of parts, by how many there are
+
+module _ (w : List ℕ) (first : Sector) (t : Region) where
+  -- of one part
+  record OfOne (a ks : List ℕ) (y : Placed) : Type 0 where
+    at : ℕ
+    read : readAt w first t at ≡ gives (some y)
+    named : Same a (nameOf w (y .place) (y .header .«name_len»))
+    way : Along (readAt w first t) 0 at ks
+
+  of-one : (parts : List (List ℕ)) (a ks : List ℕ) (y : Placed) → parts ≡ a ∷ [] → Way w first t parts ks y → OfOne a ks y
+  of-one parts a ks y e (here _ b o _ _ read same along) =
+      let q : b ≡ a = cc in
+      record { at = o; read = read; named = subst (λ (z : List ℕ). Same z (nameOf w (y .place) (y .header .«name_len»))) q same; way = along }
+  of-one parts a ks y e (on _ b c cs o x _ js ls read same along rest) = let z : _≡_ {A = ℕ} 0 1 = cc in absurd (omega arith)
+
+  -- of more
+  record OfMore (a b : List ℕ) (cs : List (List ℕ)) (ks : List ℕ) (y : Placed) : Type 0 where
+    at : ℕ
+    entry : Placed
+    front : List ℕ
+    back : List ℕ
+    links : ks ≡ front ++ back
+    read : readAt w first t at ≡ gives (some entry)
+    named : Same a (nameOf w (entry .place) (entry .header .«name_len»))
+    way : Along (readAt w first t) 0 at front
+    rest : Way w first (regionOf entry) (b ∷ cs) back y
+
+  of-more : (parts : List (List ℕ)) (a b : List ℕ) (cs : List (List ℕ)) (ks : List ℕ) (y : Placed) → parts ≡ a ∷ b ∷ cs → Way w first t parts ks y → OfMore a b cs ks y
+  of-more parts a b cs ks y e (here _ c o _ _ read same along) = let z : _≡_ {A = ℕ} 0 1 = cc in absurd (omega arith)
+  of-more parts a b cs ks y e (on _ c d ds o x _ js ls read same along rest) =
+      let q : c ≡ a = cc in
+      let r : d ∷ ds ≡ b ∷ cs = cc in
+      record {
+        at = o;
+        entry = x;
+        front = js;
+        back = ls;
+        links = refl;
+        read = read;
+        named = subst (λ (z : List ℕ). Same z (nameOf w (x .place) (x .header .«name_len»))) q same;
+        way = along;
+        rest = subst (λ (z : List (List ℕ)). Way w first (regionOf x) z ls y) r rest;
+      }
 
 -- the item of a number
 record ItemOf (entry : ℕ → Entry) (sector : ℕ → ℕ) (xs : List Item) (i : ℕ) : Type 0 where
@@ -136,6 +193,30 @@ module _ (R : Request) (places : ℕ) (tables sectors : List ℕ) (p : Plan) (w 
       named : (a : List ℕ) → Same a (entriesAt R S d i .name) → Same a (nameOf w (place + y .offset) (length (y .entry .name)))
       named a same = same ∙ ap (λ (e : Entry). map raised (e .name)) (sym (own .entry-is)) ∙ ap (map raised) (sym (back .named))
 
+      -- an entry that has the part for its name, and to which a way leads, is this one, and the way is the same
+      only-here : (a : List ℕ) (part : Part a) (same : Same a (entriesAt R S d i .name)) (o : ℕ) (x : Placed) (ks : List ℕ) → readAt w first t o ≡ gives (some x)
+          → Same a (nameOf w (x .place) (x .header .«name_len»)) → Along (readAt w first t) 0 o ks → Real ks
+          → (x ≡ placedAt place y) × (ks ≡ looked a part same .links)
+      only-here a part same o x ks read alike way real =
+          let l = looked a part same in
+          let all = table-agrees R places tables sectors p w first I d hd t r in
+          let v =
+          way-ends (entriesAt R S d) 1 (startSector R S d) (treeAt R S d) w first t (table-written R places tables sectors p w first I d hd t r) o ks way real x read in
+          let b = of-item (ReadBack w first t place) its (v .0) (all .read) (v .1) in
+          let at : readAt w first t o ≡ gives (some (placedAt place (v .0))) = ap (readAt w first t) (sym (v .2)) ∙ b .reads in
+          let is : x ≡ placedAt place (v .0) = cc in
+          let called : Same a (v .0 .entry .name) =
+          alike ∙ ap (λ (z : Placed). map raised (nameOf w (z .place) (z .header .«name_len»))) is ∙ ap (map raised) (b .named) in
+          let c = of-item (Reached w first t place its) its (v .0) (all .reached) (v .1) in
+          let one =
+          one-given (l .hit walkAbsent (walk-clear (l .links) (l .real)))
+          (c .answers walkAbsent a (part .ascii) called
+          ∙ along-clear walkAbsent (placedAt place (v .0)) (v .0 .offset) 1 (c .links) (walk-clear (c .links) (c .real))) in
+          let there : o ≡ y .offset = sym (v .2) ∙ sym (ap (λ (z : Finding). z .offset) one) in (
+            is ∙ sym (ap (λ (z : Finding). z .entry) one),
+            all .one-way (y .offset) ks (l .links) (subst (λ (q : ℕ). Along (readAt w first t) 0 q ks) there way) real (l .way) (l .real),
+          )
+
       -- where it is the last part
       ends : (a : List ℕ) → Part a → Same a (entriesAt R S d i .name) → Finds R p w first t (a ∷ []) d i (λ absent. partsFrom absent w first t (a ∷ []))
       unfolding partsFrom
@@ -151,6 +232,10 @@ module _ (R : Request) (places : ℕ) (tables sectors : List ℕ) (p : Plan) (w 
             links = l .links;
             way = here t a (y .offset) (placedAt place y) (l .links) (back .reads) (named a same) (l .way);
             real = l .real;
+            one-way = λ ks z v real.
+                let o = of-one w first t (a ∷ []) a ks z refl v in
+                let h = only-here a part same (o .at) z ks (o .read) (o .named) (o .way) real in
+                (h .1, h .0);
             found = λ absent f. ap lastOf (l .hit absent f);
             lost = λ absent f. ap lastOf (l .miss absent f .1);
           }
@@ -194,6 +279,13 @@ module _ (R : Request) (places : ℕ) (tables sectors : List ℕ) (p : Plan) (w 
               links = l .links ++ n .links;
               way = on t a b cs (y .offset) (placedAt place y) (placedAt (n .place) (n .item)) (l .links) (n .links) (back .reads) (named a same) (l .way) (n .way);
               real = real-append (l .links) (n .links) (l .real) (n .real);
+              one-way = λ ks z v real.
+                  let o = of-more w first t (a ∷ b ∷ cs) a b cs ks z refl v in
+                  let h = only-here a part same (o .at) (o .entry) (o .front) (o .read) (o .named) (o .way) (real-front (o .front) (o .back) ks (o .links) real) in
+                  let m =
+                  n .one-way (o .back) z (subst (λ (x : Placed). Way w first (regionOf x) (b ∷ cs) (o .back) z) (h .0) (o .rest))
+                  (real-back (o .front) (o .back) ks (o .links) real) in
+                  (o .links ∙ ap₂ _++_ (h .1) (m .0), m .1);
               found = λ absent f.
                   through absent a b cs l (λ k m. f k (Memᴰ·append-left (n .links) m)) ∙ n .found absent (λ k m. f k (Memᴰ·append-right (l .links) m));
               lost = λ absent f. missed absent l f (clear-or-cut absent (l .links));

@@ -109,6 +109,9 @@ pub record Finds (R : Request) (p : Plan) (w : List ℕ) (first : Sector) (t : R
   pub links : List ℕ
   pub way : Way w first t parts links (placedAt place item)
   pub real : Real links
+  -- it is the only one: any way of the parts along links of which none is 0 or 65,535 has these links and this end
+  pub one-way : (ks : List ℕ) (y : Placed) → Way w first t parts ks y → Real ks
+      → (ks ≡ links) × (y ≡ placedAt place item)
   -- the answer
   pub found : (absent : List ℕ) → Clear absent links → answer absent ≡ gives (placedAt place item)
   pub lost : (absent : List ℕ) → Cut absent links → answer absent ≡ refuses 22 []

@@ -1,10 +1,11 @@
--- WHAT THE THEOREMS SUPPOSE CAN BE MET: by `a`, `b`, `c`, files of size 1, written from sector 34 on into 2,048 bytes that stand at sector 33. Computed.
+-- WHAT THE THEOREMS SUPPOSE CAN BE MET: by `a`, `b`, `c`, files of size 1, written from sector 34 on into 2,560 bytes, of which the first 2,048 stand at sector
+-- 33. Computed.
 -- Assumes nothing.
 use Prim.Native.Nat.{ℕ, zero, suc, _+_, _≤_, _<_}
 use mathlib.Core.Path.{_≡_, refl, sym, _∙_}
 use mathlib.Core.List.{List, [], _∷_, map, append-nil}
 use native.Mathlib.Omega.{arith}
-use lib.ListN.{length, getD, replicate}
+use lib.ListN.{length, getD, take, replicate}
 use Rattle.units.specs.Told.{gives}
 use Rattle.units.specs.declared.Region.{Region}
 use Rattle.layout_name.specs.Order.{raised, numberOrder, listOrder, orderBy, nameOrder}
@@ -24,6 +25,7 @@ use Rattle.dirtab_list.specs.Whole as whole
 use Rattle.dirtab_list.specs.Whole.{Listing, listing, givenIn, wholeOf}
 use Rattle.agree.specs.Agreement.{Same}
 use Rattle.agree_writers.specs.Wrote.{WroteList, WroteArena, Taken}
+use Rattle.agree_writers.proofs.Checks.{first-stand}
 
 -- the list in columns: names in three bytes, and kinds 0, files
 abbrev abc : Listing
@@ -36,7 +38,7 @@ held = arena 1 3
     (0x61 ∷ 0x62 ∷ 0x63 ∷ [])
 
 abbrev out : List ℕ
-out = replicate 2048 0
+out = replicate 2560 0
 
 abbrev answer : Placing
 answer = record { size = 48; free = 37 }
@@ -51,20 +53,20 @@ ones (suc (suc zero)) = omega arith
 ones (suc (suc (suc i))) = omega arith
 
 -- the list can be written, and its output read
-list-answer : wholeOf abc 3 34 2048 ≡ gives answer
+list-answer : wholeOf abc 3 34 2560 ≡ gives answer
 unfolding wholeOf growFrom checkOf anyBad placeOf anyFar bal items endOf freeOf startAfter sectorsFor raised numberOrder listOrder orderBy nameOrder
 list-answer = refl
 
-pub abc-wrote : WroteList abc 3 34 out answer (whole.outAfter abc 3 34 out) (record { 0 = 33 }) region
+pub abc-wrote : WroteList abc 3 34 out answer (take 2048 (whole.outAfter abc 3 34 out)) (record { 0 = 33 }) region
 abc-wrote = record {
   sizes = ones;
   answer = list-answer;
-  stand = record { place = 0; at-sector = refl; rest = []; here = sym (append-nil (whole.outAfter abc 3 34 out)) };
+  stand = record { place = 0; at-sector = refl; rest = []; here = sym (append-nil (take 2048 (whole.outAfter abc 3 34 out))) };
   sized = refl;
 }
 
--- an arena can be serialised, and its output read
-arena-answer : serialiseOf held 34 3 3 2048 ≡ gives answer
+-- an arena can be serialised, and its output read where all of it stands
+arena-answer : serialiseOf held 34 3 3 2560 ≡ gives answer
 unfolding serialiseOf isArena isTaken holdsTree places inside wholeTree decoded treeAt between cellOk toName checkOf anyBad placeOf anyFar items endOf freeOf
     startAfter sectorsFor raised numberOrder listOrder orderBy nameOrder
 arena-answer = refl
@@ -73,7 +75,8 @@ pub held-wrote : WroteArena held 34 3 3 out answer (serialise.outAfter held 34 3
 held-wrote = record {
   sizes = ones;
   answer = arena-answer;
-  stand = record { place = 0; at-sector = refl; rest = []; here = sym (append-nil (serialise.outAfter held 34 3 3 out)) };
+  stand = first-stand (serialise.outAfter held 34 3 3 out) (record { 0 = 33 }) (record { 0 = 33 }) 2048 (serialise.outAfter held 34 3 3 out)
+      (record { place = 0; at-sector = refl; rest = []; here = sym (append-nil (serialise.outAfter held 34 3 3 out)) });
   sized = refl;
 }
 

@@ -38,7 +38,7 @@ use Rattle.agree.proofs.Agrees as agrees
 use Rattle.agree.proofs.FromList.{times-order}
 use Rattle.agree_strict.proofs.Passes.{written-passes}
 use Rattle.agree_writers.specs.Wrote.{WroteArena}
-use Rattle.agree_writers.proofs.Checks.{name-short, size-small, first-stand, fits-gives}
+use Rattle.agree_writers.proofs.Checks.{name-short, size-small, stand-as, table-first, fits-gives}
 
 given-is : (a : Told (Unit {0})) → isGiven a ≡ true → a ≡ gives tt
 given-is (gives u) e = refl
@@ -113,13 +113,13 @@ module _ (A : Arena) (s n m : ℕ) (out : List ℕ) (p : Placing) (w : List ℕ)
       placing = p;
       placed = placed;
     };
-    stand = first-stand w first (t .sector) _ (drop (rounded (p .size)) out) _ bytes-are (g .stand);
+    stand = stand-as w first (t .sector) _ _ (table-first (entryAt A) s (treeOf A) p (fits A (told .0) (g .sizes)) placed _ _ bytes-are) (g .stand);
     sized = as-reported (sizeOf (entryAt A) (treeOf A)) (t .size) (g .sized ∙ size-given (entryAt A) 1 s (treeOf A) p placed);
   }
 
   -- DEMAND 3 OF WHAT IS WRITTEN: reading finds the held entries
   pub arena-agrees : Agreement w first t (g .stand .place) (items (entryAt A) 1 0 s (treeOf A))
-  unfolding arena-wrote first-stand
+  unfolding arena-wrote stand-as
   arena-agrees = agrees.agreement (entryAt A) 1 s (treeOf A) w first t arena-wrote
 
   -- and it passes the strict check, which lists the same

@@ -45,7 +45,7 @@ use Rattle.agree.proofs.Agrees as agrees
 use Rattle.agree.proofs.FromList.{grown-below, grown-avl, grown-size, grown-each}
 use Rattle.agree_strict.proofs.Passes.{written-passes}
 use Rattle.agree_writers.specs.Wrote.{WroteList, Taken}
-use Rattle.agree_writers.proofs.Checks.{name-short, size-small, first-stand, fits-gives}
+use Rattle.agree_writers.proofs.Checks.{name-short, size-small, stand-as, table-first, fits-gives}
 
 -- one entry of a growing tree: it is taken, its name is free, there is room, and what follows gives
 took : (i : ℕ) (c : Told (Unit {0})) (q : Spot) (b : Bool) (x : Told Tree) (u : Tree) → ifTaken i c (ifFree i q (pick b x (refuses 6 (i ∷ [])))) ≡ gives u
@@ -181,13 +181,13 @@ module _ (L : Listing) (shortest s : ℕ) (out : List ℕ) (p : Placing) (w : Li
       placing = p;
       placed = placed;
     };
-    stand = first-stand w first (t .sector) _ (drop (rounded (p .size)) out) _ bytes-are (g .stand);
+    stand = stand-as w first (t .sector) _ _ (table-first (E L) s (T L (L .count)) p fits placed _ _ bytes-are) (g .stand);
     sized = as-reported (sizeOf (E L) (T L (L .count))) (t .size) (g .sized ∙ size-given (E L) 1 s (T L (L .count)) p placed);
   }
 
   -- DEMAND 3 OF WHAT IS WRITTEN: reading finds the list's entries
   pub list-agrees : Agreement w first t (g .stand .place) (items (entryIn L) 1 0 s (grown (entryIn L) (L .count)))
-  unfolding list-wrote first-stand
+  unfolding list-wrote stand-as
   list-agrees = agrees.agreement (entryIn L) 1 s (grown (entryIn L) (L .count)) w first t list-wrote
 
   -- each of them once

@@ -3,11 +3,11 @@ use Prim.Native.Nat.{ℕ, _≤_, _<_}
 use mathlib.Core.Path.{_≡_}
 use mathlib.Core.Bool.{true}
 use mathlib.Core.List.{List}
-use lib.ListN.{length, getD}
+use lib.ListN.{length, getD, take}
 use Rattle.units.specs.Told.{gives}
 use Rattle.units.specs.declared.Sector.{Sector}
 use Rattle.units.specs.declared.Region.{Region}
-use Rattle.dirtab_entry.specs.Entry.{nameIn, checkOf}
+use Rattle.dirtab_entry.specs.Entry.{rounded, nameIn, checkOf}
 use Rattle.table_model.specs.Table.{Placing}
 use Rattle.dirtab_arena.specs.Arena.{Arena}
 use Rattle.dirtab.specs.Serialise as serialise
@@ -16,14 +16,14 @@ use Rattle.dirtab_list.specs.Whole.{Listing, givenIn, hasPlaces}
 use Rattle.agree.specs.Written.{Stand}
 use Rattle.agree.specs.Agreement.{Same}
 
--- A WHOLE LIST WAS WRITTEN from sector s on: the answer is p, the output stands in a window at the region's sector,
--- and the region has the size answered
+-- A WHOLE LIST WAS WRITTEN from sector s on: the answer is p, the output's bytes up to the size answered, rounded,
+-- stand in a window at the region's sector, and the region has the size answered
 pub record WroteList (L : Listing) (shortest s : ℕ) (out : List ℕ) (p : Placing) (w : List ℕ) (first : Sector)
     (t : Region) : Type 0 where
   -- each size is a number of four bytes, as the column's type says
   pub sizes : (i : ℕ) → getD (L .size) i 0 ≤ 4294967295
   pub answer : whole.wholeOf L shortest s (length out) ≡ gives p
-  pub stand : Stand w first (t .sector) (whole.outAfter L shortest s out)
+  pub stand : Stand w first (t .sector) (take (rounded (p .size)) (whole.outAfter L shortest s out))
   pub sized : t .size ≡ p .size
 
 -- AN ARENA WAS SERIALISED, the same; n and m are the lengths of the scratch
@@ -31,7 +31,7 @@ pub record WroteArena (A : Arena) (s n m : ℕ) (out : List ℕ) (p : Placing) (
     Type 0 where
   pub sizes : (i : ℕ) → getD (A .columns .size) i 0 ≤ 4294967295
   pub answer : serialise.serialiseOf A s n m (length out) ≡ gives p
-  pub stand : Stand w first (t .sector) (serialise.outAfter A s n m out)
+  pub stand : Stand w first (t .sector) (take (rounded (p .size)) (serialise.outAfter A s n m out))
   pub sized : t .size ≡ p .size
 
 -- a list that adding takes, with a place for each entry in every column
