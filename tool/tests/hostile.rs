@@ -202,7 +202,7 @@ fn directories_in_circles() {
          3 tables, 3 entries: 1 fault, 0 hidden names\n"
     );
     let own = folder.file("own", &image_by_hand(&[(33, vec![d(33, b"self")])]));
-    assert_eq!(xdvdfs(&["check", "--all", &own]).json_faults(), ["cycle"]);
+    assert_eq!(kinds(&xdvdfs(&["check", "--all", &own])), ["cycle"]);
     // two names for one table is no fault
     let twice = vec![entry(0, 5, 34, 20, 0x10, b"left"), entry(0, 0, 34, 20, 0x10, b"right")];
     let twice = folder.file("twice", &image_by_hand(&[(33, twice), (34, vec![entry(0, 0, 40, 1, 0x20, b"x")])]));
@@ -218,15 +218,9 @@ fn directories_in_circles() {
     assert_eq!((ran.status, &ran.json()["tables"], &ran.json()["faults"][0]["kind"]), (1, &129.into(), &"stopped".into()));
 }
 
-trait Kinds {
-    fn json_faults(&self) -> Vec<String>;
-}
-
-impl Kinds for Ran {
-    /// The words in front of the lines of `check`.
-    fn json_faults(&self) -> Vec<String> {
-        self.out.lines().filter(|l| l.contains(": /")).map(|l| l.split(':').next().unwrap().to_owned()).collect()
-    }
+/// The words in front of the lines of `check`.
+fn kinds(ran: &Ran) -> Vec<&str> {
+    ran.out.lines().filter(|l| l.contains(": /")).filter_map(|l| l.split(':').next()).collect()
 }
 
 #[test]
