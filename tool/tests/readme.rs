@@ -9,7 +9,7 @@ use std::process::Command;
 fn the_section_runs_as_printed() {
     let top = Path::new(env!("CARGO_MANIFEST_DIR")).join("..").canonicalize().unwrap();
     let readme = std::fs::read_to_string(top.join("README.md")).unwrap();
-    let section = readme.split("\n## ").find(|s| s.starts_with("From the shell: images by name")).expect("the section");
+    let section = readme.split("\n## ").find(|s| s.starts_with("Use from the shell: images by name")).expect("the section");
     let folder = Folder::new();
     std::os::unix::fs::symlink(top.join("crates"), folder.path().join("crates")).unwrap();
     std::fs::create_dir(folder.path().join("bin")).unwrap();
