@@ -4,6 +4,7 @@ pub mod Names
 pub mod Stack
 pub mod Units
 pub mod Judging
+pub mod Sized
 pub mod Steps
 pub mod Turn
 pub mod Moved

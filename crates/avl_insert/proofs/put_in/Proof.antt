@@ -17,9 +17,10 @@ rise-requires c κs = let s = c .before .before .before .before .before .before 
     let a = s .args in
     let w = s .pre in
     let e = c .before .before .before .before .before .before .before .before .before .before .before .before .before .attach .ensures in
-    let S = lists (a .root .now) (a .left .now) (a .right .now) (a .parent .now) (a .height .now) in
-    (subst (λ (T : Lists). Ready T (a .new)) (sym e) (new-ready S (a .new) (w .arena) (w .by) (a .place) (w .free)),
-    (no-left S (a .place) (a .new) e (w .arena .new<), no-right S (a .place) (a .new) e (omega (arith, w .arena .new<, w .arena .long .r))))
+    let S = lists (a .root .now) (a .left .now) (a .right .now) (a .parent .now) (a .height .now) in (
+      subst (λ (T : Lists). Ready T (a .new)) (sym e) (new-ready S (a .new) (w .arena) (w .by) (a .place) (w .free)),
+      (no-left S (a .place) (a .new) e (w .arena .new<), no-right S (a .place) (a .new) e (omega (arith, w .arena .new<, w .arena .long .r))),
+    )
 
 same-length : tie.Need-same-length
 same-length c = search needs
