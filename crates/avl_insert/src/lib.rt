@@ -3,7 +3,7 @@
 // the tree.
 ghost use mathlib.Core.Path.{_≡_};
 ghost use Prim.Native.Nat.{_≤_, _<_};
-ghost use lib.ListN.{length};
+ghost use lib.ListN.{length, getD};
 ghost use Rattle.units.specs.Lent.{was};
 ghost use Rattle.layout_name.specs.inner.Order.{raisedCopy};
 ghost use Rattle.avl_model.specs.declared.Place.the-variants.{Root};
@@ -163,6 +163,31 @@ fn rebalance(
     }
 }
 
+// The climb from a node that has just been hung and has no children: its height is 1, and the way up begins at its
+// parent.
+fn rise(
+    root: &mut u16,
+    left: &mut [u16],
+    right: &mut [u16],
+    parent: &mut [u16],
+    height: &mut [u8],
+    new: u16,
+)
+    requires { ⌜ Ready (lists (now root) (now left) (now right) (now parent) (now height)) new ⌝ }
+    requires { ⌜ (getD (now left) new 0 ≡ 65535) × (getD (now right) new 0 ≡ 65535) ⌝ }
+    ensures { λ _. let s = lentLists root left right parent height in
+        ⌜ ((w : Ready (s .entry) new) → Whole (s .exit) (length (was left))
+        (climb (w .k) (bal (w .l) new (w .r)))) ⌝ }
+{
+    let i = index(new);
+    height[i] = 1;
+    let p = parent[i];
+    if p == NONE {
+        return;
+    }
+    rebalance(root, left, right, parent, height, p);
+}
+
 // Puts the node `new` in at the place that its name's spot is, and climbs from it.
 pub fn put_in(
     root: &mut u16,
@@ -179,7 +204,7 @@ pub fn put_in(
         Whole (s .exit) (length (was left)) (ins (λ i. isLess (w .by i)) new (w .arena .t))) ⌝ }
 {
     attach(root, left, right, parent, height, place, new);
-    rebalance(root, left, right, parent, height, new);
+    rise(root, left, right, parent, height, new);
 }
 
 // Puts the node `new`, which has this name, into the tree; or says which node has the name already, and leaves all

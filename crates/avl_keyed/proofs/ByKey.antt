@@ -6,7 +6,7 @@ use mathlib.Core.Path.{_≡_, refl, sym, ap, ap₂, subst, _∙_}
 use mathlib.Core.Bool.{Bool, true, false}
 use mathlib.Core.List.{List, [], _∷_, _++_, map}
 use lib.Dec.{leb}
-use lib.ListN.{length, getD, replicate, List·getD-map}
+use lib.ListN.{length, getD, replicate, List·getD-map, List·getD-eq-default}
 use Rattle.units.specs.Told.{pick}
 use Rattle.layout_name.specs.declared.Order.{Order}
 use Rattle.layout_name.specs.declared.Order.the-variants.{Less, Greater}
@@ -134,6 +134,15 @@ raised-low x h = low (leb 97 x) (leb x 122)
     low true true = omega arith
     low true false = h
     low false q = h
+
+-- the raised copy at a place: the byte raised, and 0 past the name
+pub copy-at : (a : List ℕ) (i : ℕ) → getD (raisedCopy a) i 0 ≡ raised (getD a i 0)
+unfolding raisedCopy raised
+copy-at a i = padded (map raised a) (255 - length a) i ∙ List·getD-map raised a i 0
+
+pub copy-past : (a : List ℕ) (i : ℕ) → length a ≤ i → getD (raisedCopy a) i 0 ≡ 0
+unfolding raised
+copy-past a i h = copy-at a i ∙ ap raised (List·getD-eq-default a 0 h)
 
 raised-bytes : (a : List ℕ) → Bytes a → Bytes (map raised a)
 unfolding raised

@@ -1,7 +1,7 @@
 // The search for a name's place by keys: names are compared only where the keys of their first four bytes are equal.
 ghost use mathlib.Core.Path.{_≡_};
-ghost use Prim.Native.Nat.{_≤_, _<_};
-ghost use lib.ListN.{length};
+ghost use Prim.Native.Nat.{_+_, _*_, _<_};
+ghost use lib.ListN.{getD};
 ghost use Rattle.units.specs.Told.{pick};
 ghost use Rattle.units.specs.Lent.{was};
 ghost use Rattle.layout_name.specs.inner.Order.{raisedCopy};
@@ -9,14 +9,15 @@ ghost use Rattle.avl_model.specs.declared.Place.the-variants.{Root};
 ghost use Rattle.avl_model.specs.declared.Spot.the-variants.{Free};
 ghost use Rattle.avl_model.specs.Names.{names, toName};
 ghost use Rattle.avl_model.specs.Seek.{spotIn};
-ghost use Rattle.avl_keyed.specs.inner.Key.{keyOf, keyFor, KeySought, placeFrom};
+ghost use Rattle.avl_keyed.specs.inner.Key.{keyFor, KeySought, placeFrom};
 use avl_insert::NONE;
 use avl_insert::name_of;
 use avl_model::Place;
 use avl_model::Spot;
 use avl_turn::index;
 use layout_name::Order;
-use layout_name::compare_raised;
+use layout_name::compare;
+use layout_name::raise;
 
 fn wide(x: u8) -> u32
     ensures { λ r. ⌜ (r ≡ x) × (r < 256) ⌝ }
@@ -24,11 +25,45 @@ fn wide(x: u8) -> u32
     x as u32
 }
 
-// The first four bytes of a raised copy as one number, the first one highest.
-pub fn key_of(copy: &[u8; 255]) -> u32
-    ensures { λ r. ⌜ r ≡ keyOf (was copy) ⌝ }
+// The byte of a name at a place, raised; 0 past its end.
+fn raised_at(name: &[u8], i: usize) -> u32
+    ensures { λ r. ⌜ (r ≡ getD (raisedCopy (was name)) i 0) × (r < 256) ⌝ }
 {
-    16777216 * wide(copy[0]) + 65536 * wide(copy[1]) + 256 * wide(copy[2]) + wide(copy[3])
+    if i < name.len() {
+        wide(raise(name[i]))
+    } else {
+        0
+    }
+}
+
+// Four bytes as one number, the first one highest.
+fn join(a: u32, b: u32, c: u32, d: u32) -> u32
+    requires { ⌜ (a < 256) × (b < 256) × (c < 256) × (d < 256) ⌝ }
+    ensures { λ r. ⌜ r ≡ 16777216 * a + 65536 * b + 256 * c + d ⌝ }
+{
+    16777216 * a + 65536 * b + 256 * c + d
+}
+
+// The key of a name, looked for byte by byte.
+fn key_by_bytes(name: &[u8]) -> u32
+    ensures { λ r. ⌜ r ≡ keyFor (was name) ⌝ }
+{
+    join(
+        raised_at(name, 0),
+        raised_at(name, 1),
+        raised_at(name, 2),
+        raised_at(name, 3),
+    )
+}
+
+// The key of a name. Of a name that is known to have four bytes they are read with no test of each.
+pub fn key_of(name: &[u8]) -> u32
+    ensures { λ r. ⌜ r ≡ keyFor (was name) ⌝ }
+{
+    if 4 <= name.len() {
+        return key_by_bytes(name);
+    }
+    key_by_bytes(name)
 }
 
 // One of two children, by value.
@@ -52,7 +87,7 @@ fn place_below(above: u16, less: bool) -> Spot
     }
 }
 
-// Where a name, of which `copy` is the raised copy and k the key, stands or would hang. What a node says is read
+// Where a name, of which k is the key, stands or would hang. What a node says is read
 // before it is tested, so that the child is chosen without a branch where the keys differ.
 pub fn seek(
     left: &[u16],
@@ -62,12 +97,10 @@ pub fn seek(
     start: &[u32],
     len: &[u32],
     root: u16,
-    copy: &[u8; 255],
     name: &[u8],
     k: u32,
 ) -> Spot
     requires { ⌜ KeySought (now left) (now right) (now key) root (names (now bytes) (now start) (now len)) ⌝ }
-    requires { ⌜ (length (now name) ≤ 255) × (now copy ≡ raisedCopy (now name)) ⌝ }
     requires { ⌜ k ≡ keyFor (now name) ⌝ }
     ensures { λ s. ⌜ ((w : KeySought (was left) (was right) (was key) root (names (was bytes) (was start) (was len))) →
         s ≡ spotIn (toName (names (was bytes) (was start) (was len)) (was name)) (w .linked .t) Root) ⌝ }
@@ -83,7 +116,7 @@ pub fn seek(
         above = at;
         if k == q {
             let other = name_of(bytes, start, len, at);
-            match compare_raised(copy, name, other) {
+            match compare(name, other) {
                 Order::Equal => return Spot::Same(at),
                 Order::Less => {
                     less = true;

@@ -19,8 +19,7 @@ use Rattle.avl_model.specs.declared.Spot.the-variants.{Same, Free}
 use Rattle.avl_model.specs.Tree.{Tree, leaf}
 use Rattle.avl_model.specs.Names.{Names, nameAt, toName, byName}
 use Rattle.avl_model.specs.Seek.{spotIn}
-use Rattle.layout_name.specs.inner.Order.{raisedCopy}
-use Rattle.avl_keyed.specs.inner.Key.{keyOf, keyFor}
+use Rattle.avl_keyed.specs.inner.Key.{keyFor}
 use Rattle.dirtab_grow.specs.declared.Step.{Step}
 use Rattle.dirtab_grow.specs.declared.Step.the-variants as step
 use Rattle.dirtab_grow.specs.declared.Cause.{Cause}
@@ -57,14 +56,9 @@ pub refused-by : (i : ℕ) (u : Told (Unit {0})) (s : Spot) {r : Step} {c : Caus
     → (x : Told Tree) → refuses (numberOf c) (i ∷ []) ≡ stepOf u s i x
 refused-by i u s {r} {c} f e x = ap (λ (v : Step). goOn v i (ifFree i s (pick (ltb i 16384) x (refuses 6 (i ∷ []))))) (sym e) ∙ f (ifFree i s (pick (ltb i 16384) x (refuses 6 (i ∷ []))))
 
--- the name of an entry is no longer than its column says
-pub short-name : (N : Names) (i : ℕ) {a : List ℕ} → a ≡ nameAt N i → getD (N .len) i 0 ≤ 255 → length a ≤ 255
-short-name N i {a} e h = subst (λ (b : List ℕ). length b ≤ 255) (sym e) (omega (arith, length-take (getD (N .len) i 0) (drop (getD (N .start) i 0) (N .bytes))))
-
 -- the key of its name
-pub key-of-name : (N : Names) (i : ℕ) {a copy : List ℕ} {k : ℕ} → a ≡ nameAt N i → copy ≡ raisedCopy a → k ≡ keyOf copy → (k ≡ keyFor a) × (k ≡ keyFor (nameAt N i))
-unfolding keyFor
-key-of-name N i {a} {copy} {k} e f g = let h : k ≡ keyOf (raisedCopy a) = g ∙ ap keyOf f in (h, h ∙ ap (λ (b : List ℕ). keyOf (raisedCopy b)) e)
+pub key-of-name : (N : Names) (i : ℕ) {a : List ℕ} {k : ℕ} → a ≡ nameAt N i → k ≡ keyFor a → k ≡ keyFor (nameAt N i)
+key-of-name N i e g = g ∙ ap keyFor e
 
 -- where the search for its name came to
 pub found : (N : Names) (i : ℕ) (t : Tree) {a : List ℕ} {r v : Spot} → a ≡ nameAt N i → r ≡ spotIn (toName N a) t Root → r ≡ v → spotIn (byName N i) t Root ≡ v

@@ -35,7 +35,6 @@ use dirtab_entry::check_entry;
 use dirtab_entry::kind_of;
 use layout_name::Order;
 use layout_name::compare;
-use layout_name::raise_name;
 
 // Why an entry is refused.
 pub enum Cause {
@@ -108,9 +107,8 @@ fn find_seat(
         Seated r n (spotIn (byName n new) (w .linked .t) Root) new) ⌝ }
 {
     let name = name_of(bytes, start, len, new);
-    let copy = raise_name(name);
-    let k = key_of(&copy);
-    match seek(left, right, key, bytes, start, len, root, &copy, name, k) {
+    let k = key_of(name);
+    match seek(left, right, key, bytes, start, len, root, name, k) {
         Spot::Same(_) => Seat::Refused(Cause::DuplicateFileName),
         Spot::Free(place) => {
             if 16384 <= new {
@@ -129,8 +127,7 @@ fn seat_after(bytes: &[u8], start: &[u32], len: &[u32], new: u16) -> Seat
         Seated r (names (was bytes) (was start) (was len)) s new) ⌝ }
 {
     let name = name_of(bytes, start, len, new);
-    let copy = raise_name(name);
-    let k = key_of(&copy);
+    let k = key_of(name);
     if 16384 <= new {
         return Seat::Refused(Cause::Room);
     }

@@ -7,7 +7,7 @@ use mathlib.Core.Option.{Option}
 use native.Mathlib.Omega.{arith}
 use borrow.Author.Tests.{eq-eqb, ne-eqb, le-leb, lt-leb}
 use lib.Dec.{eqb}
-use lib.ListN.{getD}
+use lib.ListN.{length, getD}
 use Rattle.units.specs.Told.{Told}
 use Rattle.units.specs.declared.Link.{Link}
 use Rattle.units.specs.declared.Offset.{Offset}
@@ -19,7 +19,7 @@ use Rattle.strict_map.specs.inner.Map.{Tested, Marked}
 use Rattle.strict_rule.specs.declared.Checked.the-variants as checked
 use Rattle.strict.specs.declared.Verdict.the-variants as verdict
 use Rattle.strict_rule.specs.Strict.{endOf, apart, placed, ordered, judged, verdictAt}
-use Rattle.strict.specs.inner.Run.{visitOf, Mapped, Judged}
+use Rattle.strict.specs.inner.Run.{visitOf, Mapped, Covers, Judged}
 use Rattle.strict.proofs.Units.{tested-apart}
 
 -- an entry at link l, from o to o + len
@@ -41,15 +41,19 @@ module _ (l : Link) (from : Offset) (is-from : from .0 ≡ 4 * l .0) (o : ℕ) (
       unfolding placed
       crossing g f seen map = sym (here f seen ∙ rw (le-leb _ _ inside, ne-eqb _ _ g))
 
-      pub in-sector : o / 2048 ≡ (o + len - 1) / 2048 → l .0 < 65536 → h .«name_len» < 256 → (r : Bool) → Tested m (o / 4) ((o + len) / 4) r →
+      pub in-sector : o / 2048 ≡ (o + len - 1) / 2048 → l .0 < 65536 → h .«name_len» < 256 → Covers size (length m) → (r : Bool) → Tested m (o / 4) ((o + len) / 4) r →
           (f : ℕ → Told (Option Placed)) (seen : List ℕ) → Mapped f seen m → r ≡ placed f size (4 * l .0) (endOf h (4 * l .0)) seen
       unfolding placed
-      in-sector g low name r d f seen map =
+      in-sector g low name covers r d f seen map =
           let a : 4 * (o / 4) ≡ o = omega arith in
           let b : 4 * ((o + len) / 4) ≡ o + len = omega arith in
-          tested-apart f (o / 4) ((o + len) / 4) (omega arith) (omega arith) seen m map r d
+          tested-apart f (o / 4) ((o + len) / 4) (omega arith) seen m (covers .end (o + len) (omega arith) inside) map r d
           ∙ ap₂ (λ (x y : ℕ). apart f x y seen) a b
           ∙ sym (here f seen ∙ rw (le-leb _ _ inside, eq-eqb _ _ g))
+
+  -- its units are on a map that covers the table
+  pub on-map : l .0 < 65536 → h .«name_len» < 256 → {size n : ℕ} → Covers size n → o + len ≤ size → (o / 4 < (o + len) / 4) × ((o + len) / 4 ≤ n)
+  on-map low name covers inside = (omega arith, covers .end (o + len) (omega arith) inside)
 
   pub entry-marked : (m after : List ℕ) → Marked m (o / 4) ((o + len) / 4) after → Marked m (l .0) (endOf h (4 * l .0) / 4) after
   entry-marked m after d =
@@ -57,13 +61,9 @@ module _ (l : Link) (from : Offset) (is-from : from .0 ≡ 4 * l .0) (o : ℕ) (
       let b : (o + len) / 4 ≡ endOf h (4 * l .0) / 4 = omega arith in
       subst (λ (t : ℕ). Marked m (l .0) t after) b (subst (λ (k : ℕ). Marked m k ((o + len) / 4) after) a d)
 
--- an entry at a link ends on the map
-pub on-map : (l : Link) (h : Header) → l .0 < 65536 → h .«name_len» < 256 → endOf h (4 * l .0) / 4 ≤ 65604
-on-map l h low name = omega arith
-
 -- an entry that is read at visit c, of link l
 module _ (w : List ℕ) (f : ℕ → Told (Option Placed)) (size : ℕ) (m : List ℕ) (left c : ℕ) (h : Header) (at : ℕ)
-    (l : Link) (is-l : l .0 ≡ c % 65536) (o : Offset) (is-o : o .0 ≡ 4 * l .0) (a : Bool) (is-a : a ≡ eqb (getD m (c % 65536) 0) 1) where
+    (l : Link) (is-l : l .0 ≡ c % 65536) (o : Offset) (is-o : o .0 ≡ 4 * l .0) (a : Bool) (is-a : a ≡ eqb (getD m (c % 65536) 0) 1) (in-map : c % 65536 < length m) where
   abbrev x : Placed
   x = record { header = h; place = at }
 
@@ -74,7 +74,7 @@ module _ (w : List ℕ) (f : ℕ → Told (Option Placed)) (size : ℕ) (m : Lis
   by-tests seen s p q is-s is-p is-q = rw (is-s, is-p, is-q, is-o, is-l)
 
   listed : (seen : List ℕ) → Mapped f seen m → a ≡ isIn (4 * (c % 65536)) seen
-  listed seen map = is-a ∙ map .starts (c % 65536) (omega arith)
+  listed seen map = is-a ∙ map .starts (c % 65536) in-map
 
   pub shared : a ≡ true → (seen : List ℕ) → Mapped f seen m → Judged (verdict.Bad (checked.Shared o)) (verdictAt w f size seen (eqb left 0) (visitOf c) x)
   shared e seen map = (30, o .0 ∷ [], by-tests seen a _ _ (listed seen map) refl refl ∙ rw e, refl)

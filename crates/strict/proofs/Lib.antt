@@ -3,5 +3,6 @@ pub mod Names
 pub mod Stack
 pub mod Units
 pub mod Judging
+pub mod Sized
 pub mod Turn
 pub mod Moved

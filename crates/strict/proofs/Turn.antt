@@ -1,18 +1,18 @@
 -- One turn of the check's loop, over plain lists and numbers: each way out of it, and each way round. Assumes nothing.
 use Prim.Native.Nat.{ℕ, suc, _+_, _-_, _*_, _/_, _%_, _^_, _≤_, _<_}
 use mathlib.Core.Path.{_≡_, refl, sym, ap, subst, _∙_}
-use mathlib.Core.Bool.{Bool, true}
+use mathlib.Core.Bool.{Bool, true, false}
 use mathlib.Core.Logic.{⊎-elim}
 use mathlib.Core.List.{List, [], _∷_, _++_, append-nil, map}
 use mathlib.Core.Option.{Option, some}
 use native.Mathlib.Omega.{arith}
 use native.Mathlib.Nat.{sub-zero}
 use native.Mathlib.Numerals.{add-one}
-use borrow.Author.Tests.{eqb-false, eqb-true}
+use borrow.Author.Tests.{eqb-false, eqb-true, leb-true, leb-false}
 use lib.Dec.{leb, eqb}
 use lib.ListN.{length, getD, take, set, replicate, length-set}
 use lib.Seq.{take-suc-set, length-take-le, getD-set-same}
-use Rattle.units.specs.Told.{Told, gives, refuses}
+use Rattle.units.specs.Told.{Told, gives, refuses, pick}
 use Rattle.units.specs.declared.Sector.{Sector}
 use Rattle.units.specs.declared.Offset.{Offset}
 use Rattle.units.specs.declared.Link.{Link}
@@ -34,7 +34,7 @@ use Rattle.strict_rule.specs.declared.Checked.the-variants as checked
 use Rattle.strict.specs.declared.Verdict.{Verdict}
 use Rattle.strict.specs.declared.Verdict.the-variants as verdict
 use Rattle.strict_rule.specs.Strict.{Visit, root, visitLeft, visitRight, push, endOf, endBy, inSector, apart, placed, ordered, verdictAt, strictFrom, told}
-use Rattle.strict.specs.inner.Run.{visitOf, visitsOf, Entered, Mapped, Judged, keptOf, Runs}
+use Rattle.strict.specs.inner.Run.{visitOf, visitsOf, Entered, Mapped, Covers, Judged, keptOf, Runs}
 use Rattle.strict_rule.proofs.Clear.{both-first, both-second}
 use Rattle.strict.proofs.Units.{marked-mapped, none-mapped}
 use Rattle.strict_rule.proofs.Steps.{NoFault, verdict-good, check-none, check-nothing, check-refused, check-bad, check-entry}
@@ -46,6 +46,7 @@ checkOn w first t = strictFrom w (readAt w first t) (t .size)
 pub record State (w : List ℕ) (first : Sector) (t : Region) (x : Told (List ℕ)) (room places : ℕ) (list scratch units : List ℕ) (top n : ℕ) : Type 0 where
   pub to-do : x ≡ before (take n list) (checkOn w first t (room - n) (take n list) (visitsOf scratch top))
   pub mapped : Mapped (readAt w first t) (take n list) units
+  pub covers : Covers (t .size) (length units)
   pub room-left : n ≤ room
   pub low : top ≤ n + 1
   pub list-kept : length list ≡ room
@@ -74,6 +75,11 @@ refused : (x : Told (List ℕ)) (a : Checked) (list : List ℕ) (k : ℕ) (vs : 
 refused x a list k vs e ta =
     let z : keptOf a ≡ 0 = kept-told a ∙ ap countOf ta in
     record { is = ta ∙ sym (ap counted e); listed = rw (z, e); within = omega arith }
+
+-- what is given is not refused
+read-by : (size o : ℕ) (y : Told (Option Placed)) (z : Option Placed) (b : Bool) → leb size o ≡ b → pick b (refuses 23 (o ∷ [])) y ≡ gives z → o < size
+read-by size o y z true e q = let g : _≡_ {A = ℕ} 0 1 = cc in absurd (omega arith)
+read-by size o y z false e q = leb-false size o e
 
 -- 262,144 is a sector line
 no-line : (o e : ℕ) → o < 262144 → 262144 < e → o / 2048 ≡ (e - 1) / 2048 → ⊥
@@ -129,6 +135,7 @@ module _ (w : List ℕ) (first : Sector) (t : Region) (x : Told (List ℕ)) (roo
       nothing e u d = record {
         to-do = rw d (popped ∙ ap (before (take n list)) (check-nothing w (readAt w first t) (t .size) (take n list) (visitOf c) (visitsOf scratch (top - 1)) (room - n) (found ∙ ap entry-said.told e)));
         mapped = s .mapped;
+        covers = s .covers;
         room-left = s .room-left;
         low = omega (arith, s .low);
         list-kept = s .list-kept;
@@ -136,6 +143,15 @@ module _ (w : List ℕ) (first : Sector) (t : Region) (x : Told (List ℕ)) (roo
         fits = s .fits;
         small = s .small;
       }
+
+      -- an entry is read inside the table
+      in-table : (h : Header) (at : ℕ) → r ≡ read.Entry h at → 4 * (c % 65536) < t .size
+      unfolding readAt
+      in-table h at e = read-by (t .size) (4 * (c % 65536)) _ _ (leb (t .size) (4 * (c % 65536))) refl (found ∙ ap entry-said.told e)
+
+      -- so the map has what judging it asks for
+      pub judgeable : (h : Header) (at : ℕ) → r ≡ read.Entry h at → Covers (t .size) (length units) × (c % 65536 < length units)
+      judgeable h at e = (s .covers, s .covers .unit (c % 65536) (omega arith) (in-table h at e))
 
       -- the verdict on an entry, v
       module _ (h : Header) (at : ℕ) (is-entry : r ≡ read.Entry h at) (v : Verdict)
@@ -175,6 +191,15 @@ module _ (w : List ℕ) (first : Sector) (t : Region) (x : Told (List ℕ)) (roo
           unfolding placed
           alone = both-second (inSector (t .size) (4 * (c % 65536)) (endOf h (4 * (c % 65536)))) (apart (readAt w first t) (4 * (c % 65536)) (endOf h (4 * (c % 65536))) (take n list)) (fine .in-place)
 
+          -- its end is on the map
+          pub on-units : endOf h (4 * l .0) / 4 ≤ length units
+          on-units =
+              let e : ℕ = endOf h (4 * (c % 65536)) in
+              let inside : e ≤ t .size = leb-true _ _ (both-first (leb e (t .size)) (eqb ((4 * (c % 65536)) / 2048) ((e - 1) / 2048)) well) in
+              let line : (4 * (c % 65536)) / 2048 ≡ (e - 1) / 2048 = eqb-true _ _ (both-second (leb e (t .size)) (eqb ((4 * (c % 65536)) / 2048) ((e - 1) / 2048)) well) in
+              let low : e ≤ 262416 = ⊎-elim (λ (a : 262144 < e). absurd (no-line (4 * (c % 65536)) e (omega arith) a line)) (λ (a : e ≤ 262144). omega arith) (below-or-not 262144 e) in
+              subst (λ (j : ℕ). endOf h (4 * j) / 4 ≤ length units) (sym l-is) (s .covers .end e low inside)
+
           pub can-push : (u : ℕ) → u ≡ top - 1 → (u + 1 < length scratch) × (c % 65536 < 65535)
           can-push u d =
               let g : n < length list = has-place in
@@ -199,7 +224,7 @@ module _ (w : List ℕ) (first : Sector) (t : Region) (x : Told (List ℕ)) (roo
               ∙ ap (λ (ys : List ℕ). before ys (checkOn w first t (room - (n + 1)) ys st)) (sym (ap (λ (m : ℕ). take m (set list n o)) (add-one n) ∙ take-suc-set list n o g))
 
           -- the turn ends with the entry listed, marked, and its children on the stack
-          pub entry-done : (num : ℕ) → num ≡ p .0 → (units₂ : List ℕ) → Marked units (l .0) (endOf h (4 * l .0) / 4) units₂ × (endOf h (4 * l .0) / 4 ≤ 65604) →
+          pub entry-done : (num : ℕ) → num ≡ p .0 → (units₂ : List ℕ) → Marked units (l .0) (endOf h (4 * l .0) / 4) units₂ × (endOf h (4 * l .0) / 4 ≤ length units) →
               (u : ℕ) → u ≡ top - 1 → (s₂ : List ℕ) (t₂ : ℕ) → Entered (visitOf c) h scratch u s₂ t₂ → (m : ℕ) → m ≡ n + 1 →
               State w first t x room places (set list n num) s₂ units₂ t₂ m
           entry-done num is-num units₂ marks u is-u s₂ t₂ entered m d =
@@ -215,8 +240,9 @@ module _ (w : List ℕ) (first : Sector) (t : Region) (x : Told (List ℕ)) (roo
               record {
                 to-do = rw (d, same) (after-one ∙ ap (λ (st : List Visit). before (take (n + 1) (set list n o)) (checkOn w first t (room - (n + 1)) (take (n + 1) (set list n o)) st))
                     (sym (entered .stack ∙ ap (λ (j : ℕ). push (h .left .0) (visitLeft (h .left .0) (visitOf c) o) (push (h .right .0) (visitRight (h .right .0) (visitOf c) o) (visitsOf scratch j))) is-u)));
-                mapped = rw list-now (marked-mapped (readAt w first t) (take n list) units (s .mapped) k (endOf h o / 4) (subst (λ (j : ℕ). endOf h (4 * j) / 4 ≤ 65604) l-is (marks .1)) (omega arith) ends alone-now units₂
+                mapped = rw list-now (marked-mapped (readAt w first t) (take n list) units (s .mapped) k (endOf h o / 4) (subst (λ (j : ℕ). endOf h (4 * j) / 4 ≤ length units) l-is (marks .1)) (omega arith) ends alone-now units₂
                     (subst (λ (j : ℕ). Marked units j (endOf h (4 * j) / 4) units₂) l-is (marks .0)));
+                covers = subst (λ (g : ℕ). Covers (t .size) g) (sym (marks .0 .kept)) (s .covers);
                 room-left = omega (arith, s .list-kept);
                 low = omega (arith, s .low, entered .height);
                 list-kept = length-set list n num ∙ s .list-kept;
@@ -226,14 +252,15 @@ module _ (w : List ℕ) (first : Sector) (t : Region) (x : Told (List ℕ)) (roo
               }
 
 -- where the loop begins: the root's number in the first place of the scratch s₀, and a map of zeros
-pub starts : (w : List ℕ) (first : Sector) (t : Region) (list s₀ : List ℕ) → length list < length s₀ → length s₀ * 8 < 2 ^ 63 → (v : ℕ) → visitOf v ≡ root → (k : ℕ) → k ≡ 65604 →
-    State w first t (checkOn w first t (length list) [] (root ∷ [])) (length list) (length (set s₀ 0 v)) list (set s₀ 0 v) (replicate k 0) 1 0
+pub starts : (w : List ℕ) (first : Sector) (t : Region) (list s₀ : List ℕ) → length list < length s₀ → length s₀ * 8 < 2 ^ 63 → (v : ℕ) → visitOf v ≡ root → (units : List ℕ) → units ≡ replicate (length units) 0 → Covers (t .size) (length units) →
+    State w first t (checkOn w first t (length list) [] (root ∷ [])) (length list) (length (set s₀ 0 v)) list (set s₀ 0 v) units 1 0
 unfolding stackOf
-starts w first t list s₀ h small v is-root k e = record {
+starts w first t list s₀ h small v is-root units e covers = record {
   to-do =
       rw (sub-zero, getD-set-same s₀ 0 v 0 (omega arith))
       (sym (before-none (checkOn w first t (length list) [] (root ∷ []))) ∙ ap (λ (r : Visit). before [] (checkOn w first t (length list) [] (r ∷ []))) (sym is-root));
-  mapped = none-mapped (readAt w first t) k e;
+  mapped = subst (λ (m : List ℕ). Mapped (readAt w first t) [] m) (sym e) (none-mapped (readAt w first t) (length units));
+  covers = covers;
   room-left = omega arith;
   low = omega arith;
   list-kept = refl;

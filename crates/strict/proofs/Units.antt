@@ -9,7 +9,7 @@ use mathlib.Core.Option.{Option}
 use native.Mathlib.Omega.{arith}
 use borrow.Author.Tests.{eq-eqb, ne-eqb, eqb-true}
 use lib.Dec.{eqb}
-use lib.ListN.{getD, replicate, length-replicate, getD-replicate}
+use lib.ListN.{length, getD, replicate, length-replicate, getD-replicate}
 use Rattle.units.specs.Told.{Told}
 use Rattle.layout_bytes.specs.Bytes.{both}
 use Rattle.read_entry.specs.Entry.{Placed}
@@ -84,7 +84,7 @@ module _ (f : ℕ → Told (Option Placed)) where
             (below-or-not x (4 * t))
 
     -- the test of a run of units of the map
-    module _ (seen m : List ℕ) (map : Mapped f seen m) (in-map : t ≤ 65604) where
+    module _ (seen m : List ℕ) (map : Mapped f seen m) (in-map : t ≤ length m) where
       free-at : (u : ℕ) → u < t → getD m u 0 ≡ 0 → apart f (4 * u) (4 * u + 4) seen ≡ true
       free-at u l e = sym (map .free u (omega arith)) ∙ eq-eqb _ _ e
 
@@ -99,11 +99,11 @@ module _ (f : ℕ → Told (Option Placed)) where
           (apart-part (4 * k) (4 * t) (4 * u) (4 * u + 4) seen (omega (arith, g .not-before)) (omega (arith, g .inside)) h)
           (sym (map .free u (omega (arith, g .inside))) ∙ ne-eqb _ _ (g .marked))))
 
-  pub tested-apart : (k t : ℕ) → k < t → t ≤ 65604 → (seen m : List ℕ) → Mapped f seen m → (r : Bool) → Tested m k t r → r ≡ apart f (4 * k) (4 * t) seen
-  tested-apart k t h l seen m map r d = tested-by k t h seen m map l r d
+  pub tested-apart : (k t : ℕ) → k < t → (seen m : List ℕ) → t ≤ length m → Mapped f seen m → (r : Bool) → Tested m k t r → r ≡ apart f (4 * k) (4 * t) seen
+  tested-apart k t h seen m l map r d = tested-by k t h seen m map l r d
 
 -- an entry marked on the map: from unit k to before unit t
-module _ (f : ℕ → Told (Option Placed)) (seen m : List ℕ) (map : Mapped f seen m) (k t : ℕ) (in-map : t ≤ 65604) (long : k + 4 ≤ t)
+module _ (f : ℕ → Told (Option Placed)) (seen m : List ℕ) (map : Mapped f seen m) (k t : ℕ) (in-map : t ≤ length m) (long : k + 4 ≤ t)
     (ends : endBy (f (4 * k)) (4 * k) ≡ 4 * t) (alone : apart f (4 * k) (4 * t) seen ≡ true) (after : List ℕ) (marks : Marked m k t after) where
   -- where the run stands to a unit
   data Side (u : ℕ) : Type 0 where
@@ -120,7 +120,7 @@ module _ (f : ℕ → Told (Option Placed)) (seen m : List ℕ) (map : Mapped f 
   none-there : (u : ℕ) → k ≤ u → u < t → getD m u 0 ≡ 0
   none-there u a b = eqb-true _ _ (map .free u (omega arith) ∙ apart-part f (4 * k) (4 * t) (4 * u) (4 * u + 4) seen (omega arith) (omega arith) alone)
 
-  starts-by : (u : ℕ) → u < 65604 → Side u → eqb (getD after u 0) 1 ≡ isIn (4 * u) (seen ++ (4 * k ∷ []))
+  starts-by : (u : ℕ) → u < length m → Side u → eqb (getD after u 0) 1 ≡ isIn (4 * u) (seen ++ (4 * k ∷ []))
   starts-by u l (first e) = rw (e, marks .first) (sym (is-in-last (4 * k) (4 * k) seen refl))
   starts-by u l (other a b) = rw (marks .others u a b)
       (sym (is-in-other (4 * u) (4 * k) seen (λ e. omega arith) ∙ sym (map .starts u l) ∙ rw (none-there u (omega arith) b)))
@@ -131,7 +131,7 @@ module _ (f : ℕ → Told (Option Placed)) (seen m : List ℕ) (map : Mapped f 
   free-on u a b = sym (apart-snoc f (4 * u) (4 * u + 4) (4 * k) seen
       ∙ rw (not-clear f (4 * u) (4 * u + 4) (4 * k) (omega arith) (omega (arith, ends))) (both-none (apart f (4 * u) (4 * u + 4) seen)))
 
-  free-by : (u : ℕ) → u < 65604 → Side u → eqb (getD after u 0) 0 ≡ apart f (4 * u) (4 * u + 4) (seen ++ (4 * k ∷ []))
+  free-by : (u : ℕ) → u < length m → Side u → eqb (getD after u 0) 0 ≡ apart f (4 * u) (4 * u + 4) (seen ++ (4 * k ∷ []))
   free-by u l (first e) = rw (e, marks .first) (free-on k (omega arith) (omega arith))
   free-by u l (other a b) = rw (marks .others u a b) (free-on u (omega arith) b)
   free-by u l (beside a) = rw (marks .beside u a)
@@ -146,18 +146,16 @@ module _ (f : ℕ → Told (Option Placed)) (seen m : List ℕ) (map : Mapped f 
 
   pub marked-mapped : Mapped f (seen ++ (4 * k ∷ [])) after
   marked-mapped = record {
-    size = marks .kept ∙ map .size;
-    starts = λ u l. starts-by u l (side u);
-    free = λ u l. free-by u l (side u);
+    starts = λ u l. starts-by u (omega (arith, marks .kept)) (side u);
+    free = λ u l. free-by u (omega (arith, marks .kept)) (side u);
     whole = λ x d. whole-by x (List·Memᴰ·append-cases seen d);
   }
 
 -- a map of zeros is that of no entries
-pub none-mapped : (f : ℕ → Told (Option Placed)) (n : ℕ) → n ≡ 65604 → Mapped f [] (replicate n 0)
+pub none-mapped : (f : ℕ → Told (Option Placed)) (n : ℕ) → Mapped f [] (replicate n 0)
 unfolding apart isIn
-none-mapped f n e = record {
-  size = length-replicate n 0 ∙ e;
-  starts = λ u l. rw (getD-replicate {A = ℕ} n u 0 0 (omega arith));
-  free = λ u l. rw (getD-replicate {A = ℕ} n u 0 0 (omega arith));
+none-mapped f n = record {
+  starts = λ u l. rw (getD-replicate {A = ℕ} n u 0 0 (omega (arith, length-replicate {A = ℕ} n 0)));
+  free = λ u l. rw (getD-replicate {A = ℕ} n u 0 0 (omega (arith, length-replicate {A = ℕ} n 0)));
   whole = λ x d. absurd (List·Memᴰ·not-nil d);
 }

@@ -17,7 +17,7 @@ ghost use mathlib.Core.List.{List, [], _∷_};
 ghost use mathlib.Core.Option.{Option};
 ghost use Prim.Native.Nat.{ℕ, _+_, _*_, _/_, _%_, _≤_, _<_};
 ghost use lib.Dec.{eqb};
-ghost use lib.ListN.{length};
+ghost use lib.ListN.{length, replicate};
 ghost use Rattle.units.specs.Told.{Told};
 ghost use Rattle.units.specs.Lent.{was, is};
 ghost use Rattle.layout_name.specs.Order.{nameOrder};
@@ -26,7 +26,7 @@ ghost use Rattle.strict_map.specs.inner.Map.{Marked};
 ghost use Rattle.strict_rule.specs.Strict.{endOf, nameBy, placed, isLess, lessThan, moreThan, nameAt, ordered};
 ghost use Rattle.strict_rule.specs.Strict.{verdictAt, root, strictFrom, told, strictAnswer, listAfter};
 ghost use Rattle.strict_rule.specs.Strict.{scratchAfter};
-ghost use Rattle.strict.specs.inner.Run.{boundOf, visitOf, Pushed, Entered, Mapped, Judged, keptOf, Runs};
+ghost use Rattle.strict.specs.inner.Run.{boundOf, visitOf, Pushed, Entered, Mapped, Covers, Judged, keptOf, Runs};
 
 // No fault in an entry, or the answer that its fault is.
 enum Verdict {
@@ -93,7 +93,8 @@ fn is_ordered(w: &[u8], first: Sector, table: Region, c: u64, name: &[u8]) -> bo
 }
 
 // An entry at a link is inside the table, over no sector line, and over no entry that is marked on the map.
-fn is_placed(table: Region, map: &[u8; 65604], l: Link, h: Header) -> bool
+fn is_placed(table: Region, map: &[u8], l: Link, h: Header) -> bool
+    requires { ⌜ Covers (table .size) (length (now map)) ⌝ }
     ensures { λ r. ⌜ ((f : ℕ → Told (Option Placed)) (seen : List ℕ) → Mapped f seen (was map) →
         r ≡ placed f (table .size) (4 * l .0) (endOf h (4 * l .0)) seen) ⌝ }
 {
@@ -111,9 +112,10 @@ fn is_placed(table: Region, map: &[u8; 65604], l: Link, h: Header) -> bool
 }
 
 // An entry at a link marked on the map.
-fn mark_entry(map: &mut [u8; 65604], l: Link, h: Header)
-    requires { ⌜ length (now map) ≡ 65604 ⌝ }
-    ensures { λ _. ⌜ (Marked (was map) (l .0) (endOf h (4 * l .0) / 4) (is map)) × (endOf h (4 * l .0) / 4 ≤ 65604) ⌝ }
+fn mark_entry(map: &mut [u8], l: Link, h: Header)
+    requires { ⌜ endOf h (4 * l .0) / 4 ≤ length (now map) ⌝ }
+    ensures { λ _. ⌜ (Marked (was map) (l .0) (endOf h (4 * l .0) / 4) (is map))
+        × (endOf h (4 * l .0) / 4 ≤ length (was map)) ⌝ }
 {
     let from = l.offset();
     let o = from.number();
@@ -126,12 +128,13 @@ fn judge(
     w: &[u8],
     first: Sector,
     table: Region,
-    map: &[u8; 65604],
+    map: &[u8],
     left: usize,
     c: u64,
     h: Header,
     at: usize,
 ) -> Verdict
+    requires { ⌜ Covers (table .size) (length (now map)) × (c % 65536 < length (now map)) ⌝ }
     ensures { λ r. ⌜ ((seen : List ℕ) → Mapped (readAt (was w) first table) seen (was map) →
         Judged r (verdictAt (was w) (readAt (was w) first table) (table .size) seen (eqb left 0) (visitOf c)
         (record { header = h; place = at }))) ⌝ }
@@ -182,13 +185,21 @@ fn push_links(scratch: &mut [u64], top: usize, c: u64, h: Header) -> usize
     push_link(scratch, t, left, k + 4294901760)
 }
 
-// The check itself. What it leaves in the list past its count, and in the scratch, is cleared by the caller.
-fn run(w: &[u8], first: Sector, table: Region, list: &mut [u32], scratch: &mut [u64]) -> Checked
+// The check itself, with a map of zeros that is long enough for the table. What it leaves in the list past its
+// count, and in the scratch, is cleared by the caller.
+fn run(
+    w: &[u8],
+    first: Sector,
+    table: Region,
+    list: &mut [u32],
+    scratch: &mut [u64],
+    map: &mut [u8],
+) -> Checked
     requires { ⌜ length (now list) < length (now scratch) ⌝ }
+    requires { ⌜ Covers (table .size) (length (now map)) × (now map ≡ replicate (length (now map)) 0) ⌝ }
     ensures { λ r. ⌜ Runs (strictFrom (was w) (readAt (was w) first table) (table .size) (length (was list)) []
         (root ∷ [])) r (is list) ⌝ }
 {
-    let mut map = [0u8; 65604];
     // The root: link 0, and 0xffff twice.
     scratch[0] = 281474976645120;
     let mut top: usize = 1;
@@ -199,11 +210,11 @@ fn run(w: &[u8], first: Sector, table: Region, list: &mut [u32], scratch: &mut [
         let l = Link::new((c % 65536) as u16);
         let o = l.offset();
         match read_entry::read_at(w, first, table, o) {
-            Read::Entry(h, at) => match judge(w, first, table, &map, list.len() - n, c, h, at) {
+            Read::Entry(h, at) => match judge(w, first, table, map, list.len() - n, c, h, at) {
                 Verdict::Good => {
                     list[n] = o.number();
                     n += 1;
-                    mark_entry(&mut map, l, h);
+                    mark_entry(map, l, h);
                     top = push_links(scratch, top, c, h);
                 }
                 Verdict::Bad(a) => return a,
@@ -214,6 +225,76 @@ fn run(w: &[u8], first: Sector, table: Region, list: &mut [u32], scratch: &mut [
         }
     }
     Checked::Done(n)
+}
+
+// The check of a table of at most 8,192 bytes: the less map there is, the less is cleared.
+fn run_small(
+    w: &[u8],
+    first: Sector,
+    table: Region,
+    list: &mut [u32],
+    scratch: &mut [u64],
+) -> Checked
+    requires { ⌜ (length (now list) < length (now scratch)) × (table .size ≤ 8192) ⌝ }
+    ensures { λ r. ⌜ Runs (strictFrom (was w) (readAt (was w) first table) (table .size) (length (was list)) []
+        (root ∷ [])) r (is list) ⌝ }
+{
+    let mut map = [0u8; 2048];
+    run(w, first, table, list, scratch, &mut map)
+}
+
+// Of at most 65,536 bytes.
+fn run_middle(
+    w: &[u8],
+    first: Sector,
+    table: Region,
+    list: &mut [u32],
+    scratch: &mut [u64],
+) -> Checked
+    requires { ⌜ (length (now list) < length (now scratch)) × (table .size ≤ 65536) ⌝ }
+    ensures { λ r. ⌜ Runs (strictFrom (was w) (readAt (was w) first table) (table .size) (length (was list)) []
+        (root ∷ [])) r (is list) ⌝ }
+{
+    let mut map = [0u8; 16384];
+    run(w, first, table, list, scratch, &mut map)
+}
+
+// Of any size: a link reaches unit 65,535 and an entry has at most 68 units, so 65,604 units are enough.
+fn run_large(
+    w: &[u8],
+    first: Sector,
+    table: Region,
+    list: &mut [u32],
+    scratch: &mut [u64],
+) -> Checked
+    requires { ⌜ length (now list) < length (now scratch) ⌝ }
+    ensures { λ r. ⌜ Runs (strictFrom (was w) (readAt (was w) first table) (table .size) (length (was list)) []
+        (root ∷ [])) r (is list) ⌝ }
+{
+    let mut map = [0u8; 65604];
+    run(w, first, table, list, scratch, &mut map)
+}
+
+// The check with a map that is long enough for the table.
+fn run_sized(
+    w: &[u8],
+    first: Sector,
+    table: Region,
+    list: &mut [u32],
+    scratch: &mut [u64],
+) -> Checked
+    requires { ⌜ length (now list) < length (now scratch) ⌝ }
+    ensures { λ r. ⌜ Runs (strictFrom (was w) (readAt (was w) first table) (table .size) (length (was list)) []
+        (root ∷ [])) r (is list) ⌝ }
+{
+    let size = table.size;
+    if size <= 8192 {
+        return run_small(w, first, table, list, scratch);
+    }
+    if size <= 65536 {
+        return run_middle(w, first, table, list, scratch);
+    }
+    run_large(w, first, table, list, scratch)
 }
 
 // How many places of the list an answer keeps.
@@ -258,7 +339,7 @@ pub fn check_table(
     let part = read_entry::part_of(w, first, table);
     let zero = Sector::new(0);
     let sector = Sector::new(0);
-    let r = run(part, zero, Region { sector, size }, list, scratch);
+    let r = run_sized(part, zero, Region { sector, size }, list, scratch);
     let n = kept(r);
     clear_from(list, n);
     clear_longs(scratch);

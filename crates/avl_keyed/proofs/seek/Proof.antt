@@ -18,11 +18,11 @@ use Rattle.avl_keyed.proofs.seek.Statement.{statement}
 use Rattle.avl_keyed.proofs.seek.Tie as tie
 
 abbrev Inv-loop : tie.InvT-loop
-Inv-loop left right key bytes start len root copy name k at₀ above₀ less₀ at above less = (w : KeySought left right key root (names bytes start len))
+Inv-loop left right key bytes start len root name k at₀ above₀ less₀ at above less = (w : KeySought left right key root (names bytes start len))
     → Seeking left right (toName (names bytes start len) name) (Keyed key (names bytes start len)) at (placeFrom above less) (spotIn (toName (names bytes start len) name) (w .linked .t) Root)
 
 abbrev μ-loop : tie.MeasureT-loop
-μ-loop left right key bytes start len root copy name k at₀ above₀ less₀ at above less = depth left right at
+μ-loop left right key bytes start len root name k at₀ above₀ less₀ at above less = depth left right at
 
 loop-holds : tie.Need-loop-holds Inv-loop μ-loop
 loop-holds c = λ w. record { s = w .linked .t; at-is = w .linked .root-is; links = w .linked .links; bound = w .linked .bound; spot = refl; all = w .keyed }
@@ -51,41 +51,41 @@ shared-slice-read-r c = let s = c .before .before .before .before .before .befor
 name-of-requires : tie.Need-name-of-requires Inv-loop μ-loop
 name-of-requires c κs = let s = c .before .before .before .before .before .before .before .before .before .before .before .before .before .before in let a = s .args in let N = names (a .bytes .now) (a .start .now) (a .len .now) in let l = c .before .before .before .before .before .before .loop in known (a .left .now) (a .right .now) (toName N (a .name .now)) (Keyed (a .key .now) N) ((s .pre .0) .linked .small) (l .inv (s .pre .0)) (c .before .before .before .before .before .loop-test .taken) .inside
 
-compare-raised-requires : tie.Need-compare-raised-requires Inv-loop μ-loop
-compare-raised-requires c κs = c .before .before .before .before .before .before .before .before .before .before .before .before .before .before .before .pre .1 .0
+compare-requires : tie.Need-compare-requires Inv-loop μ-loop
+compare-requires c κs = search needs
 
 enum-told : tie.Need-enum-told Inv-loop μ-loop
 enum-told c = search needs
 
 returns : tie.Need-returns Inv-loop μ-loop
-returns c = λ w. let s = c .before .before .before .before .before .before .before .before .before .before .before .before .before .before .before .before .before .before in let a = s .args in let N = names (a .bytes .now) (a .start .now) (a .len .now) in let l = c .before .before .before .before .before .before .before .before .before .before .loop in found (a .left .now) (a .right .now) (toName N (a .name .now)) (Keyed (a .key .now) N) (w .linked .small) (l .inv w) (c .before .before .before .before .before .before .before .before .before .loop-test .taken) (told N (a .name .now) (l .at) (c .before .before .before .name-of .ensures) (c .before .before .compare-raised .ensures) (c .enum-told .given .1))
+returns c = λ w. let s = c .before .before .before .before .before .before .before .before .before .before .before .before .before .before .before .before .before .before in let a = s .args in let N = names (a .bytes .now) (a .start .now) (a .len .now) in let l = c .before .before .before .before .before .before .before .before .before .before .loop in found (a .left .now) (a .right .now) (toName N (a .name .now)) (Keyed (a .key .now) N) (w .linked .small) (l .inv w) (c .before .before .before .before .before .before .before .before .before .loop-test .taken) (told N (a .name .now) (l .at) (c .before .before .before .name-of .ensures) (c .before .before .compare .ensures) (c .enum-told .given .1))
 
 enum-told-2 : tie.Need-enum-told-2 Inv-loop μ-loop
 enum-told-2 c = search needs
 
 loop-less : tie.Need-loop-less Inv-loop μ-loop
-loop-less c = let s = c .before .before .before .before .before .before .before .before .before .before .before .before .before .before .before .before .before .before in let a = s .args in let N = names (a .bytes .now) (a .start .now) (a .len .now) in let l = c .before .before .before .before .before .before .before .before .before .before .loop in lower (a .left .now) (a .right .now) (toName N (a .name .now)) (Keyed (a .key .now) N) ((s .pre .0) .linked .small) (l .inv (s .pre .0)) (c .before .before .before .before .before .before .before .before .before .loop-test .taken) (c .before .before .before .before .before .before .before .before .index .ensures .0) true refl (λ _. (told N (a .name .now) (l .at) (c .before .before .before .name-of .ensures) (c .before .before .compare-raised .ensures) (c .enum-told2 .given .1))) (λ e. never-both e)
+loop-less c = let s = c .before .before .before .before .before .before .before .before .before .before .before .before .before .before .before .before .before .before in let a = s .args in let N = names (a .bytes .now) (a .start .now) (a .len .now) in let l = c .before .before .before .before .before .before .before .before .before .before .loop in lower (a .left .now) (a .right .now) (toName N (a .name .now)) (Keyed (a .key .now) N) ((s .pre .0) .linked .small) (l .inv (s .pre .0)) (c .before .before .before .before .before .before .before .before .before .loop-test .taken) (c .before .before .before .before .before .before .before .before .index .ensures .0) true refl (λ _. (told N (a .name .now) (l .at) (c .before .before .before .name-of .ensures) (c .before .before .compare .ensures) (c .enum-told2 .given .1))) (λ e. never-both e)
 
 loop-again : tie.Need-loop-again Inv-loop μ-loop
-loop-again c = λ w. let s = c .before .before .before .before .before .before .before .before .before .before .before .before .before .before .before .before .before .before in let a = s .args in let N = names (a .bytes .now) (a .start .now) (a .len .now) in let l = c .before .before .before .before .before .before .before .before .before .before .loop in chosen (a .left .now) (a .right .now) (toName N (a .name .now)) (Keyed (a .key .now) N) (w .linked .small) (l .inv w) (c .before .before .before .before .before .before .before .before .before .loop-test .taken) (c .before .before .before .before .before .before .before .before .index .ensures .0) true refl (λ _. (told N (a .name .now) (l .at) (c .before .before .before .name-of .ensures) (c .before .before .compare-raised .ensures) (c .enum-told2 .given .1))) (λ e. never-both e)
+loop-again c = λ w. let s = c .before .before .before .before .before .before .before .before .before .before .before .before .before .before .before .before .before .before in let a = s .args in let N = names (a .bytes .now) (a .start .now) (a .len .now) in let l = c .before .before .before .before .before .before .before .before .before .before .loop in chosen (a .left .now) (a .right .now) (toName N (a .name .now)) (Keyed (a .key .now) N) (w .linked .small) (l .inv w) (c .before .before .before .before .before .before .before .before .before .loop-test .taken) (c .before .before .before .before .before .before .before .before .index .ensures .0) true refl (λ _. (told N (a .name .now) (l .at) (c .before .before .before .name-of .ensures) (c .before .before .compare .ensures) (c .enum-told2 .given .1))) (λ e. never-both e)
 
 enum-told-3 : tie.Need-enum-told-3 Inv-loop μ-loop
 enum-told-3 c = search needs
 
 loop-less-2 : tie.Need-loop-less-2 Inv-loop μ-loop
-loop-less-2 c = let s = c .before .before .before .before .before .before .before .before .before .before .before .before .before .before .before .before .before .before in let a = s .args in let N = names (a .bytes .now) (a .start .now) (a .len .now) in let l = c .before .before .before .before .before .before .before .before .before .before .loop in lower (a .left .now) (a .right .now) (toName N (a .name .now)) (Keyed (a .key .now) N) ((s .pre .0) .linked .small) (l .inv (s .pre .0)) (c .before .before .before .before .before .before .before .before .before .loop-test .taken) (c .before .before .before .before .before .before .before .before .index .ensures .0) false refl (λ e. never-both (mathlib.Core.Path.sym e)) (λ _. (told N (a .name .now) (l .at) (c .before .before .before .name-of .ensures) (c .before .before .compare-raised .ensures) (c .enum-told3 .given .1)))
+loop-less-2 c = let s = c .before .before .before .before .before .before .before .before .before .before .before .before .before .before .before .before .before .before in let a = s .args in let N = names (a .bytes .now) (a .start .now) (a .len .now) in let l = c .before .before .before .before .before .before .before .before .before .before .loop in lower (a .left .now) (a .right .now) (toName N (a .name .now)) (Keyed (a .key .now) N) ((s .pre .0) .linked .small) (l .inv (s .pre .0)) (c .before .before .before .before .before .before .before .before .before .loop-test .taken) (c .before .before .before .before .before .before .before .before .index .ensures .0) false refl (λ e. never-both (mathlib.Core.Path.sym e)) (λ _. (told N (a .name .now) (l .at) (c .before .before .before .name-of .ensures) (c .before .before .compare .ensures) (c .enum-told3 .given .1)))
 
 loop-again-2 : tie.Need-loop-again-2 Inv-loop μ-loop
-loop-again-2 c = λ w. let s = c .before .before .before .before .before .before .before .before .before .before .before .before .before .before .before .before .before .before in let a = s .args in let N = names (a .bytes .now) (a .start .now) (a .len .now) in let l = c .before .before .before .before .before .before .before .before .before .before .loop in chosen (a .left .now) (a .right .now) (toName N (a .name .now)) (Keyed (a .key .now) N) (w .linked .small) (l .inv w) (c .before .before .before .before .before .before .before .before .before .loop-test .taken) (c .before .before .before .before .before .before .before .before .index .ensures .0) false refl (λ e. never-both (mathlib.Core.Path.sym e)) (λ _. (told N (a .name .now) (l .at) (c .before .before .before .name-of .ensures) (c .before .before .compare-raised .ensures) (c .enum-told3 .given .1)))
+loop-again-2 c = λ w. let s = c .before .before .before .before .before .before .before .before .before .before .before .before .before .before .before .before .before .before in let a = s .args in let N = names (a .bytes .now) (a .start .now) (a .len .now) in let l = c .before .before .before .before .before .before .before .before .before .before .loop in chosen (a .left .now) (a .right .now) (toName N (a .name .now)) (Keyed (a .key .now) N) (w .linked .small) (l .inv w) (c .before .before .before .before .before .before .before .before .before .loop-test .taken) (c .before .before .before .before .before .before .before .before .index .ensures .0) false refl (λ e. never-both (mathlib.Core.Path.sym e)) (λ _. (told N (a .name .now) (l .at) (c .before .before .before .name-of .ensures) (c .before .before .compare .ensures) (c .enum-told3 .given .1)))
 
 choose-requires : tie.Need-choose-requires Inv-loop μ-loop
 choose-requires c κs = search needs
 
 loop-less-3 : tie.Need-loop-less-3 Inv-loop μ-loop
-loop-less-3 c = let s = c .before .before .before .before .before .before .before .before .before .before .before .before .before .before .before in let a = s .args in let N = names (a .bytes .now) (a .start .now) (a .len .now) in let l = c .before .before .before .before .before .before .before .loop in lower (a .left .now) (a .right .now) (toName N (a .name .now)) (Keyed (a .key .now) N) ((s .pre .0) .linked .small) (l .inv (s .pre .0)) (c .before .before .before .before .before .before .loop-test .taken) (c .before .before .before .before .before .index .ensures .0) (ltb (a .k) (getD (a .key .now) (c .before .before .before .before .before .index .result) 0)) (c .choose .ensures) (λ e. by-less N (a .name .now) (λ j. omega (arith, c .before .before .before .before .before .before .before .before .shared-slice-known7 .given j)) (λ j. omega (arith, c .before .before .before .before .before .before .before .before .before .before .before .shared-slice-known4 .given j)) (l .at) (s .pre .1 .1) (ap (λ (v : ℕ). getD (a .key .now) v 0) (c .before .before .before .before .before .index .ensures .0) ∙ known (a .left .now) (a .right .now) (toName N (a .name .now)) (Keyed (a .key .now) N) ((s .pre .0) .linked .small) (l .inv (s .pre .0)) (c .before .before .before .before .before .before .loop-test .taken) .key-is) (ltb-true (a .k) (getD (a .key .now) (c .before .before .before .before .before .index .result) 0) e)) (λ e. by-greater N (a .name .now) (λ j. omega (arith, c .before .before .before .before .before .before .before .before .shared-slice-known7 .given j)) (λ j. omega (arith, c .before .before .before .before .before .before .before .before .before .before .before .shared-slice-known4 .given j)) (l .at) (s .pre .1 .1) (ap (λ (v : ℕ). getD (a .key .now) v 0) (c .before .before .before .before .before .index .ensures .0) ∙ known (a .left .now) (a .right .now) (toName N (a .name .now)) (Keyed (a .key .now) N) ((s .pre .0) .linked .small) (l .inv (s .pre .0)) (c .before .before .before .before .before .before .loop-test .taken) .key-is) (c .before .if1 .left) (ltb-false (a .k) (getD (a .key .now) (c .before .before .before .before .before .index .result) 0) e))
+loop-less-3 c = let s = c .before .before .before .before .before .before .before .before .before .before .before .before .before .before .before in let a = s .args in let N = names (a .bytes .now) (a .start .now) (a .len .now) in let l = c .before .before .before .before .before .before .before .loop in lower (a .left .now) (a .right .now) (toName N (a .name .now)) (Keyed (a .key .now) N) ((s .pre .0) .linked .small) (l .inv (s .pre .0)) (c .before .before .before .before .before .before .loop-test .taken) (c .before .before .before .before .before .index .ensures .0) (ltb (a .k) (getD (a .key .now) (c .before .before .before .before .before .index .result) 0)) (c .choose .ensures) (λ e. by-less N (a .name .now) (λ j. omega (arith, c .before .before .before .before .before .before .before .before .shared-slice-known7 .given j)) (λ j. omega (arith, c .before .before .before .before .before .before .before .before .before .before .before .shared-slice-known4 .given j)) (l .at) (s .pre .1) (ap (λ (v : ℕ). getD (a .key .now) v 0) (c .before .before .before .before .before .index .ensures .0) ∙ known (a .left .now) (a .right .now) (toName N (a .name .now)) (Keyed (a .key .now) N) ((s .pre .0) .linked .small) (l .inv (s .pre .0)) (c .before .before .before .before .before .before .loop-test .taken) .key-is) (ltb-true (a .k) (getD (a .key .now) (c .before .before .before .before .before .index .result) 0) e)) (λ e. by-greater N (a .name .now) (λ j. omega (arith, c .before .before .before .before .before .before .before .before .shared-slice-known7 .given j)) (λ j. omega (arith, c .before .before .before .before .before .before .before .before .before .before .before .shared-slice-known4 .given j)) (l .at) (s .pre .1) (ap (λ (v : ℕ). getD (a .key .now) v 0) (c .before .before .before .before .before .index .ensures .0) ∙ known (a .left .now) (a .right .now) (toName N (a .name .now)) (Keyed (a .key .now) N) ((s .pre .0) .linked .small) (l .inv (s .pre .0)) (c .before .before .before .before .before .before .loop-test .taken) .key-is) (c .before .if1 .left) (ltb-false (a .k) (getD (a .key .now) (c .before .before .before .before .before .index .result) 0) e))
 
 loop-again-3 : tie.Need-loop-again-3 Inv-loop μ-loop
-loop-again-3 c = λ w. let s = c .before .before .before .before .before .before .before .before .before .before .before .before .before .before .before in let a = s .args in let N = names (a .bytes .now) (a .start .now) (a .len .now) in let l = c .before .before .before .before .before .before .before .loop in chosen (a .left .now) (a .right .now) (toName N (a .name .now)) (Keyed (a .key .now) N) (w .linked .small) (l .inv w) (c .before .before .before .before .before .before .loop-test .taken) (c .before .before .before .before .before .index .ensures .0) (ltb (a .k) (getD (a .key .now) (c .before .before .before .before .before .index .result) 0)) (c .choose .ensures) (λ e. by-less N (a .name .now) (λ j. omega (arith, c .before .before .before .before .before .before .before .before .shared-slice-known7 .given j)) (λ j. omega (arith, c .before .before .before .before .before .before .before .before .before .before .before .shared-slice-known4 .given j)) (l .at) (s .pre .1 .1) (ap (λ (v : ℕ). getD (a .key .now) v 0) (c .before .before .before .before .before .index .ensures .0) ∙ known (a .left .now) (a .right .now) (toName N (a .name .now)) (Keyed (a .key .now) N) (w .linked .small) (l .inv w) (c .before .before .before .before .before .before .loop-test .taken) .key-is) (ltb-true (a .k) (getD (a .key .now) (c .before .before .before .before .before .index .result) 0) e)) (λ e. by-greater N (a .name .now) (λ j. omega (arith, c .before .before .before .before .before .before .before .before .shared-slice-known7 .given j)) (λ j. omega (arith, c .before .before .before .before .before .before .before .before .before .before .before .shared-slice-known4 .given j)) (l .at) (s .pre .1 .1) (ap (λ (v : ℕ). getD (a .key .now) v 0) (c .before .before .before .before .before .index .ensures .0) ∙ known (a .left .now) (a .right .now) (toName N (a .name .now)) (Keyed (a .key .now) N) (w .linked .small) (l .inv w) (c .before .before .before .before .before .before .loop-test .taken) .key-is) (c .before .if1 .left) (ltb-false (a .k) (getD (a .key .now) (c .before .before .before .before .before .index .result) 0) e))
+loop-again-3 c = λ w. let s = c .before .before .before .before .before .before .before .before .before .before .before .before .before .before .before in let a = s .args in let N = names (a .bytes .now) (a .start .now) (a .len .now) in let l = c .before .before .before .before .before .before .before .loop in chosen (a .left .now) (a .right .now) (toName N (a .name .now)) (Keyed (a .key .now) N) (w .linked .small) (l .inv w) (c .before .before .before .before .before .before .loop-test .taken) (c .before .before .before .before .before .index .ensures .0) (ltb (a .k) (getD (a .key .now) (c .before .before .before .before .before .index .result) 0)) (c .choose .ensures) (λ e. by-less N (a .name .now) (λ j. omega (arith, c .before .before .before .before .before .before .before .before .shared-slice-known7 .given j)) (λ j. omega (arith, c .before .before .before .before .before .before .before .before .before .before .before .shared-slice-known4 .given j)) (l .at) (s .pre .1) (ap (λ (v : ℕ). getD (a .key .now) v 0) (c .before .before .before .before .before .index .ensures .0) ∙ known (a .left .now) (a .right .now) (toName N (a .name .now)) (Keyed (a .key .now) N) (w .linked .small) (l .inv w) (c .before .before .before .before .before .before .loop-test .taken) .key-is) (ltb-true (a .k) (getD (a .key .now) (c .before .before .before .before .before .index .result) 0) e)) (λ e. by-greater N (a .name .now) (λ j. omega (arith, c .before .before .before .before .before .before .before .before .shared-slice-known7 .given j)) (λ j. omega (arith, c .before .before .before .before .before .before .before .before .before .before .before .shared-slice-known4 .given j)) (l .at) (s .pre .1) (ap (λ (v : ℕ). getD (a .key .now) v 0) (c .before .before .before .before .before .index .ensures .0) ∙ known (a .left .now) (a .right .now) (toName N (a .name .now)) (Keyed (a .key .now) N) (w .linked .small) (l .inv w) (c .before .before .before .before .before .before .loop-test .taken) .key-is) (c .before .if1 .left) (ltb-false (a .k) (getD (a .key .now) (c .before .before .before .before .before .index .result) 0) e))
 
 place-below-requires : tie.Need-place-below-requires Inv-loop μ-loop
 place-below-requires c κs = search needs
@@ -108,7 +108,7 @@ seek-spec =
     mul-r
     shared-slice-read-r
     name-of-requires
-    compare-raised-requires
+    compare-requires
     enum-told
     returns
     enum-told-2

@@ -22,7 +22,7 @@ use Rattle.strict.proofs.check_table.Reads as reads
 use Rattle.strict.proofs.check_table.Lts as lts
 use Rattle.read_entry.proofs.part_of.Reads as part-of-reads
 use Rattle.strict.proofs.kept.Reads as kept-reads
-use Rattle.strict.proofs.run.Reads as run-reads
+use Rattle.strict.proofs.run_sized.Reads as run-sized-reads
 use Rattle.units.proofs.Sector.new.Reads as new-reads
 
 -- the list, its kept part and zeros past it, is what the contract says
@@ -88,8 +88,8 @@ new-requires c κs = search needs
 new-requires-2 : tie.Need-new-requires-2
 new-requires-2 c κs = search needs
 
-run-requires : tie.Need-run-requires
-run-requires c κs = search needs
+run-sized-requires : tie.Need-run-sized-requires
+run-sized-requires c κs = search needs
 
 kept-requires : tie.Need-kept-requires
 kept-requires c κs = search needs
@@ -112,9 +112,9 @@ returns-3 c = let c4 = c .before .before in
     let ck = c3 .before .before in
     let cr = ck .before .before .before .before .before in
     let m = cr .before .before .before in
-    ran _ _ _ _ _ (search needs) (search needs) _ (cr .run .last .1 .1 .1 .0) (cr .run .last .1 .1 .1 .1 .0)
-    (runs-moved _ _ _ (m .before .before .before .if2 .left) _ (m .before .before .part-of .ensures) _ _ (m .before .new .ensures) (m .new2 .ensures) _ _ _ (cr .run .ensures)) _ (ck .kept .ensures)
-    (cr .run .kept .1 .1 .1 .0) (cr .run .kept .1 .1 .1 .1 .0) _ _ (c3 .clear-from .ensures) (c4 .clear-longs2 .ensures)
+    ran _ _ _ _ _ (search needs) (search needs) _ (cr .run-sized .last .1 .1 .1 .0) (cr .run-sized .last .1 .1 .1 .1 .0)
+    (runs-moved _ _ _ (m .before .before .before .if2 .left) _ (m .before .before .part-of .ensures) _ _ (m .before .new .ensures) (m .new2 .ensures) _ _ _ (cr .run-sized .ensures)) _ (ck .kept .ensures)
+    (cr .run-sized .kept .1 .1 .1 .0) (cr .run-sized .kept .1 .1 .1 .1 .0) _ _ (c3 .clear-from .ensures) (c4 .clear-longs2 .ensures)
 
 pub check-table-spec : {M : Type 1} → statement M
 check-table-spec =
@@ -129,7 +129,7 @@ check-table-spec =
     part-of-requires
     new-requires
     new-requires-2
-    run-requires
+    run-sized-requires
     kept-requires
     clear-from-requires
     clear-longs-requires-2

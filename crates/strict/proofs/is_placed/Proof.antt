@@ -1,5 +1,5 @@
 -- `strict::is_placed` meets its contract, by its three tests. Assumes nothing.
-use Rattle.strict.proofs.Judging.{too-long, crossing, in-sector}
+use Rattle.strict.proofs.Judging.{too-long, crossing, in-sector, on-map}
 use borrow.Author.Needs.{needs}
 use Rattle.strict.proofs.is_placed.Statement.{statement}
 use Rattle.strict.proofs.is_placed.Tie as tie
@@ -38,7 +38,8 @@ cast-is-free-2 : tie.Need-cast-is-free-2
 cast-is-free-2 c = search needs
 
 is-free-requires : tie.Need-is-free-requires
-is-free-requires c κs = search needs
+is-free-requires c κs = let s = c .before .before .before .before .before .before in
+    on-map _ _ (c .before .before .before .before .offset .ensures) _ (c .before .before .before .number .ensures) (s .args .h) _ (c .before .before .entry-length .ensures) (search needs) (search needs) (s .pre) (search needs)
 
 returns-3 : tie.Need-returns-3
 returns-3 c = search in-sector

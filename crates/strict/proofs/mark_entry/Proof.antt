@@ -1,5 +1,5 @@
 -- `strict::mark_entry` meets its contract: an offset over 4 is a unit. Assumes nothing.
-use Rattle.strict.proofs.Judging.{entry-marked, on-map}
+use Rattle.strict.proofs.Judging.{entry-marked}
 use borrow.Author.Needs.{needs}
 use Rattle.strict.proofs.mark_entry.Statement.{statement}
 use Rattle.strict.proofs.mark_entry.Tie as tie
@@ -31,8 +31,11 @@ cast-mark-2 c = search needs
 mark-requires : tie.Need-mark-requires
 mark-requires c κs = search needs
 
+same-length : tie.Need-same-length
+same-length c = search needs
+
 returns : tie.Need-returns
-returns c = (search entry-marked, search on-map)
+returns c = (search entry-marked, search needs)
 
 pub mark-entry-spec : {M : Type 1} → statement M
 mark-entry-spec =
@@ -45,4 +48,5 @@ mark-entry-spec =
     cast-mark
     cast-mark-2
     mark-requires
+    same-length
     returns)

@@ -59,10 +59,14 @@ pub record Whole (f : ℕ → Told (Option Placed)) (x : ℕ) : Type 0 where
 
 -- the map m is that of the entries listed: 1 at a unit where one starts, 0 at a unit where none stands
 pub record Mapped (f : ℕ → Told (Option Placed)) (seen m : List ℕ) : Type 0 where
-  pub size : length m ≡ 65604
-  pub starts : (u : ℕ) → u < 65604 → eqb (getD m u 0) 1 ≡ isIn (4 * u) seen
-  pub free : (u : ℕ) → u < 65604 → eqb (getD m u 0) 0 ≡ apart f (4 * u) (4 * u + 4) seen
+  pub starts : (u : ℕ) → u < length m → eqb (getD m u 0) 1 ≡ isIn (4 * u) seen
+  pub free : (u : ℕ) → u < length m → eqb (getD m u 0) 0 ≡ apart f (4 * u) (4 * u + 4) seen
   pub whole : (x : ℕ) → List·Memᴰ x seen → Whole f x
+
+-- a map of n units is enough for a table of that size: a link reaches unit 65,535, and an entry has at most 68 units
+pub record Covers (size n : ℕ) : Type 0 where
+  pub unit : (u : ℕ) → u < 65536 → 4 * u < size → u < n
+  pub end : (e : ℕ) → e ≤ 262416 → e ≤ size → e / 4 ≤ n
 
 -- a verdict of the code is one of the definition
 abbrev pub Judged : Verdict → Told (Unit {0}) → Type 0

@@ -17,8 +17,8 @@ abbrev μ-loop : tie.MeasureT-loop
 sub-last : tie.Need-sub-last Inv-loop μ-loop
 sub-last c = search needs
 
-element-copy-out-last : tie.Need-element-copy-out-last Inv-loop μ-loop
-element-copy-out-last c = search needs
+shared-slice-read-last : tie.Need-shared-slice-read-last Inv-loop μ-loop
+shared-slice-read-last c = search needs
 
 returns : tie.Need-returns Inv-loop μ-loop
 returns c = marked-unit _ _ _ (c .before .before .args .to - 1) (search needs) (search needs) (search needs)
@@ -26,8 +26,8 @@ returns c = marked-unit _ _ _ (c .before .before .args .to - 1) (search needs) (
 loop-holds : tie.Need-loop-holds Inv-loop μ-loop
 loop-holds c = search begun
 
-element-copy-out-if2 : tie.Need-element-copy-out-if2 Inv-loop μ-loop
-element-copy-out-if2 c = search needs
+shared-slice-read-if2 : tie.Need-shared-slice-read-if2 Inv-loop μ-loop
+shared-slice-read-if2 c = search needs
 
 returns-2 : tie.Need-returns-2 Inv-loop μ-loop
 returns-2 c = search marked-unit
@@ -51,10 +51,10 @@ is-free-spec =
     Inv-loop
     μ-loop
     sub-last
-    element-copy-out-last
+    shared-slice-read-last
     returns
     loop-holds
-    element-copy-out-if2
+    shared-slice-read-if2
     returns-2
     add-i
     loop-less

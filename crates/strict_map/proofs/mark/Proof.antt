@@ -1,5 +1,7 @@
 -- `strict_map::mark` meets its contract. The loop's invariant is `Marking` of proofs/Turn.antt, of the map whose first unit is marked. Assumes nothing.
 use Prim.Native.Nat.{_-_}
+use mathlib.Core.Path.{_∙_}
+use lib.ListN.{length-set}
 use borrow.Author.Needs.{needs}
 use Rattle.strict_map.proofs.Turn.{Marking, first-marked, one-more, all-marked}
 use Rattle.strict_map.proofs.mark.Statement.{statement}
@@ -13,8 +15,8 @@ Inv-loop map₀ from to i₀ map i = Marking map₀ from to map i
 abbrev μ-loop : tie.MeasureT-loop
 μ-loop map₀ from to i₀ map i = to - i
 
-element-write-map : tie.Need-element-write-map Inv-loop μ-loop
-element-write-map c = search needs
+slice-write-map : tie.Need-slice-write-map Inv-loop μ-loop
+slice-write-map c = search needs
 
 add-i : tie.Need-add-i Inv-loop μ-loop
 add-i c = search needs
@@ -22,8 +24,8 @@ add-i c = search needs
 loop-holds : tie.Need-loop-holds Inv-loop μ-loop
 loop-holds c = first-marked (c .args .map .now) _ _ (search needs) (search needs) _ (search needs)
 
-element-write-map-2 : tie.Need-element-write-map-2 Inv-loop μ-loop
-element-write-map-2 c = search needs
+slice-write-map-2 : tie.Need-slice-write-map-2 Inv-loop μ-loop
+slice-write-map-2 c = search needs
 
 add-i-2 : tie.Need-add-i-2 Inv-loop μ-loop
 add-i-2 c = search needs
@@ -34,6 +36,9 @@ loop-less c = search needs
 loop-again : tie.Need-loop-again Inv-loop μ-loop
 loop-again c = search one-more
 
+same-length : tie.Need-same-length Inv-loop μ-loop
+same-length c = c .before .loop .inv .done .kept ∙ simp length-set
+
 returns : tie.Need-returns Inv-loop μ-loop
 returns c = search all-marked
 
@@ -43,11 +48,12 @@ mark-spec =
     (tie.spec
     Inv-loop
     μ-loop
-    element-write-map
+    slice-write-map
     add-i
     loop-holds
-    element-write-map-2
+    slice-write-map-2
     add-i-2
     loop-less
     loop-again
+    same-length
     returns)
