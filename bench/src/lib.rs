@@ -1,5 +1,5 @@
 //! Readers and writers three times behind one set of answers: `ours` (this repository's proved code), `theirs` (the Rust original) and `plain` (written from
-//! document 01 for this harness alone, to know beforehand where the Rust would never return or cannot be asked).
+//! docs/SCOPE.md for this harness alone, to know beforehand where the Rust would never return or cannot be asked).
 pub mod inputs;
 pub mod lists;
 pub mod ours;
@@ -33,7 +33,7 @@ pub struct Entry {
     pub name_len: u8,
 }
 
-/// An answer, by document 01's numbers. What a reader does not say is None.
+/// An answer, by the numbers of docs/SCOPE.md. What a reader does not say is None.
 #[derive(Clone, Debug, PartialEq, Eq)]
 pub enum Said {
     Found { entry: Entry, headers: Option<u32> },

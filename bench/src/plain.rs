@@ -1,4 +1,4 @@
-//! The readers once more, written from document 01 with no thought of speed: they tell beforehand where the Rust would never return, and are compared too.
+//! The readers once more, written from docs/SCOPE.md with no thought of speed: they tell beforehand where the Rust would never return, and are compared too.
 mod plan;
 mod write;
 

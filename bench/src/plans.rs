@@ -39,7 +39,7 @@ impl Planned {
     }
 }
 
-/// Whether the Rust may be asked: not for names that document 01 refuses and it does not, nor for what is no tree. `plain` is the plain plan's answer.
+/// Whether the Rust may be asked: not for names that docs/SCOPE.md refuses and it does not, nor for what is no tree. `plain` is the plain plan's answer.
 pub fn may_ask(request: &Request, plain: &Planned) -> bool {
     let named =
         request.directories.iter().flatten().all(|member| !member.name.is_empty() && member.name.iter().all(|b| (1..128).contains(b)));

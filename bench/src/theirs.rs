@@ -70,7 +70,7 @@ pub fn path(v: View, t: Table, path: &str, last: Table) -> Said {
         Err(E::DirectoryEntryReadFailed(DirectoryEntryReadError::IOError(_))) => refused(24, Some(dev.last)),
         Err(E::IsNotDirectory) => refused(27, None),
         Err(E::NoDirent) => refused(28, None),
-        Err(other) => panic!("an answer that document 01 does not know: {other:?}"),
+        Err(other) => panic!("an answer that docs/SCOPE.md does not know: {other:?}"),
     }
 }
 
@@ -89,7 +89,7 @@ pub fn entry(v: View, t: Table, offset: u32) -> Option<Said> {
     match DirectoryEntryNode::read_from_disk(&mut dev, byte) {
         Ok(node) => node.map(|node| Said::Found { entry: entry_of(&node, v), headers: None }),
         Err(DirectoryEntryReadError::IOError(_)) => Some(Said::Refused { number: 24, byte: Some(byte), headers: None }),
-        Err(other) => panic!("an answer that document 01 does not know: {other:?}"),
+        Err(other) => panic!("an answer that docs/SCOPE.md does not know: {other:?}"),
     }
 }
 
@@ -103,7 +103,7 @@ pub fn walk(v: View, t: Table) -> Said {
         Err(E::DirectoryEntryReadFailed(DirectoryEntryReadError::IOError(_))) => {
             Said::Refused { number: 24, byte: Some(dev.last), headers: None }
         }
-        Err(other) => panic!("an answer that document 01 does not know: {other:?}"),
+        Err(other) => panic!("an answer that docs/SCOPE.md does not know: {other:?}"),
     }
 }
 

@@ -1,4 +1,4 @@
-//! Planning once more, written from document 01 with no thought of speed.
+//! Planning once more, written from docs/SCOPE.md with no thought of speed.
 use super::write::{add_in_turn, laid, sectors_for, stored};
 use crate::plans::{Member, Planned, Request};
 use crate::{Job, New};

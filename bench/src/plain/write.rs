@@ -1,4 +1,4 @@
-//! The writer once more, written from document 01 with no thought of speed.
+//! The writer once more, written from docs/SCOPE.md with no thought of speed.
 use super::raised;
 use crate::{Job, New, Turns, Wrote};
 use std::cmp::Ordering;

@@ -75,7 +75,7 @@ fn number_of(error: E) -> u32 {
         E::FileNameError(NameEncodingError::NameTooLong) => 3,
         E::DuplicateFileName => 4,
         E::TooManyDirectoryEntries => 7,
-        other => panic!("an answer that document 01 does not know: {other:?}"),
+        other => panic!("an answer that docs/SCOPE.md does not know: {other:?}"),
     }
 }
 
@@ -109,9 +109,9 @@ pub fn plan(request: &Request) -> Planned {
     match heard(|| create_xdvdfs_image(&mut Tree(request), &mut log, visitor)) {
         Ok(Ok(())) => {}
         Ok(Err(WriteError::InvalidFileStructureError(error))) => return refused(number_of(error)),
-        Ok(Err(other)) => panic!("an answer that document 01 does not know: {other:?}"),
+        Ok(Err(other)) => panic!("an answer that docs/SCOPE.md does not know: {other:?}"),
         Err(said) => {
-            assert!(said.starts_with("sector.rs ") && said.contains("overflow"), "a panic that document 01 does not know: {said}");
+            assert!(said.starts_with("sector.rs ") && said.contains("overflow"), "a panic that docs/SCOPE.md does not know: {said}");
             return refused(8);
         }
     }

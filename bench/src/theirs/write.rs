@@ -1,4 +1,4 @@
-//! Tables written by the Rust. A panic is read as document 01's added refusal, by the file in which it arises: dirtab.rs rounds a directory's size (5), sector.rs counts sectors (8).
+//! Tables written by the Rust. A panic is read as the scope's added refusal, by the file in which it arises: dirtab.rs rounds a directory's size (5), sector.rs counts sectors (8).
 use crate::{Job, Wrote};
 use std::cell::RefCell;
 use std::panic::{catch_unwind, set_hook, AssertUnwindSafe};
@@ -56,9 +56,9 @@ pub fn add_in_turn(job: &Job, asked: &[bool]) -> (Vec<Option<u32>>, Wrote) {
             Ok(Ok(())) => 0,
             Ok(Err(E::DuplicateFileName)) => 4,
             Ok(Err(E::FileNameError(NameEncodingError::NameTooLong))) => 3,
-            Ok(Err(other)) => panic!("an answer that document 01 does not know: {other:?}"),
+            Ok(Err(other)) => panic!("an answer that docs/SCOPE.md does not know: {other:?}"),
             Err(said) => {
-                assert!(said.starts_with("dirtab.rs ") && said.contains("overflow"), "a panic that document 01 does not know: {said}");
+                assert!(said.starts_with("dirtab.rs ") && said.contains("overflow"), "a panic that docs/SCOPE.md does not know: {said}");
                 5
             }
         }));
@@ -68,9 +68,9 @@ pub fn add_in_turn(job: &Job, asked: &[bool]) -> (Vec<Option<u32>>, Wrote) {
     let end = match heard(|| writer.disk_repr(&mut sectors, &mut buffers)) {
         Ok(Ok(())) => Wrote::Done { size: writer.dirtab_size(), next: next_free(&mut sectors), bytes: buffers.dirtab_bytes },
         Ok(Err(E::TooManyDirectoryEntries)) => Wrote::Refused { number: 7, entry: None },
-        Ok(Err(other)) => panic!("an answer that document 01 does not know: {other:?}"),
+        Ok(Err(other)) => panic!("an answer that docs/SCOPE.md does not know: {other:?}"),
         Err(said) => {
-            assert!(said.starts_with("sector.rs ") && said.contains("overflow"), "a panic that document 01 does not know: {said}");
+            assert!(said.starts_with("sector.rs ") && said.contains("overflow"), "a panic that docs/SCOPE.md does not know: {said}");
             Wrote::Refused { number: 8, entry: None }
         }
     };

@@ -1,4 +1,4 @@
--- DOCUMENT 01'S STARRED CASES, as a single table: each row says what is put in and what must come out, and `Holds`
+-- THE SCOPE'S PROVED CASES, as a single table: each row says what is put in and what must come out, and `Holds`
 -- what that means. Assumes nothing.
 use Prim.Native.Nat.{ℕ, _+_, _/_}
 use mathlib.Core.Path.{_≡_}

@@ -14,7 +14,7 @@ use Rattle.avl_model.specs.declared.Spot.{Spot}
 use Rattle.avl_model.specs.declared.Spot.the-variants.{Same, Free}
 use Rattle.avl_model.specs.Tree.{Tree, leaf, node, cnt, ins}
 use Rattle.avl_model.specs.Laws.{Avl, All, Ordered, size}
-use Rattle.avl_model.specs.Names.{Names, names, nameAt, toName, isLess}
+use Rattle.avl_model.specs.Names.{Names, namesIn, nameAt, toName, isLess}
 use Rattle.avl_model.specs.Order.{order}
 use Rattle.avl_model.specs.Seek.{spotIn}
 use Rattle.avl_model.proofs.Counted.{all-below}
@@ -55,7 +55,7 @@ module _ (S : Share) (tab : ℕ → ℕ) where
   E = entryIn S tab
 
   abbrev N : Names
-  N = names (S .bytes) (S .start) (S .len)
+  N = namesIn (S .bytes) (S .start) (S .len)
 
   abbrev T : ℕ → Tree
   T n = grown E n

@@ -23,7 +23,7 @@ use Rattle.avl_model.specs.declared.Spot.{Spot}
 use Rattle.avl_model.specs.declared.Spot.the-variants.{Same, Free}
 use Rattle.avl_model.specs.Tree.{Tree, leaf, cnt, ins}
 use Rattle.avl_model.specs.Laws.{All, Ordered}
-use Rattle.avl_model.specs.Names.{Names, names, nameAt, toName, isLess}
+use Rattle.avl_model.specs.Names.{Names, namesIn, nameAt, toName, isLess}
 use Rattle.avl_model.specs.Seek.{spotIn}
 use Rattle.avl_model.proofs.Avl.{all-map}
 use Rattle.avl_model.proofs.Counted.{all-at}
@@ -60,7 +60,7 @@ module _ (L : Listing) where
   E = entryIn L
 
   abbrev N : Names
-  N = names (L .bytes) (L .start) (L .len)
+  N = namesIn (L .bytes) (L .start) (L .len)
 
   abbrev pub T : ℕ → Tree
   T n = grown E n

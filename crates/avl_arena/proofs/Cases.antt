@@ -5,24 +5,24 @@ use mathlib.Core.Bool.{Bool, true, false}
 use mathlib.Core.List.{[], _∷_}
 use Rattle.layout_name.specs.Order.{numberOrder, listOrder, orderBy, raised, nameOrder}
 use Rattle.avl_model.specs.Lists.{lists}
-use Rattle.avl_model.specs.Names.{Names, names, toName}
+use Rattle.avl_model.specs.Names.{Names, namesIn, toName}
 use Rattle.avl_model.specs.Seek.{treeAt}
 use Rattle.avl_arena.specs.Test.{places, inside, between, cellOk, wholeTree, holdsTree}
 
 -- two names of one byte each
 abbrev pair : ℕ → ℕ → Names
-pair x y = names (x ∷ y ∷ []) (0 ∷ 1 ∷ []) (1 ∷ 1 ∷ [])
+pair x y = namesIn (x ∷ y ∷ []) (0 ∷ 1 ∷ []) (1 ∷ 1 ∷ [])
 
 -- the node 0, at the root, and right of it the node 1
 abbrev two : Names → ℕ → Bool
 two N n = holdsTree (lists 0 (65535 ∷ 65535 ∷ []) (1 ∷ 65535 ∷ []) (65535 ∷ 0 ∷ []) (2 ∷ 1 ∷ [])) N n
 
 -- an empty arena has no root
-empty : holdsTree (lists 65535 [] [] [] []) (names [] [] []) 0 ≡ true
+empty : holdsTree (lists 65535 [] [] [] []) (namesIn [] [] []) 0 ≡ true
 unfolding holdsTree wholeTree places treeAt
 empty = refl
 
-empty-with-root : holdsTree (lists 0 [] [] [] []) (names [] [] []) 0 ≡ false
+empty-with-root : holdsTree (lists 0 [] [] [] []) (namesIn [] [] []) 0 ≡ false
 unfolding holdsTree wholeTree places treeAt
 empty-with-root = refl
 
@@ -46,12 +46,12 @@ unfolding holdsTree places
 over-full = refl
 
 -- a name that reaches past the lent bytes
-past-the-bytes : two (names (97 ∷ 66 ∷ []) (0 ∷ 1 ∷ []) (1 ∷ 2 ∷ [])) 2 ≡ false
+past-the-bytes : two (namesIn (97 ∷ 66 ∷ []) (0 ∷ 1 ∷ []) (1 ∷ 2 ∷ [])) 2 ≡ false
 unfolding holdsTree places inside
 past-the-bytes = refl
 
 -- a node that is its own child
-looped : holdsTree (lists 0 (0 ∷ []) (65535 ∷ []) (65535 ∷ []) (1 ∷ [])) (names (97 ∷ []) (0 ∷ []) (1 ∷ [])) 1 ≡ false
+looped : holdsTree (lists 0 (0 ∷ []) (65535 ∷ []) (65535 ∷ []) (1 ∷ [])) (namesIn (97 ∷ []) (0 ∷ []) (1 ∷ [])) 1 ≡ false
 unfolding holdsTree wholeTree places inside between cellOk treeAt toName nameOrder orderBy listOrder numberOrder raised
 looped = refl
 

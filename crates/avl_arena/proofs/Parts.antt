@@ -8,7 +8,7 @@ use lib.Seq.{length-take-le}
 use lib.Dec.{leb}
 use borrow.Author.Tests.{leb-true}
 use Rattle.avl_model.specs.Lists.{Lists, lists}
-use Rattle.avl_model.specs.Names.{Names, names}
+use Rattle.avl_model.specs.Names.{Names, namesIn}
 use Rattle.avl_arena.specs.Test.{places, every, inside, wholeTree, holdsTree}
 use Rattle.avl_arena.specs.inner.Seeing.{Lent}
 use Rattle.avl_arena.specs.HeldTree.{Places}
@@ -33,11 +33,11 @@ places-of S N n e =
 
 module _ (root : ℕ) (L R P H B s l : List ℕ) (count n : ℕ) (en : (n ≡ count) × (n < 65536)) {p : Bool} (ep : p ≡ places (lists 0 L R P H) s l n) where
   abbrev Answer : Bool → Type 0
-  Answer b = b ≡ holdsTree (lists root L R P H) (names B s l) count
+  Answer b = b ≡ holdsTree (lists root L R P H) (namesIn B s l) count
 
   -- the answer at n is the answer at the count
-  at-count : {b : Bool} → b ≡ holdsTree (lists root L R P H) (names B s l) n → Answer b
-  at-count e = e ∙ ap (holdsTree (lists root L R P H) (names B s l)) (en .0)
+  at-count : {b : Bool} → b ≡ holdsTree (lists root L R P H) (namesIn B s l) n → Answer b
+  at-count e = e ∙ ap (holdsTree (lists root L R P H) (namesIn B s l)) (en .0)
 
   same-places : p ≡ places (lists root L R P H) s l n
   unfolding places
@@ -48,8 +48,8 @@ module _ (root : ℕ) (L R P H B s l : List ℕ) (count n : ℕ) (en : (n ≡ co
   no-places e = at-count (and-first _ same-places e)
 
   module _ (yes : p ≡ true) where
-    pub have : Places (lists 0 L R P H) (names B s l) n
-    have = places-of (lists 0 L R P H) (names B s l) n (sym ep ∙ yes)
+    pub have : Places (lists 0 L R P H) (namesIn B s l) n
+    have = places-of (lists 0 L R P H) (namesIn B s l) n (sym ep ∙ yes)
 
     long : (x : List ℕ) → n ≤ length x → length (take n x) ≡ n
     long x h = length-take-le n x h
@@ -57,16 +57,16 @@ module _ (root : ℕ) (L R P H B s l : List ℕ) (count n : ℕ) (en : (n ≡ co
     pub as-long : length (take n l) ≡ length (take n s)
     as-long = long l (have .len) ∙ sym (long s (have .start))
 
-    module _ {b : Bool} (eb : b ≡ every (inside (names B (take n s) (take n l))) (length (take n s))) where
-      inside-is : b ≡ every (inside (names B (take n s) (take n l))) n
-      inside-is = eb ∙ ap (every (inside (names B (take n s) (take n l)))) (long s (have .start))
+    module _ {b : Bool} (eb : b ≡ every (inside (namesIn B (take n s) (take n l))) (length (take n s))) where
+      inside-is : b ≡ every (inside (namesIn B (take n s) (take n l))) n
+      inside-is = eb ∙ ap (every (inside (namesIn B (take n s) (take n l)))) (long s (have .start))
 
       pub no-inside : b ≡ false → Answer false
       unfolding holdsTree
       no-inside e = at-count (and-second same-places yes (and-first _ inside-is e))
 
       module _ (all : b ≡ true) where
-        pub lent : Lent (lists 0 (take n L) (take n R) (take n P) (take n H)) (names B (take n s) (take n l)) (length (take n L))
+        pub lent : Lent (lists 0 (take n L) (take n R) (take n P) (take n H)) (namesIn B (take n s) (take n l)) (length (take n L))
         lent = record {
           long = record {
             l = refl;
@@ -77,12 +77,12 @@ module _ (root : ℕ) (L R P H B s l : List ℕ) (count n : ℕ) (en : (n ≡ co
           starts = long s (have .start) ∙ sym (long L (have .l));
           named = record {
             same = as-long;
-            in-bytes = each-inside (names B (take n s) (take n l)) (length (take n s)) (sym eb ∙ all);
+            in-bytes = each-inside (namesIn B (take n s) (take n l)) (length (take n s)) (sym eb ∙ all);
           };
         }
 
-        pub by-whole : {c : Bool} → c ≡ wholeTree (lists root (take n L) (take n R) (take n P) (take n H)) (names B (take n s) (take n l)) (length (take n L)) → Answer c
+        pub by-whole : {c : Bool} → c ≡ wholeTree (lists root (take n L) (take n R) (take n P) (take n H)) (namesIn B (take n s) (take n l)) (length (take n L)) → Answer c
         unfolding holdsTree
         by-whole {c} e =
             at-count (and-second same-places yes (and-second inside-is all
-            (e ∙ ap (wholeTree (lists root (take n L) (take n R) (take n P) (take n H)) (names B (take n s) (take n l))) (long L (have .l)))))
+            (e ∙ ap (wholeTree (lists root (take n L) (take n R) (take n P) (take n H)) (namesIn B (take n s) (take n l))) (long L (have .l)))))

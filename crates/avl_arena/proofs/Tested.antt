@@ -11,7 +11,7 @@ use borrow.Author.Tests.{le-leb, lt-leb, eq-eqb, ne-eqb, leb-true}
 use Rattle.layout_name.specs.declared.Order.{Order}
 use Rattle.layout_name.specs.Order.{nameOrder}
 use Rattle.avl_model.specs.Lists.{Lists}
-use Rattle.avl_model.specs.Names.{Names, names, nameAt, toName, byName, isLess}
+use Rattle.avl_model.specs.Names.{Names, namesIn, nameAt, toName, byName, isLess}
 use Rattle.avl_arena.specs.Test.{places, every, inside, cellOk}
 
 -- both of two tests, and what each is where both hold
@@ -29,7 +29,7 @@ and-both {a} {b} e f = ap₂ _&&_ e f
 -- ---- names
 
 -- the part from a name's start to its end is the name
-pub part-is-name : (B s n : List ℕ) (i a b : ℕ) → (a ≡ getD s i 0) × (a < 4294967296) → (b ≡ getD n i 0) × (b < 4294967296) → take (a + b - a) (drop a B) ≡ nameAt (names B s n) i
+pub part-is-name : (B s n : List ℕ) (i a b : ℕ) → (a ≡ getD s i 0) × (a < 4294967296) → (b ≡ getD n i 0) × (b < 4294967296) → take (a + b - a) (drop a B) ≡ nameAt (namesIn B s n) i
 part-is-name B s n i a b ea eb =
     let k : a + b - a ≡ getD n i 0 = omega arith in
     λ q. take (k q) (drop (ea .0 q) B)
@@ -80,21 +80,21 @@ every-from f (suc m) h = and-both (every-from f m (λ j k. h j (omega arith))) (
 -- ---- each name inside
 
 module _ (B s n : List ℕ) where
-  one-out : (i a b : ℕ) → (a ≡ getD s i 0) × (a < 4294967296) → (b ≡ getD n i 0) × (b < 4294967296) → length B < a + b → inside (names B s n) i ≡ false
+  one-out : (i a b : ℕ) → (a ≡ getD s i 0) × (a < 4294967296) → (b ≡ getD n i 0) × (b < 4294967296) → length B < a + b → inside (namesIn B s n) i ≡ false
   unfolding inside
   one-out i a b ea eb h = let k : length B < getD s i 0 + getD n i 0 = omega arith in lt-leb (getD s i 0 + getD n i 0) (length B) k
 
-  pub not-inside : (i a b : ℕ) → i < length s → (a ≡ getD s i 0) × (a < 4294967296) → (b ≡ getD n i 0) × (b < 4294967296) → length B < a + b → false ≡ every (inside (names B s n)) (length s)
-  not-inside i a b f ea eb h = sym (every-fails (inside (names B s n)) i (length s) (one-out i a b ea eb h) f)
+  pub not-inside : (i a b : ℕ) → i < length s → (a ≡ getD s i 0) × (a < 4294967296) → (b ≡ getD n i 0) × (b < 4294967296) → length B < a + b → false ≡ every (inside (namesIn B s n)) (length s)
+  not-inside i a b f ea eb h = sym (every-fails (inside (namesIn B s n)) i (length s) (one-out i a b ea eb h) f)
 
-  pub one-more : (i a b : ℕ) → every (inside (names B s n)) i ≡ true → (a ≡ getD s i 0) × (a < 4294967296) → (b ≡ getD n i 0) × (b < 4294967296) → a + b ≤ length B → every (inside (names B s n)) (i + 1) ≡ true
+  pub one-more : (i a b : ℕ) → every (inside (namesIn B s n)) i ≡ true → (a ≡ getD s i 0) × (a < 4294967296) → (b ≡ getD n i 0) × (b < 4294967296) → a + b ≤ length B → every (inside (namesIn B s n)) (i + 1) ≡ true
   unfolding inside
   one-more i a b p ea eb h =
       let k : getD s i 0 + getD n i 0 ≤ length B = omega arith in
-      every-more (inside (names B s n)) i p (le-leb (getD s i 0 + getD n i 0) (length B) k)
+      every-more (inside (namesIn B s n)) i p (le-leb (getD s i 0 + getD n i 0) (length B) k)
 
-  pub all-inside : (i : ℕ) → i ≤ length s → length s ≤ i → every (inside (names B s n)) i ≡ true → true ≡ every (inside (names B s n)) (length s)
-  all-inside i h k e = sym e ∙ ap (every (inside (names B s n))) {x = i} {y = length s} (omega arith)
+  pub all-inside : (i : ℕ) → i ≤ length s → length s ≤ i → every (inside (namesIn B s n)) i ≡ true → true ≡ every (inside (namesIn B s n)) (length s)
+  all-inside i h k e = sym e ∙ ap (every (inside (namesIn B s n))) {x = i} {y = length s} (omega arith)
 
 -- what the test of each name says of one
 pub each-inside : (N : Names) (m : ℕ) → every (inside N) m ≡ true → (j : ℕ) → j < m → getD (N .start) j 0 + getD (N .len) j 0 ≤ length (N .bytes)

@@ -8,7 +8,7 @@ use mathlib.Core.List.{List}
 use lib.ListN.{length, getD, take}
 use lib.Dec.{leb, eqb}
 use Rattle.avl_model.specs.Lists.{Lists, lists}
-use Rattle.avl_model.specs.Names.{Names, names, byName, isLess}
+use Rattle.avl_model.specs.Names.{Names, namesIn, byName, isLess}
 use Rattle.avl_model.specs.Tree.{Tree, leaf, node, none, top, ht}
 use Rattle.avl_model.specs.Laws.{size}
 use Rattle.avl_model.specs.Seek.{treeAt}
@@ -19,7 +19,7 @@ partOf n S = lists (S .root) (take n (S .L)) (take n (S .R)) (take n (S .P)) (ta
 
 -- the first n names
 abbrev pub partNames : ℕ → Names → Names
-partNames n N = names (N .bytes) (take n (N .start)) (take n (N .len))
+partNames n N = namesIn (N .bytes) (take n (N .start)) (take n (N .len))
 
 -- each column has n places
 unfoldable pub places : Lists → List ℕ → List ℕ → ℕ → Bool

@@ -6,7 +6,7 @@ ghost use lib.ListN.{length};
 ghost use lib.Dec.{leb};
 ghost use Rattle.units.specs.Lent.{was};
 ghost use Rattle.avl_model.specs.Lists.{lists};
-ghost use Rattle.avl_model.specs.Names.{names, nameAt, byName, isLess};
+ghost use Rattle.avl_model.specs.Names.{namesIn, nameAt, byName, isLess};
 ghost use Rattle.avl_model.specs.Seek.{treeAt};
 ghost use Rattle.avl_arena.specs.Test.{places, every, inside, between, cellOk, okTree, wholeTree, holdsTree};
 ghost use Rattle.avl_arena.specs.inner.Seeing.{Named, Lent, Judged};
@@ -53,23 +53,23 @@ fn choose_taller(x: u8, y: u8) -> u8
 }
 
 // The name of the node i.
-fn read_name<'a>(bytes: &'a [u8], start: &[u32], len: &[u32], i: usize) -> &'a [u8]
-    requires { ⌜ Named (names (now bytes) (now start) (now len)) × (i < length (now start)) ⌝ }
-    ensures { λ r. ⌜ now r ≡ nameAt (names (was bytes) (was start) (was len)) i ⌝ }
+fn read_name<'a>(names: &'a [u8], start: &[u32], len: &[u32], i: usize) -> &'a [u8]
+    requires { ⌜ Named (namesIn (now names) (now start) (now len)) × (i < length (now start)) ⌝ }
+    ensures { λ r. ⌜ now r ≡ nameAt (namesIn (was names) (was start) (was len)) i ⌝ }
 {
     let s = widen_place(start[i]);
     let e = s + widen_place(len[i]);
-    &bytes[s..e]
+    &names[s..e]
 }
 
 // The name of i is less than that of j.
-fn is_less(bytes: &[u8], start: &[u32], len: &[u32], i: usize, j: usize) -> bool
-    requires { ⌜ Named (names (now bytes) (now start) (now len)) × (i < length (now start))
+fn is_less(names: &[u8], start: &[u32], len: &[u32], i: usize, j: usize) -> bool
+    requires { ⌜ Named (namesIn (now names) (now start) (now len)) × (i < length (now start))
         × (j < length (now start)) ⌝ }
-    ensures { λ r. ⌜ r ≡ isLess (byName (names (was bytes) (was start) (was len)) i j) ⌝ }
+    ensures { λ r. ⌜ r ≡ isLess (byName (namesIn (was names) (was start) (was len)) i j) ⌝ }
 {
-    let a = read_name(bytes, start, len, i);
-    let b = read_name(bytes, start, len, j);
+    let a = read_name(names, start, len, i);
+    let b = read_name(names, start, len, j);
     match compare(a, b) {
         Order::Less => true,
         Order::Equal => false,
@@ -78,38 +78,38 @@ fn is_less(bytes: &[u8], start: &[u32], len: &[u32], i: usize, j: usize) -> bool
 }
 
 // i comes after lo by name, if that is a node.
-fn is_after(bytes: &[u8], start: &[u32], len: &[u32], lo: u16, i: usize) -> bool
-    requires { ⌜ Named (names (now bytes) (now start) (now len)) × (i < length (now start)) ⌝ }
+fn is_after(names: &[u8], start: &[u32], len: &[u32], lo: u16, i: usize) -> bool
+    requires { ⌜ Named (namesIn (now names) (now start) (now len)) × (i < length (now start)) ⌝ }
     ensures { λ r. ⌜ r ≡ (leb (length (was start)) lo || isLess
-        (byName (names (was bytes) (was start) (was len)) lo i)) ⌝ }
+        (byName (namesIn (was names) (was start) (was len)) lo i)) ⌝ }
 {
     let k = widen(lo);
     if start.len() <= k {
         return true;
     }
-    is_less(bytes, start, len, k, i)
+    is_less(names, start, len, k, i)
 }
 
 // i comes before hi by name, if that is a node.
-fn is_before(bytes: &[u8], start: &[u32], len: &[u32], hi: u16, i: usize) -> bool
-    requires { ⌜ Named (names (now bytes) (now start) (now len)) × (i < length (now start)) ⌝ }
+fn is_before(names: &[u8], start: &[u32], len: &[u32], hi: u16, i: usize) -> bool
+    requires { ⌜ Named (namesIn (now names) (now start) (now len)) × (i < length (now start)) ⌝ }
     ensures { λ r. ⌜ r ≡ (leb (length (was start)) hi || isLess
-        (byName (names (was bytes) (was start) (was len)) i hi)) ⌝ }
+        (byName (namesIn (was names) (was start) (was len)) i hi)) ⌝ }
 {
     let k = widen(hi);
     if start.len() <= k {
         return true;
     }
-    is_less(bytes, start, len, i, k)
+    is_less(names, start, len, i, k)
 }
 
 // i comes after lo and before hi by name.
-fn is_between(bytes: &[u8], start: &[u32], len: &[u32], lo: u16, hi: u16, i: usize) -> bool
-    requires { ⌜ Named (names (now bytes) (now start) (now len)) × (i < length (now start)) ⌝ }
-    ensures { λ r. ⌜ r ≡ between (names (was bytes) (was start) (was len)) (length (was start)) lo hi i ⌝ }
+fn is_between(names: &[u8], start: &[u32], len: &[u32], lo: u16, hi: u16, i: usize) -> bool
+    requires { ⌜ Named (namesIn (now names) (now start) (now len)) × (i < length (now start)) ⌝ }
+    ensures { λ r. ⌜ r ≡ between (namesIn (was names) (was start) (was len)) (length (was start)) lo hi i ⌝ }
 {
-    if is_after(bytes, start, len, lo, i) {
-        return is_before(bytes, start, len, hi, i);
+    if is_after(names, start, len, lo, i) {
+        return is_before(names, start, len, hi, i);
     }
     false
 }
@@ -183,7 +183,7 @@ fn look(
     right: &[u16],
     parent: &[u16],
     height: &[u8],
-    bytes: &[u8],
+    names: &[u8],
     start: &[u32],
     len: &[u32],
     g: Gap,
@@ -191,9 +191,9 @@ fn look(
     d: usize,
 ) -> Seen
     requires { ⌜ Lent (lists 0 (now left) (now right) (now parent) (now height))
-        (names (now bytes) (now start) (now len)) (length (now left)) × (d ≤ 22) ⌝ }
+        (namesIn (now names) (now start) (now len)) (length (now left)) × (d ≤ 22) ⌝ }
     ensures { λ s. ⌜ Judged s (okTree (lists 0 (was left) (was right) (was parent) (was height))
-        (names (was bytes) (was start) (was len)) (length (was left)) (g .lo) (g .hi) (g .up)
+        (namesIn (was names) (was start) (was len)) (length (was left)) (g .lo) (g .hi) (g .up)
         (treeAt d (was left) (was right) at)) (treeAt d (was left) (was right) at) ⌝ }
 {
     if d == 0 {
@@ -203,7 +203,7 @@ fn look(
     if left.len() <= k {
         return see_none(true);
     }
-    if !is_between(bytes, start, len, g.lo, g.hi, k) {
+    if !is_between(names, start, len, g.lo, g.hi, k) {
         return see_none(false);
     }
     let a = left[k];
@@ -212,7 +212,7 @@ fn look(
         hi: at,
         up: at,
     };
-    let l = look(left, right, parent, height, bytes, start, len, h, a, d - 1);
+    let l = look(left, right, parent, height, names, start, len, h, a, d - 1);
     if !l.ok {
         return l;
     }
@@ -222,7 +222,7 @@ fn look(
         hi: g.hi,
         up: at,
     };
-    let r = look(left, right, parent, height, bytes, start, len, j, b, d - 1);
+    let r = look(left, right, parent, height, names, start, len, j, b, d - 1);
     if !r.ok {
         return r;
     }
@@ -236,22 +236,22 @@ fn is_whole(
     right: &[u16],
     parent: &[u16],
     height: &[u8],
-    bytes: &[u8],
+    names: &[u8],
     start: &[u32],
     len: &[u32],
     root: u16,
 ) -> bool
     requires { ⌜ Lent (lists 0 (now left) (now right) (now parent) (now height))
-        (names (now bytes) (now start) (now len)) (length (now left)) ⌝ }
+        (namesIn (now names) (now start) (now len)) (length (now left)) ⌝ }
     ensures { λ r. ⌜ r ≡ wholeTree (lists root (was left) (was right) (was parent) (was height))
-        (names (was bytes) (was start) (was len)) (length (was left)) ⌝ }
+        (namesIn (was names) (was start) (was len)) (length (was left)) ⌝ }
 {
     let g = Gap {
         lo: NONE,
         hi: NONE,
         up: NONE,
     };
-    let s = look(left, right, parent, height, bytes, start, len, g, root, 22);
+    let s = look(left, right, parent, height, names, start, len, g, root, 22);
     if s.ok {
         if s.top == root {
             return s.size == left.len();
@@ -261,13 +261,13 @@ fn is_whole(
 }
 
 // The name of each node lies inside the lent bytes.
-fn are_inside(bytes: &[u8], start: &[u32], len: &[u32]) -> bool
+fn are_inside(names: &[u8], start: &[u32], len: &[u32]) -> bool
     requires { ⌜ length (now len) ≡ length (now start) ⌝ }
-    ensures { λ r. ⌜ r ≡ every (inside (names (was bytes) (was start) (was len))) (length (was start)) ⌝ }
+    ensures { λ r. ⌜ r ≡ every (inside (namesIn (was names) (was start) (was len))) (length (was start)) ⌝ }
 {
     let mut i = 0;
     while i < start.len() {
-        if bytes.len() < widen_place(start[i]) + widen_place(len[i]) {
+        if names.len() < widen_place(start[i]) + widen_place(len[i]) {
             return false;
         }
         i += 1;
@@ -306,32 +306,32 @@ fn have_places(
 }
 
 // The first `count` places of the columns hold one ordered, balanced tree of as many nodes, with true parents and
-// heights and each name inside `bytes`.
+// heights and each name inside `names`.
 pub fn is_tree(
     left: &[u16],
     right: &[u16],
     parent: &[u16],
     height: &[u8],
-    bytes: &[u8],
+    names: &[u8],
     start: &[u32],
     len: &[u32],
     root: u16,
     count: u16,
 ) -> bool
     ensures { λ r. ⌜ r ≡ holdsTree (lists root (was left) (was right) (was parent) (was height))
-        (names (was bytes) (was start) (was len)) count ⌝ }
+        (namesIn (was names) (was start) (was len)) count ⌝ }
 {
     let n = widen(count);
     if have_places(left, right, parent, height, start, len, n) {
         let s = &start[..n];
         let e = &len[..n];
-        if are_inside(bytes, s, e) {
+        if are_inside(names, s, e) {
             return is_whole(
                 &left[..n],
                 &right[..n],
                 &parent[..n],
                 &height[..n],
-                bytes,
+                names,
                 s,
                 e,
                 root,

@@ -1,4 +1,4 @@
-// Insertion by name into the balanced tree that lent columns hold. The name of node i is the part of `bytes` that
+// Insertion by name into the balanced tree that lent columns hold. The name of node i is the part of `names` that
 // starts at start[i] and has len[i] bytes; nothing is asked of what the columns hold for numbers that are not in
 // the tree.
 ghost use mathlib.Core.Path.{_≡_};
@@ -12,12 +12,11 @@ ghost use Rattle.avl_model.specs.inner.Rep.{climb};
 ghost use Rattle.avl_model.specs.Lists.{lists};
 ghost use Rattle.avl_model.specs.inner.Lists.{lentLists, aboveOf, attached};
 ghost use Rattle.avl_model.specs.inner.Held.{Ready, Whole};
-ghost use Rattle.avl_model.specs.Names.{names, nameAt, toName, isLess};
+ghost use Rattle.avl_model.specs.Names.{namesIn, nameAt, toName, isLess};
 ghost use Rattle.avl_model.specs.inner.Names.{Inside};
 ghost use Rattle.avl_model.specs.Seek.{spotIn};
 ghost use Rattle.avl_model.specs.inner.Seek.{Sought};
-ghost use Rattle.avl_model.specs.inner.Insert.{Filled, Out, Placed};
-use avl_model::Inserted;
+ghost use Rattle.avl_model.specs.inner.Insert.{Placed};
 use avl_model::Place;
 use avl_model::Spot;
 use avl_turn::index;
@@ -37,36 +36,36 @@ fn wide(x: u32) -> usize
 }
 
 // The name of a node.
-pub fn name_of<'a>(bytes: &'a [u8], start: &[u32], len: &[u32], at: u16) -> &'a [u8]
-    requires { ⌜ Inside (names (now bytes) (now start) (now len)) at ⌝ }
-    ensures { λ r. ⌜ now r ≡ nameAt (names (was bytes) (was start) (was len)) at ⌝ }
+pub fn name_of<'a>(names: &'a [u8], start: &[u32], len: &[u32], at: u16) -> &'a [u8]
+    requires { ⌜ Inside (namesIn (now names) (now start) (now len)) at ⌝ }
+    ensures { λ r. ⌜ now r ≡ nameAt (namesIn (was names) (was start) (was len)) at ⌝ }
 {
     let i = index(at);
     let from = wide(start[i]);
     let to = from + wide(len[i]);
-    &bytes[from..to]
+    &names[from..to]
 }
 
 // Where a name, of which `copy` is the raised copy, stands or would hang.
 fn descend(
     left: &[u16],
     right: &[u16],
-    bytes: &[u8],
+    names: &[u8],
     start: &[u32],
     len: &[u32],
     root: u16,
     copy: &[u8; 255],
     name: &[u8],
 ) -> Spot
-    requires { ⌜ Sought (now left) (now right) root (names (now bytes) (now start) (now len)) ⌝ }
+    requires { ⌜ Sought (now left) (now right) root (namesIn (now names) (now start) (now len)) ⌝ }
     requires { ⌜ (length (now name) ≤ 255) × (now copy ≡ raisedCopy (now name)) ⌝ }
-    ensures { λ s. ⌜ ((w : Sought (was left) (was right) root (names (was bytes) (was start) (was len))) →
-        s ≡ spotIn (toName (names (was bytes) (was start) (was len)) (was name)) (w .linked .t) Root) ⌝ }
+    ensures { λ s. ⌜ ((w : Sought (was left) (was right) root (namesIn (was names) (was start) (was len))) →
+        s ≡ spotIn (toName (namesIn (was names) (was start) (was len)) (was name)) (w .linked .t) Root) ⌝ }
 {
     let mut at = root;
     let mut place = Place::Root;
     while at < NONE {
-        let other = name_of(bytes, start, len, at);
+        let other = name_of(names, start, len, at);
         let i = index(at);
         match compare_raised(copy, name, other) {
             Order::Equal => return Spot::Same(at),
@@ -87,19 +86,19 @@ fn descend(
 pub fn find_spot(
     left: &[u16],
     right: &[u16],
-    bytes: &[u8],
+    names: &[u8],
     start: &[u32],
     len: &[u32],
     root: u16,
     name: &[u8],
 ) -> Spot
-    requires { ⌜ Sought (now left) (now right) root (names (now bytes) (now start) (now len)) ⌝ }
+    requires { ⌜ Sought (now left) (now right) root (namesIn (now names) (now start) (now len)) ⌝ }
     requires { ⌜ length (now name) ≤ 255 ⌝ }
-    ensures { λ s. ⌜ ((w : Sought (was left) (was right) root (names (was bytes) (was start) (was len))) →
-        s ≡ spotIn (toName (names (was bytes) (was start) (was len)) (was name)) (w .linked .t) Root) ⌝ }
+    ensures { λ s. ⌜ ((w : Sought (was left) (was right) root (namesIn (was names) (was start) (was len))) →
+        s ≡ spotIn (toName (namesIn (was names) (was start) (was len)) (was name)) (w .linked .t) Root) ⌝ }
 {
     let copy = raise_name(name);
-    descend(left, right, bytes, start, len, root, &copy, name)
+    descend(left, right, names, start, len, root, &copy, name)
 }
 
 // The parent at a place.
@@ -205,36 +204,4 @@ pub fn put_in(
 {
     attach(root, left, right, parent, height, place, new);
     rise(root, left, right, parent, height, new);
-}
-
-// Puts the node `new`, which has this name, into the tree; or says which node has the name already, and leaves all
-// as it is.
-pub fn insert(
-    root: &mut u16,
-    left: &mut [u16],
-    right: &mut [u16],
-    parent: &mut [u16],
-    height: &mut [u8],
-    bytes: &[u8],
-    start: &[u32],
-    len: &[u32],
-    name: &[u8],
-    new: u16,
-) -> Inserted
-    requires { ⌜ Filled (lists (now root) (now left) (now right) (now parent) (now height))
-        (names (now bytes) (now start) (now len)) new ⌝ }
-    requires { ⌜ length (now name) ≤ 255 ⌝ }
-    ensures { λ r.
-        let s = lentLists root left right parent height in
-        let n = names (was bytes) (was start) (was len) in
-        ⌜ ((w : Filled (s .entry) n new) → Out (s .entry) (s .exit) (toName n (was name)) new (w .arena .t) r) ⌝ }
-{
-    let spot = find_spot(left, right, bytes, start, len, *root, name);
-    match spot {
-        Spot::Same(i) => Inserted::Duplicate(i),
-        Spot::Free(place) => {
-            put_in(root, left, right, parent, height, place, new);
-            Inserted::Done
-        }
-    }
 }

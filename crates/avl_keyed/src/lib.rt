@@ -7,7 +7,7 @@ ghost use Rattle.units.specs.Lent.{was};
 ghost use Rattle.layout_name.specs.inner.Order.{raisedCopy};
 ghost use Rattle.avl_model.specs.declared.Place.the-variants.{Root};
 ghost use Rattle.avl_model.specs.declared.Spot.the-variants.{Free};
-ghost use Rattle.avl_model.specs.Names.{names, toName};
+ghost use Rattle.avl_model.specs.Names.{namesIn, toName};
 ghost use Rattle.avl_model.specs.Seek.{spotIn};
 ghost use Rattle.avl_keyed.specs.inner.Key.{keyFor, KeySought, placeFrom};
 use avl_insert::NONE;
@@ -93,17 +93,17 @@ pub fn seek(
     left: &[u16],
     right: &[u16],
     key: &[u32],
-    bytes: &[u8],
+    names: &[u8],
     start: &[u32],
     len: &[u32],
     root: u16,
     name: &[u8],
     k: u32,
 ) -> Spot
-    requires { ⌜ KeySought (now left) (now right) (now key) root (names (now bytes) (now start) (now len)) ⌝ }
+    requires { ⌜ KeySought (now left) (now right) (now key) root (namesIn (now names) (now start) (now len)) ⌝ }
     requires { ⌜ k ≡ keyFor (now name) ⌝ }
-    ensures { λ s. ⌜ ((w : KeySought (was left) (was right) (was key) root (names (was bytes) (was start) (was len))) →
-        s ≡ spotIn (toName (names (was bytes) (was start) (was len)) (was name)) (w .linked .t) Root) ⌝ }
+    ensures { λ s. ⌜ ((w : KeySought (was left) (was right) (was key) root (namesIn (was names) (was start) (was len))) →
+        s ≡ spotIn (toName (namesIn (was names) (was start) (was len)) (was name)) (w .linked .t) Root) ⌝ }
 {
     let mut at = root;
     let mut above = NONE;
@@ -115,7 +115,7 @@ pub fn seek(
         let r = right[i];
         above = at;
         if k == q {
-            let other = name_of(bytes, start, len, at);
+            let other = name_of(names, start, len, at);
             match compare(name, other) {
                 Order::Equal => return Spot::Same(at),
                 Order::Less => {

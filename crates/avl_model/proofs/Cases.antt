@@ -6,20 +6,20 @@ use Rattle.avl_model.specs.declared.Place.the-variants.{Root}
 use Rattle.avl_model.specs.declared.Spot.the-variants.{Same}
 use Rattle.avl_model.specs.Tree.{bal}
 use Rattle.avl_model.specs.Order.{order}
-use Rattle.avl_model.specs.Names.{Names, names, nameAt, toName}
+use Rattle.avl_model.specs.Names.{Names, namesIn, nameAt, toName}
 use Rattle.avl_model.specs.inner.Names.{grown}
 use Rattle.avl_model.specs.Seek.{spotIn}
 
 -- `a` is 97, `b` 98, `c` 99
 abbrev abc : Names
-abc = names (97 ∷ 98 ∷ 99 ∷ []) (0 ∷ 1 ∷ 2 ∷ []) (1 ∷ 1 ∷ 1 ∷ [])
+abc = namesIn (97 ∷ 98 ∷ 99 ∷ []) (0 ∷ 1 ∷ 2 ∷ []) (1 ∷ 1 ∷ 1 ∷ [])
 
 abbrev cab : Names
-cab = names (99 ∷ 97 ∷ 98 ∷ []) (0 ∷ 1 ∷ 2 ∷ []) (1 ∷ 1 ∷ 1 ∷ [])
+cab = namesIn (99 ∷ 97 ∷ 98 ∷ []) (0 ∷ 1 ∷ 2 ∷ []) (1 ∷ 1 ∷ 1 ∷ [])
 
 -- `abb`
 abbrev abb : Names
-abb = names (97 ∷ 98 ∷ 98 ∷ []) (0 ∷ []) (3 ∷ [])
+abb = namesIn (97 ∷ 98 ∷ 98 ∷ []) (0 ∷ []) (3 ∷ [])
 
 -- `a`, `b`, `c`, put in in that order, have the preorder b, a, c
 pub a-b-c : map (nameAt abc) (order (grown abc 3)) ≡ (98 ∷ []) ∷ (97 ∷ []) ∷ (99 ∷ []) ∷ []

@@ -14,8 +14,8 @@ pub record Names : Type 0 where
   pub len : List ℕ
 
 -- bytes, starts and lengths
-abbrev pub names : List ℕ → List ℕ → List ℕ → Names
-names b s n = record { bytes = b; start = s; len = n }
+abbrev pub namesIn : List ℕ → List ℕ → List ℕ → Names
+namesIn b s n = record { bytes = b; start = s; len = n }
 
 -- the name of a node
 abbrev pub nameAt : Names → ℕ → List ℕ

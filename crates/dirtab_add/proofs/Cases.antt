@@ -1,4 +1,4 @@
--- Document 01's cases that speak of adding: `abb` then `ABB`, and a duplicate into a full arena; and an arena of one place, by computing.
+-- The scope's cases that speak of adding: `abb` then `ABB`, and a duplicate into a full arena; and an arena of one place, by computing.
 use Prim.Native.Nat.{ℕ, _+_, _<_}
 use native.Mathlib.Omega.{arith}
 use mathlib.Core.Path.{_≡_, refl, sym, ap, _∙_}

@@ -7,7 +7,7 @@ ghost use Rattle.units.specs.Lent.{was, is};
 ghost use Rattle.dirtab_entry.specs.Entry.{isDirectory, storedSize, nameIn};
 ghost use Rattle.avl_model.specs.declared.Place.the-variants.{Root};
 ghost use Rattle.avl_model.specs.Lists.{lists};
-ghost use Rattle.avl_model.specs.Names.{names, toName, isLess};
+ghost use Rattle.avl_model.specs.Names.{namesIn, toName, isLess};
 ghost use Rattle.avl_model.specs.Seek.{spotIn};
 ghost use Rattle.avl_model.specs.inner.Seek.{Sought};
 ghost use Rattle.avl_model.specs.Tree.{ins};
@@ -114,16 +114,16 @@ fn find_place(
     right: &[u16],
     start: &[u32],
     len: &[u32],
-    bytes: &[u8],
+    names: &[u8],
     entry: Entry,
 ) -> Spot
     requires { ⌜ (tree .count ≤ length (now left)) × (tree .count ≤ length (now right))
-        × (entry .start + entry .len ≤ length (now bytes)) × (entry .len ≤ 255) ⌝ }
+        × (entry .start + entry .len ≤ length (now names)) × (entry .len ≤ 255) ⌝ }
     requires { ⌜ Sought (take (tree .count) (now left)) (take (tree .count) (now right)) (tree .root)
-        (names (now bytes) (now start) (now len)) ⌝ }
-    ensures { λ s. let n = names (was bytes) (was start) (was len) in
+        (namesIn (now names) (now start) (now len)) ⌝ }
+    ensures { λ s. let n = namesIn (was names) (was start) (was len) in
         ⌜ ((w : Sought (take (tree .count) (was left)) (take (tree .count) (was right)) (tree .root) n) →
-        s ≡ spotIn (toName n (nameIn (was bytes) entry)) (w .linked .t) Root) ⌝ }
+        s ≡ spotIn (toName n (nameIn (was names) entry)) (w .linked .t) Root) ⌝ }
 {
     let n = widen(tree.count);
     let from = widen_place(entry.start);
@@ -131,11 +131,11 @@ fn find_place(
     find_spot(
         &left[..n],
         &right[..n],
-        bytes,
+        names,
         start,
         len,
         tree.root,
-        &bytes[from..to],
+        &names[from..to],
     )
 }
 

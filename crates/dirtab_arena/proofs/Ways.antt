@@ -12,7 +12,7 @@ use Rattle.dirtab_entry.specs.declared.Entry as given
 use Rattle.dirtab_entry.specs.declared.Kind.{Kind}
 use Rattle.dirtab_entry.specs.Entry.{kindFor, checkOf, told}
 use Rattle.avl_model.specs.Lists.{lists}
-use Rattle.avl_model.specs.Names.{names}
+use Rattle.avl_model.specs.Names.{namesIn}
 use Rattle.avl_arena.specs.Test.{every, holdsTree}
 use Rattle.avl_arena.specs.HeldTree.{Places}
 use Rattle.avl_arena.proofs.Sound.{sound}
@@ -71,7 +71,7 @@ module _ (root count : ℕ) (L R P H s l z k B : List ℕ) (n : ℕ) (en : (n �
     unfolding isArena
     short-kind h = and-second refl size-is (and-first _ refl (lt-leb count (length k) (omega arith)))
 
-    module _ (hk : n ≤ length k) {b : Bool} (eb : b ≡ holdsTree (lists root L R P H) (names B s l) count) where
+    module _ (hk : n ≤ length k) {b : Bool} (eb : b ≡ holdsTree (lists root L R P H) (namesIn B s l) count) where
       kind-is : leb count (length k) ≡ true
       kind-is = le-leb count (length k) (omega arith)
 
@@ -80,8 +80,8 @@ module _ (root count : ℕ) (L R P H s l z k B : List ℕ) (n : ℕ) (en : (n �
       no-tree e = and-second refl size-is (and-second refl kind-is (and-first _ eb e))
 
       module _ (yes : b ≡ true) where
-        pub have : Places (lists root L R P H) (names B s l) count
-        have = sound (lists root L R P H) (names B s l) count (sym eb ∙ yes) .places
+        pub have : Places (lists root L R P H) (namesIn B s l) count
+        have = sound (lists root L R P H) (namesIn B s l) count (sym eb ∙ yes) .places
 
         pub lengths : (n ≤ length s) × (n ≤ length l) × (n ≤ length z) × (n ≤ length k)
         lengths = (omega (arith, have .start), omega (arith, have .len), hz, hk)

@@ -10,7 +10,7 @@ use Rattle.units.specs.Lent.{Slice, was, is}
 use Rattle.dirtab_entry.specs.declared.Entry as given
 use Rattle.dirtab_entry.specs.Entry.{kindFor, storedSize, checkOf}
 use Rattle.avl_model.specs.Lists.{Lists, lists}
-use Rattle.avl_model.specs.Names.{Names, names, nameAt}
+use Rattle.avl_model.specs.Names.{Names, namesIn, nameAt}
 use Rattle.avl_model.specs.Tree.{Tree}
 use Rattle.avl_arena.specs.Test.{every, holdsTree, decoded}
 use Rattle.table_model.specs.Entry.{Entry}
@@ -56,7 +56,7 @@ abbrev pub listsOf : Arena → Lists
 listsOf A = lists (A .root) (A .columns .left) (A .columns .right) (A .columns .parent) (A .columns .height)
 
 abbrev pub namesOf : Arena → Names
-namesOf A = names (A .bytes) (A .columns .start) (A .columns .len)
+namesOf A = namesIn (A .bytes) (A .columns .start) (A .columns .len)
 
 -- entry i as its columns give it, and as a table has it (a directory's size rounded)
 abbrev pub givenAt : Arena → ℕ → given.Entry

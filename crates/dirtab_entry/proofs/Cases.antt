@@ -1,4 +1,4 @@
--- Document 01's cases that speak of one entry as it is given. Assumes nothing.
+-- The scope's cases that speak of one entry as it is given. Assumes nothing.
 use Prim.Native.Nat.{ℕ, _+_, _≤_, _<_}
 use mathlib.Core.Path.{_≡_, refl, sym, ap, _∙_}
 use mathlib.Core.Bool.{false}

@@ -1,4 +1,4 @@
--- Laws of an entry as it is given: its answers are told one-to-one, document 01's cases, and what the proofs of the code are made of.
+-- Laws of an entry as it is given: its answers are told one-to-one, the scope's cases, and what the proofs of the code are made of.
 pub mod Told
 pub mod Cases
 pub mod Bad

@@ -13,7 +13,7 @@ use Rattle.avl_model.specs.declared.Spot.{Spot}
 use Rattle.avl_model.specs.declared.Spot.the-variants.{Free}
 use Rattle.avl_model.specs.Tree.{Tree, none, ins}
 use Rattle.avl_model.specs.Lists.{Lists, lists}
-use Rattle.avl_model.specs.Names.{Names, names, byName, isLess}
+use Rattle.avl_model.specs.Names.{Names, namesIn, byName, isLess}
 use Rattle.avl_model.specs.Rep.{arrOf}
 use Rattle.avl_model.specs.inner.Held.{Long}
 use Rattle.avl_model.specs.Seek.{spotIn, treeAt}
@@ -43,7 +43,7 @@ frame-grown S T N n t e f g = record {
 }
 
 abbrev namesIn : Listing → Names
-namesIn L = names (L .bytes) (L .start) (L .len)
+namesIn L = namesIn (L .bytes) (L .start) (L .len)
 
 module _ (S : Lists) (K : List ℕ) (L : Listing) (i end : ℕ) (end-is : end ≡ i + 1) (wide : Wide S K i) where
   abbrev N : Names

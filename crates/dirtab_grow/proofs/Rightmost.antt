@@ -18,7 +18,7 @@ use Rattle.avl_model.specs.declared.Spot.{Spot}
 use Rattle.avl_model.specs.declared.Spot.the-variants.{Same, Free}
 use Rattle.avl_model.specs.Tree.{Tree, leaf, node, none, ht, turnLeft, turnLeftBy, turnRight, turnRightBy, bal, balBy, ins, insBy}
 use Rattle.avl_model.specs.Laws.{All, Ordered}
-use Rattle.avl_model.specs.Names.{Names, names, nameAt, toName, byName, isLess}
+use Rattle.avl_model.specs.Names.{Names, namesIn, nameAt, toName, byName, isLess}
 use Rattle.avl_model.specs.inner.Names.{Before, Inside}
 use Rattle.avl_model.specs.Rep.{Arr, Rep}
 use Rattle.avl_model.specs.Seek.{spotIn, spotBy, treeAt}
@@ -135,7 +135,7 @@ module _ (N : Names) (t : Tree) (i : ℕ) (low : i ≤ 16384) (m : Rightmost N t
 
 -- a name's place, tested
 pub inside-by : (b s l : List ℕ) (at i f n : ℕ) → (i ≡ at) × (i < 65536) → (f ≡ getD s i 0) × (f < 4294967296) → (n ≡ getD l i 0) × (n < 4294967296)
-    → at < length s → at < length l → leb (f + n) (length b) ≡ true → Inside (names b s l) at
+    → at < length s → at < length l → leb (f + n) (length b) ≡ true → Inside (namesIn b s l) at
 inside-by b s l at i f n is ef en h k e =
     let es : getD s i 0 ≡ getD s at 0 = ap (λ (v : ℕ). getD s v 0) (is .0) in
     let el : getD l i 0 ≡ getD l at 0 = ap (λ (v : ℕ). getD l v 0) (is .0) in

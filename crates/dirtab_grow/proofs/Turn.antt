@@ -14,7 +14,7 @@ use Rattle.avl_model.specs.declared.Place.the-variants.{Root}
 use Rattle.avl_model.specs.Tree.{Tree, leaf, none, ins}
 use Rattle.avl_model.specs.Lists.{Lists, lists}
 use Rattle.avl_model.specs.Rep.{arrOf}
-use Rattle.avl_model.specs.Names.{Names, names, byName, toName, isLess}
+use Rattle.avl_model.specs.Names.{Names, namesIn, byName, toName, isLess}
 use Rattle.avl_model.specs.Seek.{spotIn}
 use Rattle.avl_model.specs.Laws.{All}
 use Rattle.avl_keyed.specs.inner.Key.{Keyed}
@@ -28,7 +28,7 @@ use Rattle.dirtab_grow.proofs.Rightmost.{Rightmost, first-in, goes-righ
 
 module _ (L : Listing) where
   abbrev pub named : Names
-  named = names (L .bytes) (L .start) (L .len)
+  named = namesIn (L .bytes) (L .start) (L .len)
 
   abbrev check : ℕ → Told (Unit {0})
   check i = checkOf (L .bytes) (givenIn L i)

@@ -14,7 +14,7 @@ ghost use Rattle.avl_model.specs.declared.Spot.the-variants.{Free};
 ghost use Rattle.avl_model.specs.Tree.{Tree, ins};
 ghost use Rattle.avl_model.specs.Lists.{lists};
 ghost use Rattle.avl_model.specs.inner.Lists.{lentLists};
-ghost use Rattle.avl_model.specs.Names.{names, byName, isLess};
+ghost use Rattle.avl_model.specs.Names.{namesIn, byName, isLess};
 ghost use Rattle.avl_model.specs.inner.Names.{Inside};
 ghost use Rattle.avl_model.specs.Seek.{spotIn, treeAt};
 ghost use Rattle.avl_keyed.specs.inner.Key.{KeySought};
@@ -68,10 +68,10 @@ pub enum Built {
 }
 
 // What adding asks of the entry i by itself.
-fn check_at(bytes: &[u8], start: &[u32], len: &[u32], size: &[u32], kind: &[u8], i: u16) -> Step
-    requires { ⌜ Lent (listing 0 (now start) (now len) (now size) (now kind) (now bytes)) i ⌝ }
-    ensures { λ r. let list = listed 0 start len size kind bytes in
-        ⌜ ((x : Told Tree) → goOn r i x ≡ ifTaken i (checkOf (was bytes) (givenIn list i)) x) ⌝ }
+fn check_at(names: &[u8], start: &[u32], len: &[u32], size: &[u32], kind: &[u8], i: u16) -> Step
+    requires { ⌜ Lent (listing 0 (now start) (now len) (now size) (now kind) (now names)) i ⌝ }
+    ensures { λ r. let list = listed 0 start len size kind names in
+        ⌜ ((x : Told Tree) → goOn r i x ≡ ifTaken i (checkOf (was names) (givenIn list i)) x) ⌝ }
 {
     let at = index(i);
     let entry = Entry {
@@ -80,7 +80,7 @@ fn check_at(bytes: &[u8], start: &[u32], len: &[u32], size: &[u32], kind: &[u8],
         kind: kind_of(kind[at]),
         size: size[at],
     };
-    match check_entry(bytes, entry) {
+    match check_entry(names, entry) {
         EntryChecked::Good => Step::Taken,
         EntryChecked::EmptyName => Step::Refused(Cause::EmptyName),
         EntryChecked::BadByte => Step::Refused(Cause::BadByte),
@@ -94,21 +94,21 @@ fn find_seat(
     left: &[u16],
     right: &[u16],
     key: &[u32],
-    bytes: &[u8],
+    names: &[u8],
     start: &[u32],
     len: &[u32],
     root: u16,
     new: u16,
 ) -> Seat
-    requires { ⌜ KeySought (now left) (now right) (now key) root (names (now bytes) (now start) (now len)) ⌝ }
-    requires { ⌜ Inside (names (now bytes) (now start) (now len)) new × (getD (now len) new 0 ≤ 255) ⌝ }
-    ensures { λ r. let n = names (was bytes) (was start) (was len) in
+    requires { ⌜ KeySought (now left) (now right) (now key) root (namesIn (now names) (now start) (now len)) ⌝ }
+    requires { ⌜ Inside (namesIn (now names) (now start) (now len)) new × (getD (now len) new 0 ≤ 255) ⌝ }
+    ensures { λ r. let n = namesIn (was names) (was start) (was len) in
         ⌜ ((w : KeySought (was left) (was right) (was key) root n) →
         Seated r n (spotIn (byName n new) (w .linked .t) Root) new) ⌝ }
 {
-    let name = name_of(bytes, start, len, new);
+    let name = name_of(names, start, len, new);
     let k = key_of(name);
-    match seek(left, right, key, bytes, start, len, root, name, k) {
+    match seek(left, right, key, names, start, len, root, name, k) {
         Spot::Same(_) => Seat::Refused(Cause::DuplicateFileName),
         Spot::Free(place) => {
             if 16384 <= new {
@@ -120,13 +120,13 @@ fn find_seat(
 }
 
 // Where the entry `new` goes, whose name goes to the right of the entry before it: 6 where 16,384 entries are there.
-fn seat_after(bytes: &[u8], start: &[u32], len: &[u32], new: u16) -> Seat
-    requires { ⌜ Inside (names (now bytes) (now start) (now len)) new × (getD (now len) new 0 ≤ 255) ⌝ }
+fn seat_after(names: &[u8], start: &[u32], len: &[u32], new: u16) -> Seat
+    requires { ⌜ Inside (namesIn (now names) (now start) (now len)) new × (getD (now len) new 0 ≤ 255) ⌝ }
     requires { ⌜ 0 < new ⌝ }
     ensures { λ r. ⌜ ((s : Spot) → s ≡ Free (Right (new - 1)) →
-        Seated r (names (was bytes) (was start) (was len)) s new) ⌝ }
+        Seated r (namesIn (was names) (was start) (was len)) s new) ⌝ }
 {
-    let name = name_of(bytes, start, len, new);
+    let name = name_of(names, start, len, new);
     let k = key_of(name);
     if 16384 <= new {
         return Seat::Refused(Cause::Room);
@@ -139,24 +139,25 @@ fn choose_seat(
     left: &[u16],
     right: &[u16],
     key: &[u32],
-    bytes: &[u8],
+    names: &[u8],
     start: &[u32],
     len: &[u32],
     root: u16,
     new: u16,
     after: bool,
 ) -> Seat
-    requires { ⌜ KeySought (now left) (now right) (now key) root (names (now bytes) (now start) (now len)) ⌝ }
-    requires { ⌜ Inside (names (now bytes) (now start) (now len)) new × (getD (now len) new 0 ≤ 255) ⌝ }
-    requires { ⌜ After after (names (now bytes) (now start) (now len)) (treeAt 100 (now left) (now right) root) new ⌝ }
-    ensures { λ r. let n = names (was bytes) (was start) (was len) in
+    requires { ⌜ KeySought (now left) (now right) (now key) root (namesIn (now names) (now start) (now len)) ⌝ }
+    requires { ⌜ Inside (namesIn (now names) (now start) (now len)) new × (getD (now len) new 0 ≤ 255) ⌝ }
+    requires { ⌜ After after (namesIn (now names) (now start) (now len)) (treeAt 100 (now left) (now right) root)
+        new ⌝ }
+    ensures { λ r. let n = namesIn (was names) (was start) (was len) in
         ⌜ ((w : KeySought (was left) (was right) (was key) root n) →
         Seated r n (spotIn (byName n new) (w .linked .t) Root) new) ⌝ }
 {
     if after {
-        return seat_after(bytes, start, len, new);
+        return seat_after(names, start, len, new);
     }
-    find_seat(left, right, key, bytes, start, len, root, new)
+    find_seat(left, right, key, names, start, len, root, new)
 }
 
 // Puts the entry `new`, the last that the columns have a place for, into the tree.
@@ -167,24 +168,24 @@ pub fn hang_entry(
     parent: &mut [u16],
     height: &mut [u8],
     key: &mut [u32],
-    bytes: &[u8],
+    names: &[u8],
     start: &[u32],
     len: &[u32],
     new: u16,
     after: bool,
 ) -> Step
     requires { ⌜ Hangable (lists (now root) (now left) (now right) (now parent) (now height)) (now key)
-        (names (now bytes) (now start) (now len)) new ⌝ }
-    requires { ⌜ After after (names (now bytes) (now start) (now len)) (treeAt 100 (now left) (now right) (now root))
+        (namesIn (now names) (now start) (now len)) new ⌝ }
+    requires { ⌜ After after (namesIn (now names) (now start) (now len)) (treeAt 100 (now left) (now right) (now root))
         new ⌝ }
     ensures { λ r.
         let s = lentLists root left right parent height in
-        let n = names (was bytes) (was start) (was len) in
+        let n = namesIn (was names) (was start) (was len) in
         ⌜ ((w : Growing (s .entry) (was key) n new) →
         Stepped r (gives tt) (spotIn (byName n new) (w .t) Root) new
         (s .exit) (is key) n (ins (λ i. isLess (byName n new i)) new (w .t))) ⌝ }
 {
-    match choose_seat(left, right, key, bytes, start, len, *root, new, after) {
+    match choose_seat(left, right, key, names, start, len, *root, new, after) {
         Seat::Refused(cause) => Step::Refused(cause),
         Seat::At(place, k) => {
             let i = index(new);
@@ -198,7 +199,7 @@ pub fn hang_entry(
 // The entry i: its own checks, and then its place in the tree of those before it, in the first i + 1 places of the
 // columns.
 fn add_entry(
-    bytes: &[u8],
+    names: &[u8],
     start: &[u32],
     len: &[u32],
     size: &[u32],
@@ -212,20 +213,20 @@ fn add_entry(
     i: u16,
     after: bool,
 ) -> Step
-    requires { ⌜ Lent (listing 0 (now start) (now len) (now size) (now kind) (now bytes)) i ⌝ }
+    requires { ⌜ Lent (listing 0 (now start) (now len) (now size) (now kind) (now names)) i ⌝ }
     requires { ⌜ Wide (lists (now root) (now left) (now right) (now parent) (now height)) (now key) i ⌝ }
     requires { let s = lists (now root) (now left) (now right) (now parent) (now height) in
-        let n = names (now bytes) (now start) (now len) in
+        let n = namesIn (now names) (now start) (now len) in
         ⌜ ((w : Growing s (now key) n i) × After after n (w .t) i) ⌝ }
     ensures { λ r.
         let s = lentLists root left right parent height in
-        let n = names (was bytes) (was start) (was len) in
+        let n = namesIn (was names) (was start) (was len) in
         ⌜ ((w : Growing (s .entry) (was key) n i) →
-        Stepped r (checkOf (was bytes) (givenIn (listed 0 start len size kind bytes) i))
+        Stepped r (checkOf (was names) (givenIn (listed 0 start len size kind names) i))
         (spotIn (byName n i) (w .t) Root) i
         (s .exit) (is key) n (ins (λ j. isLess (byName n i j)) i (w .t))) ⌝ }
 {
-    match check_at(bytes, start, len, size, kind, i) {
+    match check_at(names, start, len, size, kind, i) {
         Step::Refused(cause) => Step::Refused(cause),
         Step::Taken => {
             let end = index(i) + 1;
@@ -236,7 +237,7 @@ fn add_entry(
                 &mut parent[..end],
                 &mut height[..end],
                 key,
-                bytes,
+                names,
                 start,
                 len,
                 i,
@@ -253,26 +254,26 @@ fn wide(x: u32) -> usize
 }
 
 // The name of an entry stands inside the bytes lent for names.
-fn has_name(bytes: &[u8], start: &[u32], len: &[u32], at: u16) -> bool
+fn has_name(names: &[u8], start: &[u32], len: &[u32], at: u16) -> bool
     requires { ⌜ (at < length (now start)) × (at < length (now len)) ⌝ }
-    ensures { λ r. ⌜ (r ≡ true → Inside (names (was bytes) (was start) (was len)) at) ⌝ }
+    ensures { λ r. ⌜ (r ≡ true → Inside (namesIn (was names) (was start) (was len)) at) ⌝ }
 {
     let i = index(at);
     let from = wide(start[i]);
     let n = wide(len[i]);
-    from + n <= bytes.len()
+    from + n <= names.len()
 }
 
 // The name of an entry is greater than that of the entry before it.
-fn comes_after(bytes: &[u8], start: &[u32], len: &[u32], at: u16) -> bool
+fn comes_after(names: &[u8], start: &[u32], len: &[u32], at: u16) -> bool
     requires { ⌜ (at < length (now start)) × (at < length (now len)) × (0 < at) ⌝ }
-    ensures { λ r. ⌜ (r ≡ true → byName (names (was bytes) (was start) (was len)) at (at - 1) ≡ Greater) ⌝ }
+    ensures { λ r. ⌜ (r ≡ true → byName (namesIn (was names) (was start) (was len)) at (at - 1) ≡ Greater) ⌝ }
 {
     let before = at - 1;
-    if has_name(bytes, start, len, at) {
-        if has_name(bytes, start, len, before) {
-            let name = name_of(bytes, start, len, at);
-            let other = name_of(bytes, start, len, before);
+    if has_name(names, start, len, at) {
+        if has_name(names, start, len, before) {
+            let name = name_of(names, start, len, at);
+            let other = name_of(names, start, len, before);
             match compare(name, other) {
                 Order::Greater => return true,
                 Order::Less => return false,
@@ -284,13 +285,13 @@ fn comes_after(bytes: &[u8], start: &[u32], len: &[u32], at: u16) -> bool
 }
 
 // The entries so far came in order (`up`), and the next one goes on so.
-fn goes_up(bytes: &[u8], start: &[u32], len: &[u32], at: u16, up: bool) -> bool
+fn goes_up(names: &[u8], start: &[u32], len: &[u32], at: u16, up: bool) -> bool
     requires { ⌜ (at < length (now start)) × (at < length (now len)) × (up ≡ true → 0 < at) ⌝ }
     ensures { λ r. ⌜ (r ≡ true → (up ≡ true)
-        × (byName (names (was bytes) (was start) (was len)) at (at - 1) ≡ Greater)) ⌝ }
+        × (byName (namesIn (was names) (was start) (was len)) at (at - 1) ≡ Greater)) ⌝ }
 {
     if up {
-        return comes_after(bytes, start, len, at);
+        return comes_after(names, start, len, at);
     }
     false
 }
@@ -307,7 +308,7 @@ fn narrow(i: u32) -> u16
 // first places.
 pub fn build(
     count: u32,
-    bytes: &[u8],
+    names: &[u8],
     start: &[u32],
     len: &[u32],
     size: &[u32],
@@ -319,21 +320,21 @@ pub fn build(
     height: &mut [u8],
     key: &mut [u32],
 ) -> Built
-    requires { ⌜ Roomy (listing count (now start) (now len) (now size) (now kind) (now bytes))
+    requires { ⌜ Roomy (listing count (now start) (now len) (now size) (now kind) (now names))
         (lists (now root) (now left) (now right) (now parent) (now height)) (now key) count ⌝ }
     ensures { λ r.
         let s = lentLists root left right parent height in
-        ⌜ Outcome r (grow (was bytes) (givenIn (listed count start len size kind bytes)) count)
-        (s .exit) (names (was bytes) (was start) (was len)) count ⌝ }
+        ⌜ Outcome r (grow (was names) (givenIn (listed count start len size kind names)) count)
+        (s .exit) (namesIn (was names) (was start) (was len)) count ⌝ }
 {
     *root = 65535;
     let mut up = false;
     let mut i: u32 = 0;
     while i < count {
         let at = narrow(i);
-        let after = goes_up(bytes, start, len, at, up);
+        let after = goes_up(names, start, len, at, up);
         match add_entry(
-            bytes,
+            names,
             start,
             len,
             size,

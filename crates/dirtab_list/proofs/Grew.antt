@@ -3,7 +3,7 @@ use Prim.Native.Nat.{ℕ, _≤_, _<_}
 use native.Mathlib.Omega.{arith}
 use lib.ListN.{length, getD}
 use Rattle.dirtab_entry.specs.Entry.{checkOf}
-use Rattle.avl_model.specs.Names.{names}
+use Rattle.avl_model.specs.Names.{namesIn}
 use Rattle.avl_model.specs.Lists.{Lists}
 use Rattle.avl_model.specs.Rep.{arrOf}
 use Rattle.avl_model.specs.Tree.{none}
@@ -18,7 +18,7 @@ use Rattle.dirtab_grow.specs.inner.Growing.{Holding}
 use Rattle.dirtab_grow.proofs.Growth.{all-passed}
 
 -- the columns after building, as writing takes them
-module _ (L : Listing) (S : Lists) (w : Holding (grow (L .bytes) (givenIn L) (L .count)) S (names (L .bytes) (L .start) (L .len)) (L .count)) where
+module _ (L : Listing) (S : Lists) (w : Holding (grow (L .bytes) (givenIn L) (L .count)) S (namesIn (L .bytes) (L .start) (L .len)) (L .count)) where
   abbrev n : ℕ
   n = L .count
 

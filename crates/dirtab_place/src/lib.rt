@@ -61,7 +61,7 @@ fn link_to(o: u32) -> u16
     requires { ⌜ o / 4 ≤ 65535 ⌝ }
     ensures { λ r. ⌜ r ≡ o / 4 ⌝ }
 {
-    Offset::new(o).link().number()
+    units::link_to(Offset::new(o)).number()
 }
 
 // Each entry of the order gets its offset over 4, at its number.

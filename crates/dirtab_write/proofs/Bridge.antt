@@ -19,7 +19,7 @@ use Rattle.dirtab_entry.specs.declared.Kind.{Kind}
 use Rattle.dirtab_entry.specs.declared.Kind.the-variants.{File, Directory}
 use Rattle.dirtab_entry.specs.Entry.{kindFor, isDirectory, rounded, storedSize}
 use Rattle.avl_model.specs.Tree.{Tree, leaf, node, none, top, cnt}
-use Rattle.avl_model.specs.Names.{names}
+use Rattle.avl_model.specs.Names.{namesIn}
 use Rattle.avl_model.specs.inner.Names.{Inside}
 use Rattle.avl_model.specs.Laws.{All}
 use Rattle.avl_model.specs.Order.{order}

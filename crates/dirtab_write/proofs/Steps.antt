@@ -11,7 +11,7 @@ use Rattle.layout_node.specs.declared.Header.{Header}
 use Rattle.layout_node.specs.Header.{headerBytes}
 use Rattle.layout_node.proofs.RoundTrip.{header-length}
 use Rattle.avl_model.specs.Tree.{none}
-use Rattle.avl_model.specs.Names.{names, nameAt}
+use Rattle.avl_model.specs.Names.{namesIn, nameAt}
 use Rattle.avl_model.specs.inner.Names.{Inside}
 use Rattle.table_model.specs.Entry.{headerFor, attributes}
 use Rattle.table_model.specs.inner.Writing.{stored}
@@ -39,7 +39,7 @@ pub entry-put : (d₀ d₁ d₂ : List ℕ) (at k : ℕ) (h : Header) (name : Li
 entry-put d₀ d₁ d₂ at k h name f e p q =
     put-then d₀ d₁ d₂ at k (headerBytes h) name (omega (arith, header-length h)) (omega (arith, header-length h)) p q
 
-pub name-length : (c : Cols) (i : ℕ) → Inside (names (c .bytes) (c .start) (c .len)) i → length (entryBy c i .name) ≡ getD (c .len) i 0
+pub name-length : (c : Cols) (i : ℕ) → Inside (namesIn (c .bytes) (c .start) (c .len)) i → length (entryBy c i .name) ≡ getD (c .len) i 0
 name-length c i h = let f = h .fits in simp (length-take, length-drop) (omega arith)
 
 -- what is put is what is stored of the item

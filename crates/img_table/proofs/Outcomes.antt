@@ -9,7 +9,7 @@ use Rattle.units.specs.Told.{Told, refuses}
 use Rattle.avl_model.specs.Tree.{Tree, none}
 use Rattle.avl_model.specs.Laws as laws
 use Rattle.avl_model.specs.Lists.{Lists, lists}
-use Rattle.avl_model.specs.Names.{Names, names}
+use Rattle.avl_model.specs.Names.{Names, namesIn}
 use Rattle.avl_model.specs.Rep.{arrOf}
 use Rattle.avl_model.specs.inner.Seek.{Links}
 use Rattle.avl_model.specs.Order.{order}
@@ -69,7 +69,7 @@ module _ (T : Lists) (N : Names) (g : Told Tree) (n : ℕ) (w : Holding g T N n)
 module _ (S : Share) (tab : ℕ → ℕ) (size : List ℕ) (m : ℕ) (m-is : m ≡ fitting (sizeAt S tab) (S .count) 0)
     (sizes : (i : ℕ) → i < m → getD size i 0 ≡ sizeAt S tab i) where
   abbrev N : Names
-  N = names (S .bytes) (S .start) (S .len)
+  N = namesIn (S .bytes) (S .start) (S .len)
 
   -- the columns have a place for each of them
   pub roomy : {tables l r p h k z o : ℕ} → Arrangeable S tables l r p h k z o → length (S .kind) ≡ S .count → (T : Lists) (K : List ℕ) → length (T .L) ≡ l

@@ -1,4 +1,4 @@
--- Document 01's cases that speak of the order of names. Assumes nothing.
+-- The scope's cases that speak of the order of names. Assumes nothing.
 use mathlib.Core.Path.{_≡_, refl}
 use mathlib.Core.List.{[], _∷_}
 use Rattle.layout_name.specs.declared.Order.the-variants.{Less, Equal}

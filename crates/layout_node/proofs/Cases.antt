@@ -1,4 +1,4 @@
--- Document 01's cases that speak of an entry's length. Assumes nothing.
+-- The scope's cases that speak of an entry's length. Assumes nothing.
 use mathlib.Core.Path.{_≡_, refl}
 use Rattle.layout_node.specs.Header.{entryLength}
 

@@ -50,7 +50,7 @@ fn show_refusal(n: u64) {
     io::write_all(1, b"\n");
 }
 
-// Document 01's number of a walk's refusal; 0 for what is none.
+// The number of a walk's refusal (docs/SCOPE.md); 0 for what is none.
 fn refusal_of(r: Walked) -> u64
     ensures { λ n. ⌜ n ≡ numberOf (walk.told r) ⌝ }
 {

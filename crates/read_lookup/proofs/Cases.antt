@@ -1,4 +1,4 @@
--- Cases of document 01, and hard ones, computed over small windows. Assumes nothing.
+-- Cases of the scope, and hard ones, computed over small windows. Assumes nothing.
 use Prim.Native.Nat.{ℕ}
 use mathlib.Core.Path.{_≡_, refl}
 use mathlib.Core.Bool.{Bool, true, false}

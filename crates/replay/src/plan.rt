@@ -13,7 +13,7 @@ ghost use lib.ListN.{length};
 ghost use Rattle.units.specs.Told.{numberOf};
 ghost use Rattle.img_model.specs.Plan as planning;
 
-// Document 01's number of a refused plan; 0 where it is planned.
+// The number of a refused plan (docs/SCOPE.md); 0 where it is planned.
 fn number_of(r: Planned) -> u32
     ensures { λ n. ⌜ n ≡ numberOf (planning.told r) ⌝ }
 {

@@ -240,7 +240,8 @@ module _ (w : List ℕ) (first : Sector) (t : Region) (x : Told (List ℕ)) (roo
               record {
                 to-do = rw (d, same) (after-one ∙ ap (λ (st : List Visit). before (take (n + 1) (set list n o)) (checkOn w first t (room - (n + 1)) (take (n + 1) (set list n o)) st))
                     (sym (entered .stack ∙ ap (λ (j : ℕ). push (h .left .0) (visitLeft (h .left .0) (visitOf c) o) (push (h .right .0) (visitRight (h .right .0) (visitOf c) o) (visitsOf scratch j))) is-u)));
-                mapped = rw list-now (marked-mapped (readAt w first t) (take n list) units (s .mapped) k (endOf h o / 4) (subst (λ (j : ℕ). endOf h (4 * j) / 4 ≤ length units) l-is (marks .1)) (omega arith) ends alone-now units₂
+                mapped = rw list-now (marked-mapped (readAt w first t) (take n list) units (s .mapped) k (endOf h o / 4)
+                    (subst (λ (j : ℕ). endOf h (4 * j) / 4 ≤ length units) l-is (marks .1)) (omega arith) ends alone-now units₂
                     (subst (λ (j : ℕ). Marked units j (endOf h (4 * j) / 4) units₂) l-is (marks .0)));
                 covers = subst (λ (g : ℕ). Covers (t .size) g) (sym (marks .0 .kept)) (s .covers);
                 room-left = omega (arith, s .list-kept);
@@ -252,7 +253,8 @@ module _ (w : List ℕ) (first : Sector) (t : Region) (x : Told (List ℕ)) (roo
               }
 
 -- where the loop begins: the root's number in the first place of the scratch s₀, and a map of zeros
-pub starts : (w : List ℕ) (first : Sector) (t : Region) (list s₀ : List ℕ) → length list < length s₀ → length s₀ * 8 < 2 ^ 63 → (v : ℕ) → visitOf v ≡ root → (units : List ℕ) → units ≡ replicate (length units) 0 → Covers (t .size) (length units) →
+pub starts : (w : List ℕ) (first : Sector) (t : Region) (list s₀ : List ℕ) → length list < length s₀ → length s₀ * 8 < 2 ^ 63 → (v : ℕ) → visitOf v ≡ root
+    → (units : List ℕ) → units ≡ replicate (length units) 0 → Covers (t .size) (length units) →
     State w first t (checkOn w first t (length list) [] (root ∷ [])) (length list) (length (set s₀ 0 v)) list (set s₀ 0 v) units 1 0
 unfolding stackOf
 starts w first t list s₀ h small v is-root units e covers = record {

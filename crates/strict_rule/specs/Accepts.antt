@@ -1,4 +1,4 @@
--- Which tables the strict check is meant to accept, in document 01's words: the walk ends, no entry is reached
+-- Which tables the strict check is meant to accept, as docs/SCOPE.md has it: the walk ends, no entry is reached
 -- twice, entries are disjoint, inside the table size and cross no sector line, and each left child's name is less
 -- than its parent's, each right child's greater. Assumes nothing.
 use Prim.Native.Nat.{ℕ, _-_, _*_, _/_, _≤_, _<_}

@@ -1,4 +1,4 @@
--- What an operation answers, in document 01's words: what it gives, or the number of the refusal with the numbers
+-- What an operation answers, in docs/SCOPE.md's words: what it gives, or the number of the refusal with the numbers
 -- that the refusal carries. Each answer of the code is an enum; its `told` says which of these a case stands for,
 -- and is one-to-one. Assumes nothing.
 use Prim.Native.Nat.{ℕ}

@@ -47,14 +47,6 @@ impl Offset {
     {
         self.0 // of the offset
     }
-
-    // Over 4. (An offset over 4 of more than 65,535 is refusal 7, which the caller has seen to.)
-    pub fn link(self) -> Link
-        requires { ⌜ self .0 / 4 ≤ 65535 ⌝ }
-        ensures { λ r. ⌜ r .0 ≡ self .0 / 4 ⌝ }
-    {
-        Link((self.0 / 4) as u16)
-    }
 }
 
 impl Link {
@@ -76,6 +68,15 @@ impl Link {
     {
         Offset(4 * (self.0 as u32))
     }
+}
+
+// The link that names an offset: over 4. (An offset over 4 of more than 65,535 is refusal 7, which the caller has seen
+// to. It is no method, so that a door that exports the type does not export it.)
+pub fn link_to(offset: Offset) -> Link
+    requires { ⌜ offset .0 / 4 ≤ 65535 ⌝ }
+    ensures { λ r. ⌜ r .0 ≡ offset .0 / 4 ⌝ }
+{
+    Link((offset.0 / 4) as u16)
 }
 
 // A run of bytes on the image: a directory table, or a file's contents.

@@ -6,7 +6,7 @@ use native.Mathlib.Omega.{arith}
 use borrow.Author.Tests.{not-true, not-false}
 use lib.ListN.{length, getD}
 use Rattle.avl_model.specs.Lists.{lists}
-use Rattle.avl_model.specs.Names.{names}
+use Rattle.avl_model.specs.Names.{namesIn}
 use Rattle.avl_arena.proofs.Looked.{seen-zero, seen-out, not-between, not-left, not-right, node-seen, high-small}
 use Prim.Native.Nat.{ℕ, _<_}
 use borrow.Fn.Kinds.{In}
@@ -63,7 +63,7 @@ look-returns : (t : ℕ) → look-lts.Need-returns (
 ) (look-at t) look.Post
 look-returns t c =
     let a = c .before .before .before .before .before .before .before .before .before .args in
-    seen-zero (lists 0 (a .left .now) (a .right .now) (a .parent .now) (a .height .now)) (names (a .bytes .now) (a .start .now) (a .len .now))
+    seen-zero (lists 0 (a .left .now) (a .right .now) (a .parent .now) (a .height .now)) (namesIn (a .names .now) (a .start .now) (a .len .now))
     (length (a .left .now)) (a .g .lo) (a .g .hi) (a .g .up) (a .at) (a .d) (c .before .if1 .taken) (c .see-none .ensures)
 
 look-widen-requires : (t : ℕ) → look-lts.Need-widen-requires (
@@ -114,7 +114,7 @@ look-returns-2 : (t : ℕ) → look-lts.Need-returns-2 (
 ) (look-at t) look.Post
 look-returns-2 t c =
     let a = c .before .before .before .before .before .before .before .before .before .before .before .args in
-    seen-out (lists 0 (a .left .now) (a .right .now) (a .parent .now) (a .height .now)) (names (a .bytes .now) (a .start .now) (a .len .now))
+    seen-out (lists 0 (a .left .now) (a .right .now) (a .parent .now) (a .height .now)) (namesIn (a .names .now) (a .start .now) (a .len .now))
     (length (a .left .now)) (a .g .lo) (a .g .hi) (a .g .up) (a .at) (a .d) (c .before .before .widen .result) (c .before .before .widen .ensures)
     (c .before .if2 .taken) (c .see-none2 .ensures)
 
@@ -170,7 +170,7 @@ look-returns-3 : (t : ℕ) → look-lts.Need-returns-3 (
 ) (look-at t) look.Post
 look-returns-3 t c =
     let a = c .before .before .before .before .before .before .before .before .before .before .before .before .before .args in
-    not-between (lists 0 (a .left .now) (a .right .now) (a .parent .now) (a .height .now)) (names (a .bytes .now) (a .start .now) (a .len .now))
+    not-between (lists 0 (a .left .now) (a .right .now) (a .parent .now) (a .height .now)) (namesIn (a .names .now) (a .start .now) (a .len .now))
     (length (a .left .now)) (a .g .lo) (a .g .hi) (a .g .up) (a .at) (a .d) (c .before .before .before .before .before .if1 .left)
     (c .before .before .before .before .widen .result) (c .before .before .before .before .widen .ensures) (c .before .before .before .if2 .left)
     (length (a .start .now)) (c .before .before .before .before .before .before .before .before .before .before .before .before .before .pre .1 .0 .starts)
@@ -268,7 +268,7 @@ look-returns-4 : (t : ℕ) → look-lts.Need-returns-4 (
 ) (look-at t) look.Post
 look-returns-4 t c =
     let a = c .before .before .before .before .before .before .before .before .before .before .before .before .before .before .before .before .args in
-    not-left (lists 0 (a .left .now) (a .right .now) (a .parent .now) (a .height .now)) (names (a .bytes .now) (a .start .now) (a .len .now))
+    not-left (lists 0 (a .left .now) (a .right .now) (a .parent .now) (a .height .now)) (namesIn (a .names .now) (a .start .now) (a .len .now))
     (length (a .left .now)) (a .g .lo) (a .g .hi) (a .g .up) (a .at) (a .d) (c .before .before .before .before .before .before .before .before .if1 .left)
     (c .before .before .before .before .before .before .before .widen .result) (c .before .before .before .before .before .before .before .widen .ensures)
     (c .before .before .before .before .before .before .if2 .left) (c .before .before .look .ensures)
@@ -376,7 +376,7 @@ look-returns-5 : (t : ℕ) → look-lts.Need-returns-5 (
 look-returns-5 t c =
     let a = c .before .before .before .before .before .before .before .before .before .before .before .before .before .before .before .before .before .before
     .before .before .args in
-    not-right (lists 0 (a .left .now) (a .right .now) (a .parent .now) (a .height .now)) (names (a .bytes .now) (a .start .now) (a .len .now))
+    not-right (lists 0 (a .left .now) (a .right .now) (a .parent .now) (a .height .now)) (namesIn (a .names .now) (a .start .now) (a .len .now))
     (length (a .left .now)) (a .g .lo) (a .g .hi) (a .g .up) (a .at) (a .d)
     (c .before .before .before .before .before .before .before .before .before .before .before .before .if1 .left)
     (c .before .before .before .before .before .before .before .before .before .before .before .widen .result)
@@ -476,7 +476,7 @@ look-returns-6 : (t : ℕ) → look-lts.Need-returns-6 (
 look-returns-6 t c =
     let a = c .before .before .before .before .before .before .before .before .before .before .before .before .before .before .before .before .before .before
     .before .before .before .before .args in
-    node-seen (lists 0 (a .left .now) (a .right .now) (a .parent .now) (a .height .now)) (names (a .bytes .now) (a .start .now) (a .len .now))
+    node-seen (lists 0 (a .left .now) (a .right .now) (a .parent .now) (a .height .now)) (namesIn (a .names .now) (a .start .now) (a .len .now))
     (length (a .left .now)) (a .g .lo) (a .g .hi) (a .g .up) (a .at) (a .d)
     (c .before .before .before .before .before .before .before .before .before .before .before .before .before .before .if1 .left)
     (c .before .before .before .before .before .before .before .before .before .before .before .before .before .widen .result)

@@ -2,7 +2,7 @@
 use Prim.Native.Nat.{_≤_, _-_}
 use mathlib.Core.Bool.{true}
 use lib.ListN.{length}
-use Rattle.avl_model.specs.Names.{names}
+use Rattle.avl_model.specs.Names.{namesIn}
 use Rattle.avl_arena.specs.Test.{every, inside}
 use Rattle.avl_arena.proofs.Tested.{not-inside, one-more, all-inside}
 use borrow.Author.Needs.{needs}
@@ -12,7 +12,7 @@ use Rattle.avl_arena.proofs.are_inside.Statement.{statement}
 use Rattle.avl_arena.proofs.are_inside.Tie as tie
 
 abbrev Inv-loop : tie.InvT-loop
-Inv-loop bytes start len i₀ i = (i ≤ length start) × (every (inside (names bytes start len)) i ≡ true)
+Inv-loop bytes start len i₀ i = (i ≤ length start) × (every (inside (namesIn bytes start len)) i ≡ true)
 
 abbrev μ-loop : tie.MeasureT-loop
 μ-loop bytes start len i₀ i = length start - i

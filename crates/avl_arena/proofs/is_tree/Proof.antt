@@ -10,7 +10,7 @@ slice-aggregate-s : tie.Need-slice-aggregate-s
 slice-aggregate-s c =
     let a = c .before .before .before .before .before .before .before .before .before .before .before .args in
     sym (length-take-le (c .before .before .before .widen .result) (a .start .now)
-    (have (a .root) (a .left .now) (a .right .now) (a .parent .now) (a .height .now) (a .bytes .now) (a .start .now) (a .len .now) (a .count)
+    (have (a .root) (a .left .now) (a .right .now) (a .parent .now) (a .height .now) (a .names .now) (a .start .now) (a .len .now) (a .count)
     (c .before .before .before .widen .result) (c .before .before .before .widen .ensures) (c .before .before .have-places .ensures) (c .before .if1 .taken)
     .start))
 
@@ -18,14 +18,14 @@ slice-aggregate-e : tie.Need-slice-aggregate-e
 slice-aggregate-e c =
     let a = c .before .before .before .before .before .before .before .before .before .before .before .before .args in
     sym (length-take-le (c .before .before .before .before .widen .result) (a .len .now)
-    (have (a .root) (a .left .now) (a .right .now) (a .parent .now) (a .height .now) (a .bytes .now) (a .start .now) (a .len .now) (a .count)
+    (have (a .root) (a .left .now) (a .right .now) (a .parent .now) (a .height .now) (a .names .now) (a .start .now) (a .len .now) (a .count)
     (c .before .before .before .before .widen .result) (c .before .before .before .before .widen .ensures) (c .before .before .before .have-places .ensures)
     (c .before .before .if1 .taken) .len))
 
 are-inside-requires : tie.Need-are-inside-requires
 are-inside-requires c κs =
     let a = c .before .before .before .before .before .before .before .before .before .before .before .before .args in
-    as-long (a .root) (a .left .now) (a .right .now) (a .parent .now) (a .height .now) (a .bytes .now) (a .start .now) (a .len .now) (a .count)
+    as-long (a .root) (a .left .now) (a .right .now) (a .parent .now) (a .height .now) (a .names .now) (a .start .now) (a .len .now) (a .count)
     (c .before .before .before .before .widen .result) (c .before .before .before .before .widen .ensures) (c .before .before .before .have-places .ensures)
     (c .before .before .if1 .taken)
 
@@ -33,7 +33,7 @@ slice-aggregate-is-whole : tie.Need-slice-aggregate-is-whole
 slice-aggregate-is-whole c =
     let a = c .before .before .before .before .before .before .before .before .before .before .before .before .before .before .before .args in
     sym (length-take-le (c .before .before .before .before .before .before .before .widen .result) (a .left .now)
-    (have (a .root) (a .left .now) (a .right .now) (a .parent .now) (a .height .now) (a .bytes .now) (a .start .now) (a .len .now) (a .count)
+    (have (a .root) (a .left .now) (a .right .now) (a .parent .now) (a .height .now) (a .names .now) (a .start .now) (a .len .now) (a .count)
     (c .before .before .before .before .before .before .before .widen .result) (c .before .before .before .before .before .before .before .widen .ensures)
     (c .before .before .before .before .before .before .have-places .ensures) (c .before .before .before .before .before .if1 .taken) .l))
 
@@ -41,7 +41,7 @@ slice-aggregate-is-whole-2 : tie.Need-slice-aggregate-is-whole-2
 slice-aggregate-is-whole-2 c =
     let a = c .before .before .before .before .before .before .before .before .before .before .before .before .before .before .before .before .args in
     sym (length-take-le (c .before .before .before .before .before .before .before .before .widen .result) (a .right .now)
-    (have (a .root) (a .left .now) (a .right .now) (a .parent .now) (a .height .now) (a .bytes .now) (a .start .now) (a .len .now) (a .count)
+    (have (a .root) (a .left .now) (a .right .now) (a .parent .now) (a .height .now) (a .names .now) (a .start .now) (a .len .now) (a .count)
     (c .before .before .before .before .before .before .before .before .widen .result)
     (c .before .before .before .before .before .before .before .before .widen .ensures)
     (c .before .before .before .before .before .before .before .have-places .ensures) (c .before .before .before .before .before .before .if1 .taken) .r))
@@ -50,7 +50,7 @@ slice-aggregate-is-whole-3 : tie.Need-slice-aggregate-is-whole-3
 slice-aggregate-is-whole-3 c =
     let a = c .before .before .before .before .before .before .before .before .before .before .before .before .before .before .before .before .before .args in
     sym (length-take-le (c .before .before .before .before .before .before .before .before .before .widen .result) (a .parent .now)
-    (have (a .root) (a .left .now) (a .right .now) (a .parent .now) (a .height .now) (a .bytes .now) (a .start .now) (a .len .now) (a .count)
+    (have (a .root) (a .left .now) (a .right .now) (a .parent .now) (a .height .now) (a .names .now) (a .start .now) (a .len .now) (a .count)
     (c .before .before .before .before .before .before .before .before .before .widen .result)
     (c .before .before .before .before .before .before .before .before .before .widen .ensures)
     (c .before .before .before .before .before .before .before .before .have-places .ensures)
@@ -61,7 +61,7 @@ slice-aggregate-is-whole-4 c =
     let a = c .before .before .before .before .before .before .before .before .before .before .before .before .before .before .before .before .before .before
     .args in
     sym (length-take-le (c .before .before .before .before .before .before .before .before .before .before .widen .result) (a .height .now)
-    (have (a .root) (a .left .now) (a .right .now) (a .parent .now) (a .height .now) (a .bytes .now) (a .start .now) (a .len .now) (a .count)
+    (have (a .root) (a .left .now) (a .right .now) (a .parent .now) (a .height .now) (a .names .now) (a .start .now) (a .len .now) (a .count)
     (c .before .before .before .before .before .before .before .before .before .before .widen .result)
     (c .before .before .before .before .before .before .before .before .before .before .widen .ensures)
     (c .before .before .before .before .before .before .before .before .before .have-places .ensures)
@@ -71,7 +71,7 @@ is-whole-requires : tie.Need-is-whole-requires
 is-whole-requires c κs =
     let a = c .before .before .before .before .before .before .before .before .before .before .before .before .before .before .before .before .before .before
     .args in
-    lent (a .root) (a .left .now) (a .right .now) (a .parent .now) (a .height .now) (a .bytes .now) (a .start .now) (a .len .now) (a .count)
+    lent (a .root) (a .left .now) (a .right .now) (a .parent .now) (a .height .now) (a .names .now) (a .start .now) (a .len .now) (a .count)
     (c .before .before .before .before .before .before .before .before .before .before .widen .result)
     (c .before .before .before .before .before .before .before .before .before .before .widen .ensures)
     (c .before .before .before .before .before .before .before .before .before .have-places .ensures)
@@ -82,7 +82,7 @@ returns : tie.Need-returns
 returns c =
     let a = c .before .before .before .before .before .before .before .before .before .before .before .before .before .before .before .before .before .before
     .before .args in
-    by-whole (a .root) (a .left .now) (a .right .now) (a .parent .now) (a .height .now) (a .bytes .now) (a .start .now) (a .len .now) (a .count)
+    by-whole (a .root) (a .left .now) (a .right .now) (a .parent .now) (a .height .now) (a .names .now) (a .start .now) (a .len .now) (a .count)
     (c .before .before .before .before .before .before .before .before .before .before .before .widen .result)
     (c .before .before .before .before .before .before .before .before .before .before .before .widen .ensures)
     (c .before .before .before .before .before .before .before .before .before .before .have-places .ensures)
@@ -92,7 +92,7 @@ returns c =
 returns-2 : tie.Need-returns-2
 returns-2 c =
     let a = c .before .before .before .before .before .before .before .before .before .before .before .before .before .before .args in
-    no-inside (a .root) (a .left .now) (a .right .now) (a .parent .now) (a .height .now) (a .bytes .now) (a .start .now) (a .len .now) (a .count)
+    no-inside (a .root) (a .left .now) (a .right .now) (a .parent .now) (a .height .now) (a .names .now) (a .start .now) (a .len .now) (a .count)
     (c .before .before .before .before .before .before .widen .result) (c .before .before .before .before .before .before .widen .ensures)
     (c .before .before .before .before .before .have-places .ensures) (c .before .before .before .before .if1 .taken) (c .before .are-inside .ensures)
     (c .if2 .left)
@@ -100,7 +100,7 @@ returns-2 c =
 returns-3 : tie.Need-returns-3
 returns-3 c =
     let a = c .before .before .before .before .before .before .before .before .before .before .args in
-    no-places (a .root) (a .left .now) (a .right .now) (a .parent .now) (a .height .now) (a .bytes .now) (a .start .now) (a .len .now) (a .count)
+    no-places (a .root) (a .left .now) (a .right .now) (a .parent .now) (a .height .now) (a .names .now) (a .start .now) (a .len .now) (a .count)
     (c .before .before .widen .result) (c .before .before .widen .ensures) (c .before .have-places .ensures) (c .if1 .left)
 
 pub is-tree-spec : {M : Type 1} → statement M

@@ -4,22 +4,17 @@ use borrow.Author.Needs.{needs}
 use native.Mathlib.Omega.{arith}
 use mathlib.Core.Path.{refl}
 use Rattle.avl_model.specs.declared.Place.the-variants.{Root}
-use Rattle.avl_model.specs.Names.{names, toName}
+use Rattle.avl_model.specs.Names.{namesIn, toName}
 use Rattle.avl_model.specs.inner.Names.{Inside}
 use Rattle.avl_model.specs.Seek.{spotIn}
 use Rattle.avl_model.specs.inner.Seek.{Sought}
 use Rattle.avl_model.proofs.Seeking.{Seeking, depth, told, inside, known, found, go-left, go-right, less-left, less-right, free}
 use Rattle.avl_insert.proofs.descend.Statement.{statement}
 use Rattle.avl_insert.proofs.descend.Tie as tie
-use Rattle.avl_insert.proofs.descend.Reads as reads
-use Rattle.avl_insert.proofs.descend.Lts as lts
-use Rattle.avl_insert.proofs.name_of.Reads as name-of-reads
-use Rattle.avl_turn.proofs.index.Reads as index-reads
-use Rattle.layout_name.proofs.compare_raised.Reads as compare-raised-reads
 
 abbrev Inv-loop : tie.InvT-loop
-Inv-loop left right bytes start len root copy name at₀ place₀ at place = (w : Sought left right root (names bytes start len))
-    → Seeking left right (toName (names bytes start len) name) (Inside (names bytes start len)) at place (spotIn (toName (names bytes start len) name) (w .linked .t) Root)
+Inv-loop left right bytes start len root copy name at₀ place₀ at place = (w : Sought left right root (namesIn bytes start len))
+    → Seeking left right (toName (namesIn bytes start len) name) (Inside (namesIn bytes start len)) at place (spotIn (toName (namesIn bytes start len) name) (w .linked .t) Root)
 
 abbrev μ-loop : tie.MeasureT-loop
 μ-loop left right bytes start len root copy name at₀ place₀ at place = depth left right at
@@ -31,110 +26,119 @@ name-of-requires : tie.Need-name-of-requires Inv-loop μ-loop
 name-of-requires c κs =
     let s = c .before .before .before .before .before .before .before .before in
     let a = s .args in
-    let N = names (a .bytes .now) (a .start .now) (a .len .now) in
+    let N = namesIn (a .names .now) (a .start .now) (a .len .now) in
     known (a .left .now) (a .right .now) (toName N (a .name .now)) (Inside N) (s .pre .0 .linked .small) (c .before .loop .inv (s .pre .0)) (c .loop-test .taken)
-
-index-requires : tie.Need-index-requires Inv-loop μ-loop
-index-requires c κs = search needs
 
 compare-raised-requires : tie.Need-compare-raised-requires Inv-loop μ-loop
 compare-raised-requires c κs = c .before .before .before .before .before .before .before .before .before .before .pre .1
 
-enum-told : tie.Need-enum-told Inv-loop μ-loop
-enum-told c = search needs
-
 returns : tie.Need-returns Inv-loop μ-loop
 returns c = λ w.
     let a = c .before .before .before .before .before .before .before .before .before .before .before .before .before .args in
-    let N = names (a .bytes .now) (a .start .now) (a .len .now) in
-    found (a .left .now) (a .right .now) (toName N (a .name .now)) (Inside N) (w .linked .small) (c .before .before .before .before .before .before .loop .inv w) (c .before .before .before .before .before .loop-test .taken) (told N (a .name .now) (c .before .before .before .before .before .before .loop .at) (c .before .before .before .before .name-of .ensures) (c .before .before .compare-raised .ensures) (c .enum-told .given .1))
-
-enum-told-2 : tie.Need-enum-told-2 Inv-loop μ-loop
-enum-told-2 c = search needs
+    let N = namesIn (a .names .now) (a .start .now) (a .len .now) in
+    found (a .left .now) (a .right .now) (toName N (a .name .now)) (Inside N) (w .linked .small)
+    (c .before .before .before .before .before .before .loop .inv w) (c .before .before .before .before .before .loop-test .taken)
+    (told N (a .name .now) (c .before .before .before .before .before .before .loop .at) (c .before .before .before .before .name-of .ensures)
+    (c .before .before .compare-raised .ensures) (c .enum-told .given .1))
 
 mul-at : tie.Need-mul-at Inv-loop μ-loop
 mul-at c =
     let s = c .before .before .before .before .before .before .before .before .before .before .before .before .before in
     let a = s .args in
-    let N = names (a .bytes .now) (a .start .now) (a .len .now) in
-    omega (arith, inside (a .left .now) (a .right .now) (toName N (a .name .now)) (Inside N) (s .pre .0 .linked .small) (c .before .before .before .before .before .before .loop .inv (s .pre .0)) (c .before .before .before .before .before .loop-test .taken), c .before .before .before .index .ensures)
+    let N = namesIn (a .names .now) (a .start .now) (a .len .now) in
+    omega (
+      arith,
+      inside (a .left .now) (a .right .now) (toName N (a .name .now)) (Inside N) (s .pre .0 .linked .small)
+          (c .before .before .before .before .before .before .loop .inv (s .pre .0)) (c .before .before .before .before .before .loop-test .taken),
+      c .before
+          .before .before .index .ensures,
+    )
 
 shared-slice-read-at : tie.Need-shared-slice-read-at Inv-loop μ-loop
 shared-slice-read-at c =
     let s = c .before .before .before .before .before .before .before .before .before .before .before .before .before .before in
     let a = s .args in
-    let N = names (a .bytes .now) (a .start .now) (a .len .now) in
-    omega (arith, inside (a .left .now) (a .right .now) (toName N (a .name .now)) (Inside N) (s .pre .0 .linked .small) (c .before .before .before .before .before .before .before .loop .inv (s .pre .0)) (c .before .before .before .before .before .before .loop-test .taken), c .before .before .before .before .index .ensures)
+    let N = namesIn (a .names .now) (a .start .now) (a .len .now) in
+    omega (
+      arith,
+      inside (a .left .now) (a .right .now) (toName N (a .name .now)) (Inside N) (s .pre .0 .linked .small)
+          (c .before .before .before .before .before .before .before .loop .inv (s .pre .0))
+          (c .before .before .before .before .before .before .loop-test .taken),
+      c .before .before .before .before .index .ensures,
+    )
 
 loop-less : tie.Need-loop-less Inv-loop μ-loop
 loop-less c =
     let s = c .before .before .before .before .before .before .before .before .before .before .before .before .before .before in
     let a = s .args in
-    let N = names (a .bytes .now) (a .start .now) (a .len .now) in
-    less-left (a .left .now) (a .right .now) (toName N (a .name .now)) (Inside N) (s .pre .0 .linked .small) (c .before .before .before .before .before .before .before .loop .inv (s .pre .0)) (c .before .before .before .before .before .before .loop-test .taken) (c .before .before .before .before .index .ensures .0)
+    let N = namesIn (a .names .now) (a .start .now) (a .len .now) in
+    less-left (a .left .now) (a .right .now) (toName N (a .name .now)) (Inside N) (s .pre .0 .linked .small)
+    (c .before .before .before .before .before .before .before .loop .inv (s .pre .0)) (c .before .before .before .before .before .before .loop-test .taken)
+    (c .before .before .before .before .index .ensures .0)
 
 loop-again : tie.Need-loop-again Inv-loop μ-loop
 loop-again c = λ w.
     let a = c .before .before .before .before .before .before .before .before .before .before .before .before .before .before .args in
-    let N = names (a .bytes .now) (a .start .now) (a .len .now) in
-    go-left (a .left .now) (a .right .now) (toName N (a .name .now)) (Inside N) (w .linked .small) (c .before .before .before .before .before .before .before .loop .inv w) (c .before .before .before .before .before .before .loop-test .taken) (c .before .before .before .before .index .ensures .0) (told N (a .name .now) (c .before .before .before .before .before .before .before .loop .at) (c .before .before .before .before .before .name-of .ensures) (c .before .before .before .compare-raised .ensures) (c .before .enum-told2 .given .1))
-
-enum-told-3 : tie.Need-enum-told-3 Inv-loop μ-loop
-enum-told-3 c = search needs
+    let N = namesIn (a .names .now) (a .start .now) (a .len .now) in
+    go-left (a .left .now) (a .right .now) (toName N (a .name .now)) (Inside N) (w .linked .small)
+    (c .before .before .before .before .before .before .before .loop .inv w) (c .before .before .before .before .before .before .loop-test .taken)
+    (c .before .before .before .before .index .ensures .0)
+    (told N (a .name .now) (c .before .before .before .before .before .before .before .loop .at)
+    (c .before .before .before .before .before .name-of .ensures) (c .before .before .before .compare-raised .ensures) (c .before .enum-told2 .given .1))
 
 mul-at-2 : tie.Need-mul-at-2 Inv-loop μ-loop
 mul-at-2 c =
     let s = c .before .before .before .before .before .before .before .before .before .before .before .before .before in
     let a = s .args in
-    let N = names (a .bytes .now) (a .start .now) (a .len .now) in
-    omega (arith, inside (a .left .now) (a .right .now) (toName N (a .name .now)) (Inside N) (s .pre .0 .linked .small) (c .before .before .before .before .before .before .loop .inv (s .pre .0)) (c .before .before .before .before .before .loop-test .taken), c .before .before .before .index .ensures)
+    let N = namesIn (a .names .now) (a .start .now) (a .len .now) in
+    omega (
+      arith,
+      inside (a .left .now) (a .right .now) (toName N (a .name .now)) (Inside N) (s .pre .0 .linked .small)
+          (c .before .before .before .before .before .before .loop .inv (s .pre .0)) (c .before .before .before .before .before .loop-test .taken),
+      c .before
+          .before .before .index .ensures,
+    )
 
 shared-slice-read-at-2 : tie.Need-shared-slice-read-at-2 Inv-loop μ-loop
 shared-slice-read-at-2 c =
     let s = c .before .before .before .before .before .before .before .before .before .before .before .before .before .before in
     let a = s .args in
-    let N = names (a .bytes .now) (a .start .now) (a .len .now) in
-    omega (arith, inside (a .left .now) (a .right .now) (toName N (a .name .now)) (Inside N) (s .pre .0 .linked .small) (c .before .before .before .before .before .before .before .loop .inv (s .pre .0)) (c .before .before .before .before .before .before .loop-test .taken), c .before .before .before .before .index .ensures, s .pre .0 .linked .n-is)
+    let N = namesIn (a .names .now) (a .start .now) (a .len .now) in
+    omega (
+      arith,
+      inside (a .left .now) (a .right .now) (toName N (a .name .now)) (Inside N) (s .pre .0 .linked .small)
+          (c .before .before .before .before .before .before .before .loop .inv (s .pre .0))
+          (c .before .before .before .before .before .before .loop-test .taken),
+      c .before .before .before .before .index .ensures,
+      s .pre .0 .linked .n-is,
+    )
 
 loop-less-2 : tie.Need-loop-less-2 Inv-loop μ-loop
 loop-less-2 c =
     let s = c .before .before .before .before .before .before .before .before .before .before .before .before .before .before in
     let a = s .args in
-    let N = names (a .bytes .now) (a .start .now) (a .len .now) in
-    less-right (a .left .now) (a .right .now) (toName N (a .name .now)) (Inside N) (s .pre .0 .linked .small) (c .before .before .before .before .before .before .before .loop .inv (s .pre .0)) (c .before .before .before .before .before .before .loop-test .taken) (c .before .before .before .before .index .ensures .0)
+    let N = namesIn (a .names .now) (a .start .now) (a .len .now) in
+    less-right (a .left .now) (a .right .now) (toName N (a .name .now)) (Inside N) (s .pre .0 .linked .small)
+    (c .before .before .before .before .before .before .before .loop .inv (s .pre .0)) (c .before .before .before .before .before .before .loop-test .taken)
+    (c .before .before .before .before .index .ensures .0)
 
 loop-again-2 : tie.Need-loop-again-2 Inv-loop μ-loop
 loop-again-2 c = λ w.
     let a = c .before .before .before .before .before .before .before .before .before .before .before .before .before .before .args in
-    let N = names (a .bytes .now) (a .start .now) (a .len .now) in
-    go-right (a .left .now) (a .right .now) (toName N (a .name .now)) (Inside N) (w .linked .small) (c .before .before .before .before .before .before .before .loop .inv w) (c .before .before .before .before .before .before .loop-test .taken) (c .before .before .before .before .index .ensures .0) (told N (a .name .now) (c .before .before .before .before .before .before .before .loop .at) (c .before .before .before .before .before .name-of .ensures) (c .before .before .before .compare-raised .ensures) (c .before .enum-told3 .given .1))
+    let N = namesIn (a .names .now) (a .start .now) (a .len .now) in
+    go-right (a .left .now) (a .right .now) (toName N (a .name .now)) (Inside N) (w .linked .small)
+    (c .before .before .before .before .before .before .before .loop .inv w) (c .before .before .before .before .before .before .loop-test .taken)
+    (c .before .before .before .before .index .ensures .0)
+    (told N (a .name .now) (c .before .before .before .before .before .before .before .loop .at)
+    (c .before .before .before .before .before .name-of .ensures) (c .before .before .before .compare-raised .ensures) (c .before .enum-told3 .given .1))
 
 returns-2 : tie.Need-returns-2 Inv-loop μ-loop
 returns-2 c = λ w.
     let a = c .before .before .before .before .before .before .before .before .args in
-    let N = names (a .bytes .now) (a .start .now) (a .len .now) in
+    let N = namesIn (a .names .now) (a .start .now) (a .len .now) in
     free (a .left .now) (a .right .now) (toName N (a .name .now)) (Inside N) (w .linked .small) (c .before .loop .inv w) (c .loop-test .left)
 
 pub descend-spec : {M : Type 1} → statement M
-descend-spec =
-    tie.close
-    (tie.spec
-    Inv-loop
-    μ-loop
-    loop-holds
-    name-of-requires
-    index-requires
-    compare-raised-requires
-    enum-told
-    returns
-    enum-told-2
-    mul-at
-    shared-slice-read-at
-    loop-less
-    loop-again
-    enum-told-3
-    mul-at-2
-    shared-slice-read-at-2
-    loop-less-2
-    loop-again-2
-    returns-2)
+descend-spec = tie.close (tie.spec Inv-loop μ-loop loop-holds name-of-requires (λ c κs. search needs)
+    compare-raised-requires (λ c. search needs) returns (λ c. search needs) mul-at shared-slice-read-at loop-less
+    loop-again (λ c. search needs) mul-at-2 shared-slice-read-at-2 loop-less-2 loop-again-2 returns-2)

@@ -9,9 +9,6 @@ use borrow.Author.Needs.{needs}
 use Rattle.avl_insert.proofs.put_in.Statement.{statement}
 use Rattle.avl_insert.proofs.put_in.Tie as tie
 
-attach-requires : tie.Need-attach-requires
-attach-requires c κs = search needs
-
 rise-requires : tie.Need-rise-requires
 rise-requires c κs = let s = c .before .before .before .before .before .before .before .before .before .before .before .before .before .before .before .before .before .before .before .before .before .before .before in
     let a = s .args in
@@ -22,31 +19,14 @@ rise-requires c κs = let s = c .before .before .before .before .before .before 
       (no-left S (a .place) (a .new) e (w .arena .new<), no-right S (a .place) (a .new) e (omega (arith, w .arena .new<, w .arena .long .r))),
     )
 
-same-length : tie.Need-same-length
-same-length c = search needs
-
-same-length-2 : tie.Need-same-length-2
-same-length-2 c = search needs
-
-same-length-3 : tie.Need-same-length-3
-same-length-3 c = search needs
-
-same-length-4 : tie.Need-same-length-4
-same-length-4 c = search needs
-
 returns : tie.Need-returns
 returns c = λ w.
-    let a = c .before .before .before .before .before .before .before .before .before .before .before .before .before .before .before .before .before .before .before .before .before .before .before .before .before .before .before .before .before .before .before .before .args in
-    inserted (lists (a .root .now) (a .left .now) (a .right .now) (a .parent .now) (a .height .now)) (a .new) (w .arena) (w .by) (a .place) (w .free) (c .before .before .before .before .before .before .before .before .before .before .before .before .before .before .before .before .before .before .before .before .before .before .attach .ensures) (c .before .before .before .before .before .before .before .before .rise .ensures)
+    let a = c .before .before .before .before .before .before .before .before .before .before .before .before .before .before .before .before .before .before
+    .before .before .before .before .before .before .before .before .before .before .before .before .before .before .args in
+    inserted (lists (a .root .now) (a .left .now) (a .right .now) (a .parent .now) (a .height .now)) (a .new) (w .arena) (w .by) (a .place) (w .free)
+    (c .before .before .before .before .before .before .before .before .before .before .before .before .before .before .before .before .before .before
+    .before .before .before .before .attach .ensures) (c .before .before .before .before .before .before .before .before .rise .ensures)
 
 pub put-in-spec : {M : Type 1} → statement M
-put-in-spec =
-    tie.close
-    (tie.spec
-    attach-requires
-    rise-requires
-    same-length
-    same-length-2
-    same-length-3
-    same-length-4
-    returns)
+put-in-spec = tie.close (tie.spec (λ c κs. search needs) rise-requires (λ c. search needs) (λ c. search needs)
+    (λ c. search needs) (λ c. search needs) returns)

@@ -7,42 +7,9 @@ use Rattle.avl_model.proofs.Placed.{at-place}
 use borrow.Author.Needs.{needs}
 use Rattle.avl_turn.proofs.put.Statement.{statement}
 use Rattle.avl_turn.proofs.put.Tie as tie
-use Rattle.avl_turn.proofs.put.Reads as reads
-use Rattle.avl_turn.proofs.put.Lts as lts
-use Rattle.avl_turn.proofs.index.Reads as index-reads
-
-enum-told : tie.Need-enum-told
-enum-told c = search needs
-
-enum-known-place : tie.Need-enum-known-place
-enum-known-place c = search needs
-
-index-requires : tie.Need-index-requires
-index-requires c κs = search needs
-
-mul-left : tie.Need-mul-left
-mul-left c = search needs
-
-slice-write-left : tie.Need-slice-write-left
-slice-write-left c = search needs
-
-enum-known-place-2 : tie.Need-enum-known-place-2
-enum-known-place-2 c = search needs
-
-index-requires-2 : tie.Need-index-requires-2
-index-requires-2 c κs = search needs
-
-mul-right : tie.Need-mul-right
-mul-right c = search needs
-
-slice-write-right : tie.Need-slice-write-right
-slice-write-right c = search needs
 
 returns : tie.Need-returns
 returns c = let a = c .before .before .before .before .args in at-place (a .to) (a .root .now) (a .left .now) (a .right .now) (c .enum-told .given .1)
-
-same-length : tie.Need-same-length
-same-length c = search needs
 
 returns-2 : tie.Need-returns-2
 returns-2 c =
@@ -55,9 +22,6 @@ returns-3 c =
     let a = c .before .before .before .before .before .before .before .args in
     let is = at-place (a .to) (a .root .now) (a .left .now) (a .right .now) (c .before .before .before .place .given .1) in
     (is .0, (sym (set-out (a .left .now) _ (a .to) (c .if1 .left)) ∙ ap (λ (k : ℕ). set (a .left .now) k (a .to)) (c .before .index .ensures .0) ∙ is .1 .0, is .1 .1))
-
-same-length-2 : tie.Need-same-length-2
-same-length-2 c = search needs
 
 returns-4 : tie.Need-returns-4
 returns-4 c =
@@ -72,22 +36,6 @@ returns-5 c =
     (is .0, (is .1 .0, sym (set-out (a .right .now) _ (a .to) (c .if2 .left)) ∙ ap (λ (k : ℕ). set (a .right .now) k (a .to)) (c .before .index2 .ensures .0) ∙ is .1 .1))
 
 pub put-spec : {M : Type 1} → statement M
-put-spec =
-    tie.close
-    (tie.spec
-    enum-told
-    enum-known-place
-    index-requires
-    mul-left
-    slice-write-left
-    enum-known-place-2
-    index-requires-2
-    mul-right
-    slice-write-right
-    returns
-    same-length
-    returns-2
-    returns-3
-    same-length-2
-    returns-4
-    returns-5)
+put-spec = tie.close (tie.spec (λ c. search needs) (λ c. search needs) (λ c κs. search needs) (λ c. search needs)
+    (λ c. search needs) (λ c. search needs) (λ c κs. search needs) (λ c. search needs) (λ c. search needs) returns
+    (λ c. search needs) returns-2 returns-3 (λ c. search needs) returns-4 returns-5)

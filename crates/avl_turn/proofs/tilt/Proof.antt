@@ -5,14 +5,6 @@ use Rattle.avl_model.proofs.Signed.{fits, above, below}
 use borrow.Author.Needs.{needs}
 use Rattle.avl_turn.proofs.tilt.Statement.{statement}
 use Rattle.avl_turn.proofs.tilt.Tie as tie
-use Rattle.avl_turn.proofs.tilt.Reads as reads
-use Rattle.avl_turn.proofs.tilt.Lts as lts
-
-cast-balance : tie.Need-cast-balance
-cast-balance c = search needs
-
-cast-balance-2 : tie.Need-cast-balance-2
-cast-balance-2 c = search needs
 
 sub-balance : tie.Need-sub-balance
 sub-balance c = fits (c .args .l) (c .args .r) (omega arith) (omega arith)
@@ -21,11 +13,16 @@ returns : tie.Need-returns
 returns c = let s = c .before in simp (sym (above (s .args .l) (s .args .r) (omega arith) (omega arith)) ∙ c .if1 .taken)
 
 returns-2 : tie.Need-returns-2
-returns-2 c = let s = c .before .before in simp (sym (above (s .args .l) (s .args .r) (omega arith) (omega arith)) ∙ c .before .if1 .left, sym (below (s .args .l) (s .args .r) (omega arith) (omega arith)) ∙ c .if2 .taken)
+returns-2 c =
+    let s = c .before .before in
+    simp (
+      sym (above (s .args .l) (s .args .r) (omega arith) (omega arith)) ∙ c .before .if1 .left,
+      sym
+          (below (s .args .l) (s .args .r) (omega arith) (omega arith)) ∙ c .if2 .taken,
+    )
 
 returns-3 : tie.Need-returns-3
 returns-3 c = let s = c .before .before in simp (sym (above (s .args .l) (s .args .r) (omega arith) (omega arith)) ∙ c .before .if1 .left, sym (below (s .args .l) (s .args .r) (omega arith) (omega arith)) ∙ c .if2 .left)
 
 pub tilt-spec : {M : Type 1} → statement M
-tilt-spec =
-    tie.close (tie.spec cast-balance cast-balance-2 sub-balance returns returns-2 returns-3)
+tilt-spec = tie.close (tie.spec (λ c. search needs) (λ c. search needs) sub-balance returns returns-2 returns-3)

@@ -8,9 +8,6 @@ use Rattle.avl_model.proofs.Low.{low-risen}
 use borrow.Author.Needs.{needs}
 use Rattle.avl_turn.proofs.update_heights.Statement.{statement}
 use Rattle.avl_turn.proofs.update_heights.Tie as tie
-use Rattle.avl_turn.proofs.update_heights.Reads as reads
-use Rattle.avl_turn.proofs.update_heights.Lts as lts
-use Rattle.avl_turn.proofs.update_height.Reads as update-height-reads
 
 update-height-requires : tie.Need-update-height-requires
 update-height-requires c κs = let s = c .before .before .before .before in (omega arith, λ j. omega (arith, s .pre .1 j))
@@ -30,18 +27,9 @@ update-height-requires-3 c κs =
     let low : (j : ℕ) → getD h j 0 < 121 = λ j. subst (λ (l : List ℕ). getD l j 0 < 121) (sym e) (low-risen 120 (s .args .left .now) (s .args .right .now) (s .args .height .now) (s .args .i) (s .pre .1) j) in
     (omega arith, λ j. subst (λ (l : List ℕ). getD l j 0 < 140) (sym d) (omega (arith, low-risen 121 (s .args .left .now) (s .args .right .now) h (s .args .j) low j)))
 
-same-length : tie.Need-same-length
-same-length c = search needs
-
 returns : tie.Need-returns
 returns c = cc
 
 pub update-heights-spec : {M : Type 1} → statement M
-update-heights-spec =
-    tie.close
-    (tie.spec
-    update-height-requires
-    update-height-requires-2
-    update-height-requires-3
-    same-length
-    returns)
+update-heights-spec = tie.close (tie.spec update-height-requires update-height-requires-2 update-height-requires-3
+    (λ c. search needs) returns)

@@ -2,7 +2,7 @@
 use native.Mathlib.Omega.{arith}
 use mathlib.Core.Path.{sym}
 use lib.Seq.{length-take-le}
-use Rattle.avl_model.specs.Names.{names}
+use Rattle.avl_model.specs.Names.{namesIn}
 use Rattle.dirtab_add.proofs.Ways.{sought-at, name-short, found-at}
 use borrow.Author.Needs.{needs}
 use Rattle.dirtab_add.proofs.find_place.Statement.{statement}
@@ -23,9 +23,9 @@ find-spot-requires : tie.Need-find-spot-requires
 find-spot-requires c κs = let s = c .before .before .before .before .before .before .before .before .before .before .before in
     let a = s .args in (
       sought-at (a .left .now) (a .right .now) (a .tree .root) (a .tree .count) (c .before .before .before .before .before .widen .result)
-          (names (a .bytes .now) (a .start .now) (a .len .now)) (c .before .before .before .before .before .widen .ensures) (s .pre .1),
+          (namesIn (a .names .now) (a .start .now) (a .len .now)) (c .before .before .before .before .before .widen .ensures) (s .pre .1),
       name-short (a .left .now) (a .right .now) (a .tree .root) (a .tree .count) (c .before .before .before .before .before .widen .result)
-          (names (a .bytes .now) (a .start .now) (a .len .now)) (c .before .before .before .before .before .widen .ensures) (a .bytes .now) (a .entry)
+          (namesIn (a .names .now) (a .start .now) (a .len .now)) (c .before .before .before .before .before .widen .ensures) (a .names .now) (a .entry)
           (c .before .before .before .before .widen-place .result) (c .before .before .before .widen-place2 .result)
           (c .before .before .before .before .widen-place .ensures) (c .before .before .before .widen-place2 .ensures) (s .pre .0 .3),
     )
@@ -33,7 +33,7 @@ find-spot-requires c κs = let s = c .before .before .before .before .before .be
 returns : tie.Need-returns
 returns c = let a = c .before .before .before .before .before .before .before .before .before .before .before .before .args in
     found-at (a .left .now) (a .right .now) (a .tree .root) (a .tree .count) (c .before .before .before .before .before .before .widen .result)
-    (names (a .bytes .now) (a .start .now) (a .len .now)) (c .before .before .before .before .before .before .widen .ensures) (a .bytes .now) (a .entry)
+    (namesIn (a .names .now) (a .start .now) (a .len .now)) (c .before .before .before .before .before .before .widen .ensures) (a .names .now) (a .entry)
     (c .before .before .before .before .before .widen-place .result) (c .before .before .before .before .widen-place2 .result)
     (c .before .before .before .before .before .widen-place .ensures) (c .before .before .before .before .widen-place2 .ensures) (c .find-spot .ensures)
 

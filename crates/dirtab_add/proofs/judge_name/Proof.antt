@@ -1,6 +1,6 @@
 -- `judge_name` meets its contract: by where the name is found, and then by the room.
 use native.Mathlib.Omega.{arith}
-use Rattle.avl_model.specs.Names.{names, toName}
+use Rattle.avl_model.specs.Names.{namesIn, toName}
 use Rattle.dirtab_entry.specs.Entry.{nameIn}
 use Rattle.dirtab_arena.specs.Arena.{columns, arena}
 use Rattle.dirtab_arena.proofs.Fine.{fine-of}
@@ -30,7 +30,7 @@ returns c = let s = c .before .before .before .before .before .before .before .b
     let A = arena (a .tree .root) (a .tree .count) (columns (a .left .now) (a .right .now) (a .parent .now) (a .height .now) (a .start .now) (a .len .now) (a .size .now) (a .kind .now)) (a .names .now) in
     with-room A (a .entry) (s .pre)
     (spot-is A (s .pre .passes) (omega (arith, c .before .before .before .before .before .before .widen .ensures))
-    (toName (names (a .names .now) (a .start .now) (a .len .now)) (nameIn (a .names .now) (a .entry)))
+    (toName (namesIn (a .names .now) (a .start .now) (a .len .now)) (nameIn (a .names .now) (a .entry)))
     (c .before .before .before .before .before .find-place .ensures)) (c .before .before .before .spot2 .given .1)
     (c .before .before .before .before .before .before .widen .result) (c .before .before .before .before .before .before .widen .ensures)
     (c .before .has-room .ensures) (c .if1 .taken)
@@ -41,7 +41,7 @@ returns-2 c = let s = c .before .before .before .before .before .before .before 
     let A = arena (a .tree .root) (a .tree .count) (columns (a .left .now) (a .right .now) (a .parent .now) (a .height .now) (a .start .now) (a .len .now) (a .size .now) (a .kind .now)) (a .names .now) in
     same-name A (a .entry) (s .pre)
     (spot-is A (s .pre .passes) (omega (arith, c .before .before .before .before .widen .ensures))
-    (toName (names (a .names .now) (a .start .now) (a .len .now)) (nameIn (a .names .now) (a .entry))) (c .before .before .before .find-place .ensures))
+    (toName (namesIn (a .names .now) (a .start .now) (a .len .now)) (nameIn (a .names .now) (a .entry))) (c .before .before .before .find-place .ensures))
     (c .before .spot .given .1)
 
 returns-3 : tie.Need-returns-3
@@ -50,7 +50,7 @@ returns-3 c = let s = c .before .before .before .before .before .before .before 
     let A = arena (a .tree .root) (a .tree .count) (columns (a .left .now) (a .right .now) (a .parent .now) (a .height .now) (a .start .now) (a .len .now) (a .size .now) (a .kind .now)) (a .names .now) in
     no-room A (a .entry) (s .pre)
     (spot-is A (s .pre .passes) (omega (arith, c .before .before .before .before .before .before .widen .ensures))
-    (toName (names (a .names .now) (a .start .now) (a .len .now)) (nameIn (a .names .now) (a .entry)))
+    (toName (namesIn (a .names .now) (a .start .now) (a .len .now)) (nameIn (a .names .now) (a .entry)))
     (c .before .before .before .before .before .find-place .ensures)) (c .before .before .before .spot2 .given .1)
     (c .before .before .before .before .before .before .widen .result) (c .before .before .before .before .before .before .widen .ensures)
     (c .before .has-room .ensures) (c .if1 .left)

@@ -2,7 +2,7 @@
 use Prim.Native.Nat.{_-_}
 use mathlib.Core.Path.{sym}
 use borrow.Author.Needs.{needs}
-use Rattle.avl_model.specs.Names.{names}
+use Rattle.avl_model.specs.Names.{namesIn}
 use Rattle.avl_keyed.proofs.Turn.{never-both}
 use Rattle.dirtab_grow.proofs.Rightmost.{compared}
 use Rattle.dirtab_grow.proofs.comes_after.Statement.{statement}
@@ -15,7 +15,10 @@ name-of-requires-2 : tie.Need-name-of-requires-2
 name-of-requires-2 c κs = c .before .before .has-name2 .ensures (c .before .if2 .taken)
 
 returns : tie.Need-returns
-returns c = λ e. let s = c .before .before .before .before .before .before .before .before .before .before .before .before in compared (names (s .args .bytes .now) (s .args .start .now) (s .args .len .now)) (s .args .at) (s .args .at - 1) (c .before .before .before .before .name-of .ensures) (c .before .before .before .name-of2 .ensures) (c .before .before .compare .ensures) (c .enum-told .given .1)
+returns c = λ e. let s = c .before .before .before .before .before .before .before .before .before .before .before .before in
+    compared (namesIn (s .args .names .now) (s .args .start .now) (s .args .len .now)) (s .args .at) (s .args .at - 1)
+    (c .before .before .before .before .name-of .ensures) (c .before .before .before .name-of2 .ensures) (c .before .before .compare .ensures)
+    (c .enum-told .given .1)
 
 returns-2 : tie.Need-returns-2
 returns-2 c = λ e. never-both (sym e)

@@ -11,58 +11,41 @@ use Rattle.dirtab_write.proofs.Turns.{taken-start, taken-free, never-ov
 use borrow.Author.Needs.{needs}
 use Rattle.dirtab_write.proofs.put_node.Statement.{statement}
 use Rattle.dirtab_write.proofs.put_node.Tie as tie
-use Rattle.dirtab_write.proofs.put_node.Reads as reads
-use Rattle.dirtab_write.proofs.put_node.Lts as lts
-use Rattle.dirtab_place.proofs.stored_at.Reads as stored-at-reads
-use Rattle.dirtab_write.proofs.put_item.Reads as put-item-reads
-use Rattle.dirtab_write.proofs.widen.Reads as widen-reads
-use Rattle.layout_sector.proofs.SectorCounter.take.Reads as take-reads
-
-widen-requires : tie.Need-widen-requires
-widen-requires c κs = search needs
 
 stored-at-requires : tie.Need-stored-at-requires
-stored-at-requires c κs = let z = c .before .before .before .before .before .before .before .before .before .before in let a = z .args in headed-at (cols (a .left .now) (a .right .now) (a .place .now) (a .start .now) (a .len .now) (a .size .now) (a .kind .now) (a .names .now)) (length (a .out .now)) (a .number) (c .widen .result) (z .pre .0) (c .widen .ensures .0) .sized
-
-cast-take : tie.Need-cast-take
-cast-take c = search needs
-
-take-requires : tie.Need-take-requires
-take-requires c κs = search needs
-
-enum-known-sector : tie.Need-enum-known-sector
-enum-known-sector c = search needs
-
-put-item-requires : tie.Need-put-item-requires
-put-item-requires c κs = search needs
-
-enum-told : tie.Need-enum-told
-enum-told c = search needs
-
-same-length : tie.Need-same-length
-same-length c = search needs
+stored-at-requires c κs =
+    let z = c .before .before .before .before .before .before .before .before .before .before in
+    let a = z .args in
+    headed-at (cols (a .left .now) (a .right .now) (a .place .now) (a .start .now) (a .len .now) (a .size .now) (a .kind .now) (a .names .now))
+    (length (a .out .now)) (a .number) (c .widen .result) (z .pre .0) (c .widen .ensures .0) .sized
 
 returns : tie.Need-returns
-returns c = let z = c .before .before .before .before .before .before .before .before .before .before .before .before .before .before .before .before .before .before .before in let a = z .args in let m = c .before .before .before .before .before in let w = c .before .before .before .before .before .before .before .before .before .widen in let b = c .before .before .before .before .before .before .before .before .stored-at in let k = c .before .before .before .before .before .before .before .take in let p = c .before .before in (
-  taken-free (a .size .now) (a .kind .now) (a .counter .next .0) (a .number) (w .result) (b .result) (k .result) (w .ensures .0) (b .ensures) (k .ensures) _ _ (m .sector .given .1),
-  p .put-item .ensures ∙ ap (λ (s : ℕ). putAt (a .out .now) (4 * getD (a .place .now) (a .number) 0) (stored (itemBy (cols (a .left .now) (a .right .now) (a .place .now) (a .start .now) (a .len .now) (a .size .now) (a .kind .now) (a .names .now)) s (a .number)))) (taken-start (a .size .now) (a .kind .now) (a .counter .next .0) (a .number) (w .result) (b .result) (k .result) (w .ensures .0) (b .ensures) (k .ensures) _ _ (m .sector .given .1)),
-)
+returns c =
+    let z = c .before .before .before .before .before .before .before .before .before .before .before .before .before .before .before .before .before .before
+    .before in
+    let a = z .args in
+    let m = c .before .before .before .before .before in
+    let w = c .before .before .before .before .before .before .before .before .before .widen in
+    let b = c .before .before .before .before .before .before .before .before .stored-at in
+    let k = c .before .before .before .before .before .before .before .take in
+    let p = c .before .before in (
+      taken-free (a .size .now) (a .kind .now) (a .counter .next .0) (a .number) (w .result) (b .result) (k .result) (w .ensures .0) (b .ensures) (k .ensures) _ _ (m .sector .given .1),
+      p .put-item .ensures ∙ ap
+          (λ (s : ℕ). putAt (a .out .now) (4 * getD (a .place .now) (a .number) 0)
+          (stored (itemBy (cols (a .left .now) (a .right .now) (a .place .now) (a .start .now) (a .len .now) (a .size .now) (a .kind .now) (a .names .now)) s
+          (a .number)))) (taken-start (a .size .now) (a .kind .now) (a .counter .next .0) (a .number) (w .result) (b .result) (k .result) (w .ensures .0)
+          (b .ensures) (k .ensures) _ _ (m .sector .given .1)),
+    )
 
 returns-2 : tie.Need-returns-2
-returns-2 c = let z = c .before .before .before .before .before .before .before .before .before .before .before .before .before .before in let a = z .args in let w = c .before .before .before .before .widen in let b = c .before .before .before .stored-at in let k = c .before .before .take in
+returns-2 c =
+    let z = c .before .before .before .before .before .before .before .before .before .before .before .before .before .before in
+    let a = z .args in
+    let w = c .before .before .before .before .widen in
+    let b = c .before .before .before .stored-at in
+    let k = c .before .before .take in
     absurd (never-over (a .size .now) (a .kind .now) (a .counter .next .0) (a .number) (w .result) (b .result) (k .result) (w .ensures .0) (b .ensures) (k .ensures) (z .pre .1) (c .enum-told .given .1))
 
 pub put-node-spec : {M : Type 1} → statement M
-put-node-spec =
-    tie.close
-    (tie.spec
-    widen-requires
-    stored-at-requires
-    cast-take
-    take-requires
-    enum-known-sector
-    put-item-requires
-    enum-told
-    same-length
-    returns
-    returns-2)
+put-node-spec = tie.close (tie.spec (λ c κs. search needs) stored-at-requires (λ c. search needs) (λ c κs. search needs)
+    (λ c. search needs) (λ c κs. search needs) (λ c. search needs) (λ c. search needs) returns returns-2)

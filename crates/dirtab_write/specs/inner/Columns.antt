@@ -11,7 +11,7 @@ use Rattle.layout_node.specs.declared.Header.{Header}
 use Rattle.layout_sector.specs.Counter.{alignedUp}
 use Rattle.dirtab_entry.specs.Entry.{kindFor}
 use Rattle.avl_model.specs.Tree.{none}
-use Rattle.avl_model.specs.Names.{names, nameAt}
+use Rattle.avl_model.specs.Names.{namesIn, nameAt}
 use Rattle.avl_model.specs.inner.Names.{Inside}
 use Rattle.table_model.specs.Entry.{Entry, Item, attributes}
 use Rattle.table_model.specs.inner.Writing.{stored, Spaced}
@@ -35,7 +35,7 @@ cols l r p a n z k b = record { left = l; right = r; place = p; start = a; len =
 -- entry i, as a table has it
 abbrev pub entryBy : Cols → ℕ → Entry
 entryBy c i = record {
-  name = nameAt (names (c .bytes) (c .start) (c .len)) i;
+  name = nameAt (namesIn (c .bytes) (c .start) (c .len)) i;
   kind =
       kindFor (getD (c .kind) i 0);
   size = sizeIn (c .size) (c .kind) i;
@@ -92,7 +92,7 @@ pub record Headed (left right place size kind : List ℕ) (i : ℕ) : Type 0 whe
 pub record Numbered (c : Cols) (m i : ℕ) : Type 0 where
   pub headed : Headed (c .left) (c .right) (c .place) (c .size) (c .kind) i
   pub in-place : i < length (c .place)
-  pub inside : Inside (names (c .bytes) (c .start) (c .len)) i
+  pub inside : Inside (namesIn (c .bytes) (c .start) (c .len)) i
   pub short : getD (c .len) i 0 ≤ 255
   pub fits : 4 * getD (c .place) i 0 + 14 + getD (c .len) i 0 ≤ m
 

@@ -9,9 +9,6 @@ returns : tie.Need-returns
 unfolding raised
 returns c = simp (lt-leb _ _ (c .if1 .taken))
 
-sub-result : tie.Need-sub-result
-sub-result c = search needs
-
 returns-2 : tie.Need-returns-2
 unfolding raised
 returns-2 c = simp (le-leb _ _ (c .before .if1 .left), le-leb _ _ (c .if2 .taken))
@@ -21,4 +18,4 @@ unfolding raised
 returns-3 c = simp (le-leb _ _ (c .before .if1 .left), lt-leb _ _ (c .if2 .left))
 
 pub raise-spec : {M : Type 1} → statement M
-raise-spec = tie.close (tie.spec returns sub-result returns-2 returns-3)
+raise-spec = tie.close (tie.spec returns (λ c. search needs) returns-2 returns-3)

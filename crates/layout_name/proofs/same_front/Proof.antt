@@ -8,9 +8,6 @@ use Rattle.layout_name.specs.Order.{nameOrder}
 use Rattle.layout_name.proofs.Front.{four}
 use Rattle.layout_name.proofs.same_front.Statement.{statement}
 use Rattle.layout_name.proofs.same_front.Tie as tie
-use Rattle.layout_name.proofs.same_front.Reads as reads
-use Rattle.layout_name.proofs.same_front.Lts as lts
-use Rattle.layout_name.proofs.same_four.Reads as same-four-reads
 
 abbrev Inv-loop : tie.InvT-loop
 Inv-loop a b n i₀ i = (i ≤ n) × (n ≡ min (length a) (length b)) × (nameOrder a b ≡ nameOrder (drop i a) (drop i b))
@@ -18,23 +15,8 @@ Inv-loop a b n i₀ i = (i ≤ n) × (n ≡ min (length a) (length b)) × (nameO
 abbrev μ-loop : tie.MeasureT-loop
 μ-loop a b n i₀ i = n - i
 
-shorter-requires : tie.Need-shorter-requires Inv-loop μ-loop
-shorter-requires c κs = search needs
-
 loop-holds : tie.Need-loop-holds Inv-loop μ-loop
 loop-holds c = (omega arith, search needs, refl)
-
-sub-loop : tie.Need-sub-loop Inv-loop μ-loop
-sub-loop c = search needs
-
-same-four-requires : tie.Need-same-four-requires Inv-loop μ-loop
-same-four-requires c κs = search needs
-
-add-i : tie.Need-add-i Inv-loop μ-loop
-add-i c = search needs
-
-loop-less : tie.Need-loop-less Inv-loop μ-loop
-loop-less c = search needs
 
 loop-again : tie.Need-loop-again Inv-loop μ-loop
 loop-again c = (search needs, search needs, search four)
@@ -46,17 +28,5 @@ returns-2 : tie.Need-returns-2 Inv-loop μ-loop
 returns-2 c = (omega arith, omega arith, search needs)
 
 pub same-front-spec : {M : Type 1} → statement M
-same-front-spec =
-    tie.close
-    (tie.spec
-    Inv-loop
-    μ-loop
-    shorter-requires
-    loop-holds
-    sub-loop
-    same-four-requires
-    add-i
-    loop-less
-    loop-again
-    returns
-    returns-2)
+same-front-spec = tie.close (tie.spec Inv-loop μ-loop (λ c κs. search needs) loop-holds (λ c. search needs)
+    (λ c κs. search needs) (λ c. search needs) (λ c. search needs) loop-again returns returns-2)

@@ -16,38 +16,9 @@ abbrev μ-loop : tie.MeasureT-loop
 loop-holds : tie.Need-loop-holds Inv-loop μ-loop
 loop-holds c = (search needs, search needs, refl, none-yet _ _)
 
-mul-longs : tie.Need-mul-longs Inv-loop μ-loop
-mul-longs c = search needs
-
-slice-write-longs : tie.Need-slice-write-longs Inv-loop μ-loop
-slice-write-longs c = search needs
-
-add-i : tie.Need-add-i Inv-loop μ-loop
-add-i c = search needs
-
-loop-less : tie.Need-loop-less Inv-loop μ-loop
-loop-less c = search needs
-
 loop-again : tie.Need-loop-again Inv-loop μ-loop
 loop-again c = (search needs, search needs, simp length-set (search needs), search one-more)
 
-same-length : tie.Need-same-length Inv-loop μ-loop
-same-length c = search needs
-
-returns : tie.Need-returns Inv-loop μ-loop
-returns c = search all-zero
-
 pub clear-longs-spec : {M : Type 1} → statement M
-clear-longs-spec =
-    tie.close
-    (tie.spec
-    Inv-loop
-    μ-loop
-    loop-holds
-    mul-longs
-    slice-write-longs
-    add-i
-    loop-less
-    loop-again
-    same-length
-    returns)
+clear-longs-spec = tie.close (tie.spec Inv-loop μ-loop loop-holds (λ c. search needs) (λ c. search needs)
+    (λ c. search needs) (λ c. search needs) loop-again (λ c. search needs) (λ c. search all-zero))

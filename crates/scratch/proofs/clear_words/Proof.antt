@@ -4,14 +4,5 @@ use Rattle.scratch.proofs.Zeros.{whole}
 use Rattle.scratch.proofs.clear_words.Statement.{statement}
 use Rattle.scratch.proofs.clear_words.Tie as tie
 
-clear-from-requires : tie.Need-clear-from-requires
-clear-from-requires c κs = search needs
-
-same-length : tie.Need-same-length
-same-length c = search needs
-
-returns : tie.Need-returns
-returns c = search whole
-
 pub clear-words-spec : {M : Type 1} → statement M
-clear-words-spec = tie.close (tie.spec clear-from-requires same-length returns)
+clear-words-spec = tie.close (tie.spec (λ c κs. search needs) (λ c. search needs) (λ c. search whole))

@@ -18,12 +18,6 @@ use Rattle.strict.proofs.Moved.{runs-moved}
 use borrow.Author.Needs.{needs}
 use Rattle.strict.proofs.check_table.Statement.{statement}
 use Rattle.strict.proofs.check_table.Tie as tie
-use Rattle.strict.proofs.check_table.Reads as reads
-use Rattle.strict.proofs.check_table.Lts as lts
-use Rattle.read_entry.proofs.part_of.Reads as part-of-reads
-use Rattle.strict.proofs.kept.Reads as kept-reads
-use Rattle.strict.proofs.run_sized.Reads as run-sized-reads
-use Rattle.units.proofs.Sector.new.Reads as new-reads
 
 -- the list, its kept part and zeros past it, is what the contract says
 cleared-list : (x : Told (List ℕ)) (r : Checked) (l : List ℕ) → Runs x r l → take (keptOf r) l ++ replicate (length l - keptOf r) 0 ≡ listed x (length l)
@@ -64,47 +58,8 @@ within x r l s n e = rw e (s .within)
 returns : tie.Need-returns
 returns c = no-room _ _ _ _ _ (search needs)
 
-clear-words-requires : tie.Need-clear-words-requires
-clear-words-requires c κs = search needs
-
-clear-longs-requires : tie.Need-clear-longs-requires
-clear-longs-requires c κs = search needs
-
-same-length : tie.Need-same-length
-same-length c = search needs
-
-same-length-2 : tie.Need-same-length-2
-same-length-2 c = search needs
-
 returns-2 : tie.Need-returns-2
 returns-2 c = empty _ _ _ _ _ (search needs) (search needs) _ _ (c .before .before .before .before .before .before .clear-words .ensures) (c .before .before .clear-longs .ensures)
-
-part-of-requires : tie.Need-part-of-requires
-part-of-requires c κs = search needs
-
-new-requires : tie.Need-new-requires
-new-requires c κs = search needs
-
-new-requires-2 : tie.Need-new-requires-2
-new-requires-2 c κs = search needs
-
-run-sized-requires : tie.Need-run-sized-requires
-run-sized-requires c κs = search needs
-
-kept-requires : tie.Need-kept-requires
-kept-requires c κs = search needs
-
-clear-from-requires : tie.Need-clear-from-requires
-clear-from-requires c κs = search within
-
-clear-longs-requires-2 : tie.Need-clear-longs-requires-2
-clear-longs-requires-2 c κs = search needs
-
-same-length-3 : tie.Need-same-length-3
-same-length-3 c = search needs
-
-same-length-4 : tie.Need-same-length-4
-same-length-4 c = search needs
 
 returns-3 : tie.Need-returns-3
 returns-3 c = let c4 = c .before .before in
@@ -117,22 +72,7 @@ returns-3 c = let c4 = c .before .before in
     (cr .run-sized .kept .1 .1 .1 .0) (cr .run-sized .kept .1 .1 .1 .1 .0) _ _ (c3 .clear-from .ensures) (c4 .clear-longs2 .ensures)
 
 pub check-table-spec : {M : Type 1} → statement M
-check-table-spec =
-    tie.close
-    (tie.spec
-    returns
-    clear-words-requires
-    clear-longs-requires
-    same-length
-    same-length-2
-    returns-2
-    part-of-requires
-    new-requires
-    new-requires-2
-    run-sized-requires
-    kept-requires
-    clear-from-requires
-    clear-longs-requires-2
-    same-length-3
-    same-length-4
-    returns-3)
+check-table-spec = tie.close (tie.spec returns (λ c κs. search needs) (λ c κs. search needs) (λ c. search needs)
+    (λ c. search needs) returns-2 (λ c κs. search needs) (λ c κs. search needs) (λ c κs. search needs)
+    (λ c κs. search needs) (λ c κs. search needs) (λ c κs. search within) (λ c κs. search needs) (λ c. search needs)
+    (λ c. search needs) returns-3)

@@ -3,32 +3,7 @@ use Rattle.strict.proofs.Names.{no-over, over-is}
 use borrow.Author.Needs.{needs}
 use Rattle.strict.proofs.is_over.Statement.{statement}
 use Rattle.strict.proofs.is_over.Tie as tie
-use Rattle.strict.proofs.is_over.Reads as reads
-use Rattle.strict.proofs.is_over.Lts as lts
-use Rattle.strict.proofs.is_less.Reads as is-less-reads
-use Rattle.strict.proofs.name_at.Reads as name-at-reads
-use Rattle.units.proofs.Link.number.Reads as number-reads
-use Rattle.units.proofs.Link.offset.Reads as offset-reads
-
-number-requires : tie.Need-number-requires
-number-requires c κs = search needs
-
-returns : tie.Need-returns
-returns c = search no-over
-
-offset-requires : tie.Need-offset-requires
-offset-requires c κs = search needs
-
-name-at-requires : tie.Need-name-at-requires
-name-at-requires c κs = search needs
-
-is-less-requires : tie.Need-is-less-requires
-is-less-requires c κs = search needs
-
-returns-2 : tie.Need-returns-2
-returns-2 c = search over-is
 
 pub is-over-spec : {M : Type 1} → statement M
-is-over-spec =
-    tie.close
-    (tie.spec number-requires returns offset-requires name-at-requires is-less-requires returns-2)
+is-over-spec = tie.close (tie.spec (λ c κs. search needs) (λ c. search no-over) (λ c κs. search needs)
+    (λ c κs. search needs) (λ c κs. search needs) (λ c. search over-is))
