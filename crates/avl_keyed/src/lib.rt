@@ -102,7 +102,8 @@ pub fn seek(
 ) -> Spot
     requires { ⌜ KeySought (now left) (now right) (now key) root (namesIn (now names) (now start) (now len)) ⌝ }
     requires { ⌜ k ≡ keyFor (now name) ⌝ }
-    ensures { λ s. ⌜ ((w : KeySought (was left) (was right) (was key) root (namesIn (was names) (was start) (was len))) →
+    ensures { λ s. ⌜
+        ((w : KeySought (was left) (was right) (was key) root (namesIn (was names) (was start) (was len))) →
         s ≡ spotIn (toName (namesIn (was names) (was start) (was len)) (was name)) (w .linked .t) Root) ⌝ }
 {
     let mut at = root;
