@@ -1,24 +1,17 @@
--- What an entry that adding takes is like, and an output that stands in a window. Assumes nothing.
+-- What an entry that adding takes is like, and an output that a table fits. Assumes nothing.
 use Prim.Native.Nat.{ℕ, _+_, _*_, _/_, _≤_, _<_}
 use mathlib.Core.Path.{_≡_, refl, sym, ap, _∙_}
 use mathlib.Core.Bool.{Bool, true, false}
 use mathlib.Core.List.{List, [], _++_, append-assoc}
 use native.Mathlib.Omega.{arith}
 use lib.Dec.{ltb, leb, eqb}
-use lib.ListN.{length, take, drop, length-take, take-append-drop}
-use lib.Seq.{take-at}
+use lib.ListN.{length, take, drop, length-take}
 use borrow.Author.Tests.{ltb-false}
 use Rattle.units.specs.Told.{Told, gives, refuses, pick}
 use Rattle.units.specs.declared.Sector.{Sector}
 use Rattle.dirtab_entry.specs.declared.Entry.{Entry}
 use Rattle.dirtab_entry.specs.Entry.{isDirectory, rounded, storedSize, anyBad, nameIn, checkOf}
-use Rattle.avl_model.specs.Tree.{Tree}
-use Rattle.avl_model.specs.Laws.{All}
-use Rattle.table_model.specs.Entry as table
-use Rattle.table_model.specs.Table.{Placing, tableBytes, placeOf}
-use Rattle.table_model.specs.Said.{Fits}
-use Rattle.table_model.proofs.Bytes.{table-length}
-use Rattle.table_model.proofs.Placing.{size-given}
+use Rattle.table_model.specs.Table.{Placing}
 use Rattle.agree.specs.Written.{Stand}
 use Rattle.agree.specs.Given.{largestDirectory}
 use Rattle.agree.proofs.FromList.{stored-small}
@@ -50,26 +43,6 @@ module _ (bytes : List ℕ) (e : Entry) (taken : checkOf bytes e ≡ gives tt) w
   -- and its size fits as it is stored
   pub size-small : e .size ≤ 4294967295 → storedSize (e .kind) (e .size) ≤ 4294967295
   size-small h = stored-small (e .kind) (e .size) h (where-directory (isDirectory (e .kind)) (e .size) (parts .1))
-
--- bytes that stand in a window, written otherwise
-unfoldable pub stand-as : (w : List ℕ) (first sector : Sector) (a b : List ℕ) → a ≡ b → Stand w first sector a → Stand w first sector b
-stand-as w first sector a b e g = record { place = g .place; at-sector = g .at-sector; rest = g .rest; here = g .here ∙ ap (λ (z : List ℕ). z ++ g .rest) e }
-
--- where all of them stand, so do the first n
-pub first-stand : (w : List ℕ) (first sector : Sector) (n : ℕ) (all : List ℕ) → Stand w first sector all → Stand w first sector (take n all)
-first-stand w first sector n all g = record {
-  place = g .place;
-  at-sector = g .at-sector;
-  rest = drop n all ++ g .rest;
-  here = g .here ∙ ap (λ (z : List ℕ). z ++ g .rest) (sym (take-append-drop n all)) ∙ append-assoc (take n all) (drop n all) (g .rest);
-}
-
--- an output that begins with a table: its bytes up to the table's size, rounded, are the table
-pub table-first : (entry : ℕ → table.Entry) (s : ℕ) (x : Tree) (p : Placing) → All (λ i. Fits (entry i)) x → placeOf entry 1 s x ≡ gives p
-    → (all rest : List ℕ) → all ≡ tableBytes entry 1 s x ++ rest → take (rounded (p .size)) all ≡ tableBytes entry 1 s x
-table-first entry s x p fits placed all rest e =
-    ap (take (rounded (p .size))) e
-    ∙ take-at (tableBytes entry 1 s x) rest (rounded (p .size)) (table-length entry 1 x s fits ∙ ap rounded (sym (size-given entry 1 s x p placed)))
 
 -- what fits an output was placed: a given placing goes on where its rounded size fits, and is 9 where it does not
 pub fits-gives : (if-fits : ℕ → Told Placing → Told Placing) → ((n : ℕ) (q : Placing) → if-fits n (gives q) ≡ pick (leb (rounded (q .size)) n) (gives q) (refuses 9 []))

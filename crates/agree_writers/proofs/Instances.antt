@@ -25,7 +25,7 @@ use Rattle.dirtab_list.specs.Whole as whole
 use Rattle.dirtab_list.specs.Whole.{Listing, listing, givenIn, wholeOf}
 use Rattle.agree.specs.Agreement.{Same}
 use Rattle.agree_writers.specs.Wrote.{WroteList, WroteArena, Taken}
-use Rattle.agree_writers.proofs.Checks.{first-stand}
+use Rattle.agree_writers.proofs.Stands.{first-stand}
 
 -- the list in columns: names in three bytes, and kinds 0, files
 abbrev abc : Listing

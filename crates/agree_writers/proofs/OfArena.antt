@@ -38,7 +38,8 @@ use Rattle.agree.proofs.Agrees as agrees
 use Rattle.agree.proofs.FromList.{times-order}
 use Rattle.agree_strict.proofs.Passes.{written-passes}
 use Rattle.agree_writers.specs.Wrote.{WroteArena}
-use Rattle.agree_writers.proofs.Checks.{name-short, size-small, stand-as, table-first, fits-gives}
+use Rattle.agree_writers.proofs.Checks.{name-short, size-small, fits-gives}
+use Rattle.agree_writers.proofs.Stands.{stand-as, table-first}
 
 given-is : (a : Told (Unit {0})) → isGiven a ≡ true → a ≡ gives tt
 given-is (gives u) e = refl

@@ -45,7 +45,8 @@ use Rattle.agree.proofs.Agrees as agrees
 use Rattle.agree.proofs.FromList.{grown-below, grown-avl, grown-size, grown-each}
 use Rattle.agree_strict.proofs.Passes.{written-passes}
 use Rattle.agree_writers.specs.Wrote.{WroteList, Taken}
-use Rattle.agree_writers.proofs.Checks.{name-short, size-small, stand-as, table-first, fits-gives}
+use Rattle.agree_writers.proofs.Checks.{name-short, size-small, fits-gives}
+use Rattle.agree_writers.proofs.Stands.{stand-as, table-first}
 
 -- one entry of a growing tree: it is taken, its name is free, there is room, and what follows gives
 took : (i : ℕ) (c : Told (Unit {0})) (q : Spot) (b : Bool) (x : Told Tree) (u : Tree) → ifTaken i c (ifFree i q (pick b x (refuses 6 (i ∷ [])))) ≡ gives u
