@@ -42,12 +42,12 @@ frame-grown S T N n t e f g = record {
   low = g .low;
 }
 
-abbrev namesIn : Listing → Names
-namesIn L = namesIn (L .bytes) (L .start) (L .len)
+abbrev namesFor : Listing → Names
+namesFor L = namesIn (L .bytes) (L .start) (L .len)
 
 module _ (S : Lists) (K : List ℕ) (L : Listing) (i end : ℕ) (end-is : end ≡ i + 1) (wide : Wide S K i) where
   abbrev N : Names
-  N = namesIn L
+  N = namesFor L
 
   abbrev front : Lists
   front = lists (S .root) (take end (S .L)) (take end (S .R)) (take end (S .P)) (take end (S .H))

@@ -23,6 +23,7 @@ use Rattle.read_entry.specs.declared.Read.the-variants as read
 use Rattle.read_entry.specs.Entry.{Placed, readAt, nameOf}
 use Rattle.read_entry.specs.Links.{isIn}
 use Rattle.read_entry.specs.Entry as entry-said
+use Rattle.read_entry.proofs.Located.{read-by-tests}
 use Rattle.read_walk.specs.Walk.{before, counted}
 use Rattle.read_walk.specs.inner.Run.{stackOf}
 use Rattle.read_walk.proofs.Stack.{stack-pop}
@@ -146,8 +147,7 @@ module _ (w : List ℕ) (first : Sector) (t : Region) (x : Told (List ℕ)) (roo
 
       -- an entry is read inside the table
       in-table : (h : Header) (at : ℕ) → r ≡ read.Entry h at → 4 * (c % 65536) < t .size
-      unfolding readAt
-      in-table h at e = read-by (t .size) (4 * (c % 65536)) _ _ (leb (t .size) (4 * (c % 65536))) refl (found ∙ ap entry-said.told e)
+      in-table h at e = read-by (t .size) (4 * (c % 65536)) _ _ (leb (t .size) (4 * (c % 65536))) refl (sym (read-by-tests w first t (4 * (c % 65536))) ∙ (found ∙ ap entry-said.told e))
 
       -- so the map has what judging it asks for
       pub judgeable : (h : Header) (at : ℕ) → r ≡ read.Entry h at → Covers (t .size) (length units) × (c % 65536 < length units)
