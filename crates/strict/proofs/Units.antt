@@ -38,7 +38,7 @@ module _ (f : ℕ → Told (Option Placed)) where
   unfolding apart
   apart-part o e p q [] a b h = refl
   apart-part o e p q (x ∷ xs) a b h =
-      let c : clear f p q x ≡ true = is-clear p q x (⊎-elim (λ (l : e ≤ x). inl (omega arith)) (λ (l : endBy (f x) x ≤ o). inr (omega arith)) (clear-says o e x (both-first (clear f o e x) (apart f o e xs) h))) in
+      let c : clear f p q x ≡ true = is-clear f p q x (⊎-elim (λ (l : e ≤ x). inl (omega arith)) (λ (l : endBy (f x) x ≤ o). inr (omega arith)) (clear-says f o e x (both-first (clear f o e x) (apart f o e xs) h))) in
       ap₂ both c (apart-part o e p q xs a b (both-second (clear f o e x) (apart f o e xs) h))
 
   pub apart-snoc : (o e x : ℕ) (xs : List ℕ) → apart f o e (xs ++ (x ∷ [])) ≡ both (apart f o e xs) (clear f o e x)
@@ -71,16 +71,16 @@ module _ (f : ℕ → Told (Option Placed)) where
     looked-apart [] whole says = refl
     looked-apart (x ∷ xs) whole says =
         ap₂ both
-        (one (whole x (List·Memᴰ·head refl)) (λ u l. clear-says (4 * u) (4 * u + 4) x (both-first (clear f (4 * u) (4 * u + 4) x) (apart f (4 * u) (4 * u + 4) xs) (says u l))))
+        (one (whole x (List·Memᴰ·head refl)) (λ u l. clear-says f (4 * u) (4 * u + 4) x (both-first (clear f (4 * u) (4 * u + 4) x) (apart f (4 * u) (4 * u + 4) xs) (says u l))))
         (looked-apart xs (λ y m. whole y (List·Memᴰ·tail m)) (λ u l. both-second (clear f (4 * u) (4 * u + 4) x) (apart f (4 * u) (4 * u + 4) xs) (says u l)))
       where
         one : Whole f x → ((u : ℕ) → Looked k t u → (4 * u + 4 ≤ x) ⊎ (endBy (f x) x ≤ 4 * u)) → clear f (4 * k) (4 * t) x ≡ true
         one w at = ⊎-elim
             (λ (l : x < 4 * t). ⊎-elim
             (λ (m : 4 * k < endBy (f x) x). absurd (stands-on x (w .from) (w .to) (w .starts) (w .ends) (w .long) (omega (arith, w .starts)) (omega (arith, w .ends)) at))
-            (λ (m : endBy (f x) x ≤ 4 * k). is-clear (4 * k) (4 * t) x (inr m))
+            (λ (m : endBy (f x) x ≤ 4 * k). is-clear f (4 * k) (4 * t) x (inr m))
             (below-or-not (4 * k) (endBy (f x) x)))
-            (λ (l : 4 * t ≤ x). is-clear (4 * k) (4 * t) x (inl l))
+            (λ (l : 4 * t ≤ x). is-clear f (4 * k) (4 * t) x (inl l))
             (below-or-not x (4 * t))
 
     -- the test of a run of units of the map

@@ -14,7 +14,7 @@ use Rattle.strict_rule.specs.declared.Checked.the-variants as checked
 use Rattle.strict_rule.specs.Strict.{root, strictOf, told, strictAnswer, listAfter, scratchAfter}
 use Rattle.strict.specs.inner.Run.{keptOf, Runs}
 use Rattle.strict.proofs.Turn.{checkOn, countOf, kept-told}
-use Rattle.strict_rule.proofs.Moved.{runs-moved}
+use Rattle.strict.proofs.Moved.{runs-moved}
 use borrow.Author.Needs.{needs}
 use Rattle.strict.proofs.check_table.Statement.{statement}
 use Rattle.strict.proofs.check_table.Tie as tie
