@@ -13,6 +13,7 @@ use Rattle.units.specs.Told.{Told, gives, refuses, pick}
 use Rattle.avl_arena.proofs.Tested.{and-l, and-r}
 use Rattle.img_model.specs.Plan.{Plan, planOf}
 use Rattle.img.specs.Image.{Asked, Lent, byDirectory, byEntry, byNode, fits, hasRoom, requestIn, imageOf, answerOf, answerIn, columnAfter, lentAfter}
+use Rattle.agree_plan.proofs.NeverFive.{never-5}
 use Rattle.agree_causes.specs.Plans.{GivenIn}
 
 -- the least of some numbers is none the greater
@@ -73,3 +74,24 @@ pub plan-given : (A : Asked) (m : Lent) (f : ℕ) → answerIn A m ≡ gives f �
 plan-given A m f e =
     let w = of-answer (imageOf A m) f e in
     subst (GivenIn A m) (w .1 .1) (given-in A m (w .0) (w .1 .0))
+
+-- NEVER 5, whatever is asked
+of-refusal : (x : Told Plan) (k : ℕ) (vs : List ℕ) → answerOf x ≡ refuses k vs → x ≡ refuses k vs
+of-refusal (gives p) k vs e = let z : _≡_ {A = ℕ} 0 1 = cc in absurd (omega arith)
+of-refusal (refuses j us) k vs e = (λ d. refuses (number d) (numbers d))
+  where
+    number : j ≡ k
+    number = cc
+
+    numbers : us ≡ vs
+    numbers = cc
+
+not-six : (b : Bool) (x : Told Plan) (vs : List ℕ) → pick b x (refuses 6 []) ≡ refuses 5 vs → x ≡ refuses 5 vs
+not-six true x vs e = e
+not-six false x vs e = let z : _≡_ {A = ℕ} 6 5 = cc in absurd (omega arith)
+
+pub plan-never-5 : (A : Asked) (m : Lent) (vs : List ℕ) → answerIn A m ≡ refuses 5 vs → ⊥
+unfolding imageOf
+plan-never-5 A m vs e =
+    never-5 (requestIn A) (length (m .order)) (take (A .directories) (m .tables)) (take (A .entries) (m .sectors)) vs
+    (not-six (hasRoom A m) _ vs (of-refusal _ 5 vs e))

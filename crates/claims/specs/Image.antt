@@ -1,0 +1,45 @@
+-- DEMAND 3 OF A PLANNED IMAGE: every table is read as it was written, a path finds the planned entry, and nothing
+-- else is found. Said of what `plan` is proved to answer and leave. Assumes nothing.
+use Prim.Native.Nat.{ℕ, _<_}
+use mathlib.Core.Path.{_≡_}
+use mathlib.Core.List.{List}
+use Rattle.units.specs.declared.Sector.{Sector}
+use Rattle.units.specs.declared.Region.{Region}
+use Rattle.read_path.specs.Path.{pathOf}
+use Rattle.table_model.specs.Table.{tableBytes}
+use Rattle.img_model.specs.Shares.{Request, directoriesOf, countOf}
+use Rattle.img_model.specs.Plan.{entriesAt, Plan}
+use Rattle.img.specs.Image.{Asked, Lent, requestIn}
+use Rattle.agree.specs.Written.{Stand}
+use Rattle.agree_plan.specs.Planned.{treeAt, startSector, itemsAt, Disjoint, tableSector}
+use Rattle.agree_plan.specs.Runs.{runsOf, Follow, RunsApart}
+use Rattle.agree_plan.specs.Image.{rootOf, RegionFor, joined, Leads, Finds, Only, AllParts}
+use Rattle.agree_causes.specs.Plans.{GivenIn}
+use Rattle.claims.specs.Found.{Kept}
+
+-- the plan of a request, and a window in which each directory's table stands at its planned sector; no entry is in
+-- two shares
+pub record ImageRead (R : Request) (p : Plan) (w : List ℕ) (first : Sector) : Type 0 where
+  pub apart : Disjoint R
+  pub stand : (d : ℕ) → d < directoriesOf R
+      → Stand w first (record { 0 = tableSector p d })
+      (tableBytes (entriesAt R (p .sizes) d) 1 (startSector R (p .sizes) d) (treeAt R (p .sizes) d))
+
+pub record ImageFound (R : Request) (p : Plan) (f : ℕ) (w : List ℕ) (first : Sector) (g : ImageRead R p w first) :
+    Type 0 where
+  -- every table, in the root's region and in that of a directory's entry
+  pub tables : (d : ℕ) (h : d < directoriesOf R) (t : Region) → RegionFor p d t
+      → Kept w first t (g .stand d h .place) (countOf R d) (entriesAt R (p .sizes) d) (itemsAt R (p .sizes) d)
+  -- a path to a planned entry finds it, unless a link of 255 stands on the way; then 22
+  pub path : (e j : ℕ) (parts : List (List ℕ)) → Leads R p 0 parts e j
+      → Finds R p w first (rootOf p) parts e j (pathOf w first (rootOf p) (joined parts))
+  -- no path finds anything else
+  pub only : (parts : List (List ℕ)) → AllParts parts
+      → Only R p first 0 parts (pathOf w first (rootOf p) (joined parts))
+  -- all runs of sectors follow one another from 33 to the next free sector f, and no two overlap
+  pub follow : Follow 33 (runsOf R (p .sizes) (directoriesOf R)) f
+  pub runs : RunsApart (runsOf R (p .sizes) (directoriesOf R))
+
+abbrev pub ImageKept : Type 0
+ImageKept = (A : Asked) (m : Lent) (f : ℕ) (q : GivenIn A m f) (w : List ℕ) (first : Sector)
+    (g : ImageRead (requestIn A) (q .plan) w first) → ImageFound (requestIn A) (q .plan) f w first g
