@@ -4,6 +4,7 @@
 --     One         one-outcome, one-plan: a cause has one answer
 --     Bridge      plan-given, plan-never-5: from the contract of planning to a plan that is given; and never 5
 --     Along       along-found, along-lost: what a lookup answers along a way
+--     Serialised  serialised-arena: what was serialised passed the test of an arena
 --     Thin        thin-size, none-fewer: the fewest nodes of a height
 --     Links       never-linked, left-bytes: no link is 65,535, and one to 262,128 is 65,532
 mod Checks
@@ -15,5 +16,6 @@ pub mod OfPlan
 pub mod One
 pub mod Bridge
 pub mod Along
+pub mod Serialised
 pub mod Thin
 pub mod Links
