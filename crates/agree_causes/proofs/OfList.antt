@@ -15,7 +15,7 @@ use Rattle.avl_model.specs.Tree.{Tree}
 use Rattle.avl_model.specs.Laws.{All}
 use Rattle.avl_model.proofs.Avl.{all-map}
 use Rattle.table_model.specs.Entry.{Item}
-use Rattle.table_model.specs.Place.{items}
+use Rattle.table_model.specs.Place.{freeOf, items}
 use Rattle.table_model.specs.Table.{Placing, sizeOf, placeOf}
 use Rattle.table_model.specs.Said.{AllIn, LinkFits}
 use Rattle.table_model.proofs.Geometry as geometry
@@ -31,8 +31,9 @@ use Rattle.agree.specs.Given.{grown}
 use Rattle.agree.proofs.FromList.{grown-below, stored-small}
 use Rattle.agree_list.specs.InTurn.{addAll, emptyIn, thenAnswer}
 use Rattle.agree_list.proofs.Same.{same-answer}
-use Rattle.agree_causes.specs.Lists.{FairList, Enough, EnoughInTurn, treeFor, itemsFor, freeFor, TooLarge, Near, WriteOutcome, written, five, seven, eight}
+use Rattle.agree_causes.specs.Lists.{FairList, Roomy, Enough, EnoughInTurn, treeFor, itemsFor, TooLarge, Near, WriteOutcome, written, five, seven, eight}
 use Rattle.agree_causes.proofs.Checks.{name-long, size-left}
+use Rattle.agree_causes.proofs.Sectors.{free-is}
 use Rattle.agree_causes.proofs.Growing.{Grows, all, stops, grows}
 
 -- what a directory's size leaves of the check
@@ -95,33 +96,42 @@ module _ (L : Listing) (f : FairList L) where
       size-low : AllIn LinkFits (itemsFor L s) → sizeOf (entryIn L) (treeFor L) ≤ 262144
       size-low a = ltb-false 262144 _ (sym (far-is (entryIn L) 1 (treeFor L) s fits) ∙ none-far (itemsFor L s) a)
 
-      placed : (bytes : ℕ) → 262144 ≤ bytes → placing.Outcome (entryIn L) 1 s (treeFor L) → WriteOutcome L s (ifFits bytes (placeOf (entryIn L) 1 s (treeFor L)))
-      placed bytes h (placing.given a l e) =
-          let z : sizeOf (entryIn L) (treeFor L) ≤ 262144 = size-low a in
-          let k : rounded (sizeOf (entryIn L) (treeFor L)) ≤ bytes = within (sizeOf (entryIn L) (treeFor L)) bytes z h in
+      roomy : (out : List ℕ) → Roomy L out → AllIn LinkFits (itemsFor L s) → rounded (sizeOf (entryIn L) (treeFor L)) ≤ length out
+      roomy out (inl h) a = let z : sizeOf (entryIn L) (treeFor L) ≤ 262144 = size-low a in within (sizeOf (entryIn L) (treeFor L)) (length out) z h
+      roomy out (inr h) a = h
+
+      abbrev given : ℕ → Told Placing
+      given f = gives (record { size = sizeOf (entryIn L) (treeFor L); free = f })
+
+      placed : (out : List ℕ) → Roomy L out → placing.Outcome (entryIn L) 1 s (treeFor L) → WriteOutcome L s (ifFits (length out) (placeOf (entryIn L) 1 s (treeFor L)))
+      placed out h (placing.given a l e) =
           subst (WriteOutcome L s)
-          (sym (ap (ifFits bytes) e ∙ ap (λ (b : Bool). pick b (gives (record { size = sizeOf (entryIn L) (treeFor L); free = freeFor L s })) (refuses 9 [])) (le-leb _ _ k)))
-          (written none (near (itemsFor L s) a) l)
-      placed bytes h (placing.seven y m far e) = subst (WriteOutcome L s) (sym (ap (ifFits bytes) e)) (seven none y m (omega arith))
-      placed bytes h (placing.eight a over e) = subst (WriteOutcome L s) (sym (ap (ifFits bytes) e)) (eight none (near (itemsFor L s) a) over)
+          (sym (ap (ifFits (length out)) e
+          ∙ ap (λ (b : Bool). pick b (given (freeOf (entryIn L) 1 s (treeFor L))) (refuses 9 [])) (le-leb _ _ (roomy out h a))
+          ∙ ap given (free-is (entryIn L) s (L .count))))
+          (written none (near (itemsFor L s) a) (subst (λ (f : ℕ). f ≤ 4294967295) (free-is (entryIn L) s (L .count)) l))
+      placed out h (placing.seven y m far e) = subst (WriteOutcome L s) (sym (ap (ifFits (length out)) e)) (seven none y m (omega arith))
+      placed out h (placing.eight a over e) =
+          subst (WriteOutcome L s) (sym (ap (ifFits (length out)) e))
+          (eight none (near (itemsFor L s) a) (subst (λ (f : ℕ). 4294967295 < f) (free-is (entryIn L) s (L .count)) over))
 
-    after : (bytes : ℕ) → 262144 ≤ bytes → {x : Told Tree} → Grows (entryIn L) (L .count) 5 (TooLarge L) x → WriteOutcome L s (ifGrown x (λ t. ifFits bytes (placeOf (entryIn L) 1 s t)))
-    after bytes h (all none) = placed none bytes h (outcome (entryIn L) 1 s (treeFor L))
-    after bytes h (stops j k b none) = five j k b none
+    after : (out : List ℕ) → Roomy L out → {x : Told Tree} → Grows (entryIn L) (L .count) 5 (TooLarge L) x → WriteOutcome L s (ifGrown x (λ t. ifFits (length out) (placeOf (entryIn L) 1 s t)))
+    after out h (all none) = placed none out h (outcome (entryIn L) 1 s (treeFor L))
+    after out h (stops j k b none) = five j k b none
 
-    whole-outcome : (n bytes : ℕ) → hasPlaces L n ≡ true → 262144 ≤ bytes → WriteOutcome L s (wholeOf L n s bytes)
+    whole-outcome : (n : ℕ) (out : List ℕ) → hasPlaces L n ≡ true → Roomy L out → WriteOutcome L s (wholeOf L n s (length out))
     unfolding wholeOf
-    whole-outcome n bytes places h =
-        subst (λ (b : Bool). WriteOutcome L s (pick b (ifGrown (grow (L .bytes) (givenIn L) (L .count)) (λ t. ifFits bytes (placeOf (entryIn L) 1 s t))) (refuses 6 []))) (sym places)
-        (after bytes h grown-is)
+    whole-outcome n out places h =
+        subst (λ (b : Bool). WriteOutcome L s (pick b (ifGrown (grow (L .bytes) (givenIn L) (L .count)) (λ t. ifFits (length out) (placeOf (entryIn L) 1 s t))) (refuses 6 []))) (sym places)
+        (after out h grown-is)
 
     -- A LIST WRITTEN AT ONCE
     pub list-outcome : (m : Lent) → Enough L m → WriteOutcome L s (answerIn L s m)
-    list-outcome m e = whole-outcome (placesIn m) (length (m .out)) (e .places) (e .output)
+    list-outcome m e = whole-outcome (placesIn m) (m .out) (e .places) (e .output)
 
     -- ITS ENTRIES ADDED IN TURN to an arena that holds nothing, and the arena serialised
     pub turn-outcome : (c : Columns) (m : serialise.Lent) → EnoughInTurn L c m
         → WriteOutcome L s (thenAnswer (addAll (givenIn L) (L .count) 0 (emptyIn c (L .bytes))) (λ A. serialise.answerIn A s m))
     turn-outcome c m e =
         subst (WriteOutcome L s) (same-answer L (length (m .order)) (length (m .place)) (e .order) (e .place) s (L .count) (e .places) c (e .wide) (length (m .out)))
-        (whole-outcome (L .count) (length (m .out)) (e .places) (e .output))
+        (whole-outcome (L .count) (m .out) (e .places) (e .output))

@@ -12,18 +12,23 @@ use Rattle.table_model.specs.Place.{freeOf, items}
 use Rattle.table_model.specs.Table.{Placing, placeOf}
 use Rattle.table_model.proofs.Placing as placing
 use Rattle.table_model.proofs.Placing.{outcome}
-use Rattle.img_model.specs.Shares.{Request, shareOf, directoriesOf}
+use Rattle.img_model.specs.Shares.{Request, shareOf, directoriesOf, countOf}
 use Rattle.img_model.specs.Plan.{tableIn, treeIn, ifGrown, Taking, entriesAt, takingAll, ifPlaced, takingUp, withSizes}
 use Rattle.img_model.proofs.Takings.{free-taken}
 use Rattle.img.specs.Image.{answerOf}
 use Rattle.agree_causes.specs.Plans.{FairImage, TooLong, treeFor, SizesOf, freeBefore, itemsFor, Placeable, PlanOutcome, planned, seven, eight}
+use Rattle.agree_causes.specs.Lists.{sectorsOf}
+use Rattle.agree_causes.proofs.Sectors.{free-is}
 use Rattle.agree_causes.proofs.OfList.{near}
 use Rattle.agree_causes.proofs.Down.{Low, tree-given}
 
 module _ (R : Request) (f : FairImage R) (s : List ℕ) (none : (d i : ℕ) → TooLong R d i → ⊥) (low : Low s) (z : SizesOf R s) where
-  free-next : (d : ℕ) → freeBefore R s (suc d) ≡ freeOf (entriesAt R s d) 1 (freeBefore R s d) (treeFor R s d)
+  free-step : (d : ℕ) → freeBefore R s (suc d) ≡ freeBefore R s d + sectorsOf (entriesAt R s d) (countOf R d)
   unfolding freeBefore
-  free-next d = refl
+  free-step d = refl
+
+  free-next : (d : ℕ) → freeBefore R s (suc d) ≡ freeOf (entriesAt R s d) 1 (freeBefore R s d) (treeFor R s d)
+  free-next d = free-step d ∙ sym (free-is (entriesAt R s d) (freeBefore R s d) (countOf R d))
 
   abbrev Answers : Told Taking → Type 0
   Answers x = PlanOutcome R (answerOf (withSizes s x))

@@ -1,15 +1,18 @@
 -- The lists of entries that are spoken of, and what writing one answers: four answers, each with its cause, and
 -- with the earlier causes not there. Assumes nothing.
-use Prim.Native.Nat.{ℕ, _+_, _≤_, _<_}
+use Prim.Native.Nat.{ℕ, zero, suc, _+_, _≤_, _<_}
 use mathlib.Core.Path.{_≡_}
 use mathlib.Core.Bool.{true}
+use mathlib.Core.Logic.{_⊎_}
 use mathlib.Core.List.{List, [], _∷_, List·Memᴰ}
 use lib.ListN.{length, getD}
 use Rattle.units.specs.Told.{Told, gives, refuses}
+use Rattle.layout_sector.specs.Counter.{sectorsFor}
+use Rattle.dirtab_entry.specs.Entry.{rounded}
 use Rattle.avl_model.specs.Tree.{Tree}
 use Rattle.avl_model.specs.Names.{names, nameAt}
-use Rattle.table_model.specs.Entry.{Item}
-use Rattle.table_model.specs.Place.{freeOf, items}
+use Rattle.table_model.specs.Entry.{Entry, Item}
+use Rattle.table_model.specs.Place.{items}
 use Rattle.table_model.specs.Table.{Placing, sizeOf}
 use Rattle.table_model.specs.Said.{AllIn}
 use Rattle.dirtab_arena.specs.Arena.{Columns}
@@ -36,10 +39,21 @@ pub record FairList (L : Listing) : Type 0 where
   pub named : Fair (L .count) (L .start) (L .len) (L .bytes)
   pub sizes : (i : ℕ) → getD (L .size) i 0 ≤ 4294967295
 
--- ENOUGH MEMORY to write it: every column has a place for each entry, and the output has at least 262,144 bytes
+-- the tree of the list's entries, put in one after another, and its items, with sectors from s on
+abbrev pub treeFor : Listing → Tree
+treeFor L = grown (entryIn L) (L .count)
+
+abbrev pub itemsFor : Listing → ℕ → List Item
+itemsFor L s = items (entryIn L) 1 0 s (treeFor L)
+
+-- an output is long enough: it has 262,144 bytes, or as many as the table's size, rounded
+abbrev pub Roomy : Listing → List ℕ → Type 0
+Roomy L out = (262144 ≤ length out) ⊎ (rounded (sizeOf (entryIn L) (treeFor L)) ≤ length out)
+
+-- ENOUGH MEMORY to write it: every column has a place for each entry, and the output is long enough
 pub record Enough (L : Listing) (m : Lent) : Type 0 where
   pub places : hasPlaces L (placesIn m) ≡ true
-  pub output : 262144 ≤ length (m .out)
+  pub output : Roomy L (m .out)
 
 -- the same to add its entries in turn to an arena with columns c, and to serialise that
 pub record EnoughInTurn (L : Listing) (c : Columns) (m : serialise.Lent) : Type 0 where
@@ -47,18 +61,15 @@ pub record EnoughInTurn (L : Listing) (c : Columns) (m : serialise.Lent) : Type 
   pub wide : Wide (L .count) c
   pub order : L .count ≤ length (m .order)
   pub place : L .count ≤ length (m .place)
-  pub output : 262144 ≤ length (m .out)
+  pub output : Roomy L (m .out)
 
--- the tree of the list's entries, put in one after another; its items, with sectors from s on, and the next free
--- sector
-abbrev pub treeFor : Listing → Tree
-treeFor L = grown (entryIn L) (L .count)
-
-abbrev pub itemsFor : Listing → ℕ → List Item
-itemsFor L s = items (entryIn L) 1 0 s (treeFor L)
+-- the sectors that the first n entries take together, and the next free sector after all of a list's, from s on
+unfoldable pub sectorsOf : (ℕ → Entry) → ℕ → ℕ
+sectorsOf entry zero = 0
+sectorsOf entry (suc n) = sectorsOf entry n + sectorsFor (entry n .size)
 
 abbrev pub freeFor : Listing → ℕ → ℕ
-freeFor L s = freeOf (entryIn L) 1 s (treeFor L)
+freeFor L s = s + sectorsOf (entryIn L) (L .count)
 
 -- entry i is a directory whose size cannot be rounded
 pub record TooLarge (L : Listing) (i : ℕ) : Type 0 where

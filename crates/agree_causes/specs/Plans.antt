@@ -9,7 +9,7 @@ use Rattle.units.specs.Told.{Told, gives, refuses}
 use Rattle.layout_sector.specs.Counter.{sectorsFor}
 use Rattle.avl_model.specs.Tree.{Tree}
 use Rattle.table_model.specs.Entry.{Item}
-use Rattle.table_model.specs.Place.{freeOf, items}
+use Rattle.table_model.specs.Place.{items}
 use Rattle.table_model.specs.Table.{sizeOf}
 use Rattle.table_model.specs.Said.{AllIn}
 use Rattle.img_model.specs.Shares.{Request, shareOf, directoriesOf, firstOf, countOf, isDirectory, valueOf, isTree}
@@ -17,7 +17,7 @@ use Rattle.img_model.specs.Plan.{tableIn, entriesAt, Plan, total}
 use Rattle.img.specs.Image.{Asked, Lent, hasRoom, requestIn, lentAfter}
 use Rattle.agree.specs.Given.{grown}
 use Rattle.agree_plan.specs.Planned.{rootSector, Planned}
-use Rattle.agree_causes.specs.Lists.{Fair, Near, farthest, lastSector}
+use Rattle.agree_causes.specs.Lists.{Fair, sectorsOf, Near, farthest, lastSector}
 
 -- AN IMAGE: its directories are a tree, and the names of each are as those of a list that is spoken of
 pub record FairImage (R : Request) : Type 0 where
@@ -51,7 +51,7 @@ module _ (R : Request) (sizes : List ℕ) where
   -- of the directories before it
   unfoldable pub freeBefore : ℕ → ℕ
   freeBefore zero = rootSector + sectorsFor (tableIn sizes 0)
-  freeBefore (suc d) = freeOf (entriesAt R sizes d) 1 (freeBefore d) (treeFor d)
+  freeBefore (suc d) = freeBefore d + sectorsOf (entriesAt R sizes d) (countOf R d)
 
   abbrev pub itemsFor : ℕ → List Item
   itemsFor d = items (entriesAt R sizes d) 1 0 (freeBefore d) (treeFor d)

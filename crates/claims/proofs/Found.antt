@@ -1,13 +1,15 @@
 -- Demand 3 of the writers of tables: cited. Assumes nothing.
-use Prim.Native.Nat.{ℕ, _≤_}
+use Prim.Native.Nat.{ℕ, _-_, _≤_}
 use native.Mathlib.Omega.{arith}
-use mathlib.Core.Path.{_≡_, sym, ap, _∙_}
+use mathlib.Core.Path.{_≡_, sym, ap, subst, _∙_}
 use mathlib.Core.List.{List, _++_}
-use lib.ListN.{length}
+use lib.ListN.{length, replicate, length-map}
 use Rattle.units.specs.Told.{gives}
 use Rattle.units.specs.declared.Sector.{Sector}
 use Rattle.units.specs.declared.Region.{Region}
 use Rattle.read_entry.specs.Links.{lookupAbsent}
+use Rattle.read_walk.specs.Walk as walking
+use Rattle.strict_rule.specs.Strict as checking
 use Rattle.strict_rule.specs.Strict.{strictOf}
 use Rattle.table_model.specs.Entry.{Entry, Item}
 use Rattle.table_model.specs.Place.{items}
@@ -27,6 +29,7 @@ use Rattle.agree_writers.proofs.OfList.{list-agrees, list-each, list-strict}
 use Rattle.agree_writers.proofs.OfArena.{arena-agrees, arena-each, arena-strict}
 use Rattle.agree_causes.specs.Lists.{itemsFor}
 use Rattle.agree_causes.proofs.Along.{along-found, along-lost}
+use Rattle.agree_causes.proofs.Listed.{walk-lists, check-lists}
 use Rattle.agree_causes.proofs.Serialised.{serialised-arena}
 use Rattle.claims.specs.Found.{FoundUnless255, Kept, ListRead, ListKept, TurnRead, TurnKept, ArenaRead, ArenaKept}
 
@@ -42,14 +45,22 @@ module _ (w : List ℕ) (first : Sector) (t : Region) (place : ℕ) where
   -- what the agreement of a table, its entries and the strict check give
   pub kept : (n : ℕ) (entry : ℕ → Entry) (xs : List Item) → length xs ≡ n → Agreement lookupAbsent w first t place xs → EachOnce entry n xs
       → ((room : ℕ) → n ≤ room → strictOf w first t room ≡ gives (offsets xs)) → Kept w first t place n entry xs
-  kept n entry xs long a e s = record {
-    each = e;
-    listed = λ room h. a .listed room (omega arith);
-    read = λ y m. of-item (ReadBack w first t place) xs y (a .read) m;
-    found = λ y m. found-unless y (of-item (Reached lookupAbsent w first t place) xs y (a .reached) m);
-    only = a .sound;
-    accepted = s;
-  }
+  kept n entry xs long a e s =
+      let same : length (offsets xs) ≡ n = length-map xs (λ (y : Item). y .offset) ∙ long in
+      record {
+        each = e;
+        listed = λ list scratch h l.
+            subst (λ (k : ℕ). (walking.walkAnswer w first t (length list) (length scratch) ≡ gives k)
+            × (walking.listAfter w first t list (length scratch) ≡ offsets xs ++ replicate (length list - k) 0)) same
+            (walk-lists w first t list (length scratch) l (offsets xs) (a .listed (length list) (omega arith)));
+        read = λ y m. of-item (ReadBack w first t place) xs y (a .read) m;
+        found = λ y m. found-unless y (of-item (Reached lookupAbsent w first t place) xs y (a .reached) m);
+        only = a .sound;
+        accepted = λ list scratch h l.
+            subst (λ (k : ℕ). (checking.strictAnswer w first t (length list) (length scratch) ≡ gives k)
+            × (checking.listAfter w first t list (length scratch) ≡ offsets xs ++ replicate (length list - k) 0)) same
+            (check-lists w first t list (length scratch) l (offsets xs) (s (length list) h));
+      }
 
 long : (L : Listing) (s : ℕ) → length (itemsFor L s) ≡ L .count
 long L s = items-length (entryIn L) 1 (grown (entryIn L) (L .count)) 0 s ∙ grown-size (entryIn L) (L .count)

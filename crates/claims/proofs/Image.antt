@@ -7,6 +7,7 @@ use Rattle.units.specs.declared.Sector.{Sector}
 use Rattle.units.specs.declared.Region.{Region}
 use Rattle.table_model.specs.Entry.{Item}
 use Rattle.table_model.proofs.Geometry.{items-length}
+use Rattle.dirtab_list.specs.Whole as whole
 use Rattle.img_model.specs.Shares.{Request, shareOf, directoriesOf, countOf}
 use Rattle.img_model.specs.Plan.{tableIn, entriesAt, Plan}
 use Rattle.img.specs.Image.{Asked, Lent, requestIn}
@@ -18,12 +19,13 @@ use Rattle.agree_plan.proofs.Grew.{tree-size}
 use Rattle.agree_plan.proofs.Tables.{table-planned}
 use Rattle.agree_plan.proofs.Sectors.{sectors-planned}
 use Rattle.agree_plan.proofs.Follows.{runs-follow, runs-apart}
+use Rattle.agree_plan.proofs.Writes.{table-writes, table-left}
 use Rattle.agree_plan.proofs.Agrees.{table-agrees, table-passes}
 use Rattle.agree_plan.proofs.Found.{path-finds}
 use Rattle.agree_plan.proofs.Only.{path-only}
 use Rattle.agree_causes.specs.Plans.{GivenIn}
 use Rattle.claims.specs.Found.{Kept}
-use Rattle.claims.specs.Image.{ImageRead, ImageFound, ImageKept}
+use Rattle.claims.specs.Image.{ImageRead, ImageFound, ImageKept, TablesWritten}
 use Rattle.claims.proofs.Found.{kept}
 
 module _ (R : Request) (places : ℕ) (tables sectors : List ℕ) (p : Plan) (w : List ℕ) (first : Sector) (I : Imaged R places tables sectors p w first) where
@@ -54,4 +56,15 @@ image-kept A m f q w first g =
       only = path-only R places tables sectors p w first I;
       follow = subst (Follow 33 (runsOf R (p .sizes) (directoriesOf R))) (q .free) (runs-follow R places tables sectors p (q .planned));
       runs = runs-apart R places tables sectors p (q .planned);
+    }
+
+pub tables-written : TablesWritten
+tables-written A m f q d h size z k room enough =
+    let R : Request = requestIn A in
+    let p : Plan = q .plan in
+    let tables : List ℕ = take (A .directories) (m .tables) in
+    let sectors : List ℕ = take (A .entries) (m .sectors) in
+    record {
+      answer = table-writes R (length (m .order)) tables sectors p (q .planned) d h size z (whole.placesIn k) room (length (k .out)) enough;
+      output = table-left R (length (m .order)) tables sectors p (q .planned) d h size z (whole.placesIn k) room (k .out) enough;
     }

@@ -5,7 +5,7 @@ use mathlib.Core.Path.{_≡_, refl, sym, ap, _∙_}
 use mathlib.Core.Bool.{Bool, true, false}
 use mathlib.Core.List.{List, []}
 use lib.Dec.{eqb}
-use lib.ListN.{getD}
+use lib.ListN.{length, getD}
 use borrow.Author.Tests.{eqb-false}
 use Rattle.units.specs.Told.{Told, gives, refuses, pick}
 use Rattle.units.specs.declared.Sector.{Sector}
@@ -20,6 +20,7 @@ use Rattle.read_lookup.proofs.Laws.{looped-endless, looped-again, endless-loope
 use Rattle.read_lookup.proofs.Told.{told-one}
 use Rattle.strict_rule.proofs.Accepted.{accepted}
 use Rattle.strict_rule.proofs.Accepts.{accepts}
+use Rattle.agree_causes.proofs.Listed.{check-lists, check-listed}
 use Rattle.claims.specs.Reading.{Looped, LoopedExactly, Counted, StrictExactly}
 
 -- 25 is answered after 2 and 21 are not
@@ -49,4 +50,9 @@ pub counted : Counted
 counted w first t name r c n e = count-is-length lookupAbsent w first t name n (ap countOf (sym c) ∙ e)
 
 pub strict-exactly : StrictExactly
-strict-exactly w first t room xs = (accepted w first t room xs, accepts w first t room xs)
+strict-exactly w first t list scratch = record {
+  accepted = λ k e.
+      let s = check-listed w first t list (length scratch) k e in
+      (s .0, (accepted w first t (length list) (s .0) (s .1 .0) .0, s .1 .1));
+  accepts = λ xs a h l. check-lists w first t list (length scratch) l xs (accepts w first t (length list) xs a h) .0;
+}

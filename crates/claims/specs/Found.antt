@@ -1,18 +1,18 @@
 -- DEMAND 3: WHAT IS WRITTEN IS WHAT IS LISTED IS WHAT IS FOUND, of what `write_list`, adding in turn and
 -- `serialise`, and `serialise` of any arena leave. Assumes nothing.
-use Prim.Native.Nat.{ℕ, _+_, _≤_}
+use Prim.Native.Nat.{ℕ, _+_, _-_, _≤_, _<_}
 use mathlib.Core.Path.{_≡_}
 use mathlib.Core.Bool.{true, false}
-use mathlib.Core.List.{List, _∷_, [], List·Memᴰ}
-use lib.ListN.{length, getD}
+use mathlib.Core.List.{List, [], _∷_, _++_, List·Memᴰ}
+use lib.ListN.{length, getD, replicate}
 use Rattle.units.specs.Told.{gives, refuses}
 use Rattle.units.specs.declared.Sector.{Sector}
 use Rattle.units.specs.declared.Region.{Region}
 use Rattle.read_entry.specs.Entry.{readAt}
 use Rattle.read_entry.specs.Links.{lookupAbsent}
 use Rattle.read_lookup.specs.Lookup.{anyHigh, lookupOf}
-use Rattle.read_walk.specs.Walk.{walkOf}
-use Rattle.strict_rule.specs.Strict.{strictOf}
+use Rattle.read_walk.specs.Walk as walking
+use Rattle.strict_rule.specs.Strict as checking
 use Rattle.table_model.specs.Entry.{Entry, Item}
 use Rattle.table_model.specs.Place.{items}
 use Rattle.table_model.specs.Table.{Placing}
@@ -44,8 +44,11 @@ module _ (w : List ℕ) (first : Sector) (t : Region) (place : ℕ) where
   pub record Kept (n : ℕ) (entry : ℕ → Entry) (xs : List Item) : Type 0 where
     -- the items are the entries, each once
     pub each : EachOnce entry n xs
-    -- the walk lists them, where its list has n places
-    pub listed : (room : ℕ) → n ≤ room → walkOf w first t room ≡ gives (offsets xs)
+    -- the walk lists them: with n places in its list or more, and scratch that is longer than the list, it answers
+    -- n, and the list has the items' offsets in preorder, and then zeros
+    pub listed : (list scratch : List ℕ) → n ≤ length list → length list < length scratch
+        → (walking.walkAnswer w first t (length list) (length scratch) ≡ gives n)
+        × (walking.listAfter w first t list (length scratch) ≡ offsets xs ++ replicate (length list - n) 0)
     -- reading gives each back: name, size, kind, sector and links
     pub read : (y : Item) → List·Memᴰ y xs → ReadBack w first t place y
     -- lookup finds each, unless a link of 255 stands on the way
@@ -54,7 +57,9 @@ module _ (w : List ℕ) (first : Sector) (t : Region) (place : ℕ) where
     pub only : (name : List ℕ) → anyHigh name ≡ false
         → Sound lookupAbsent w first t place xs 19 name (lookupOf w first t name)
     -- the strict check accepts the table, and lists the same
-    pub accepted : (room : ℕ) → n ≤ room → strictOf w first t room ≡ gives (offsets xs)
+    pub accepted : (list scratch : List ℕ) → n ≤ length list → length list < length scratch
+        → (checking.strictAnswer w first t (length list) (length scratch) ≡ gives n)
+        × (checking.listAfter w first t list (length scratch) ≡ offsets xs ++ replicate (length list - n) 0)
 
 -- A LIST WAS WRITTEN: sizes are numbers of four bytes, as the column's type says; the answer is p, the output stands
 -- in a window at the region's sector, and the region has the size answered

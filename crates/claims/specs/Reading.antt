@@ -1,11 +1,11 @@
 -- WHAT 25, A COUNT AND THE STRICT CHECK MEAN, of what `look_up` and `check_table` are proved to answer: r is any
 -- answer that the contract allows. Assumes nothing.
-use Prim.Native.Nat.{ℕ, _≤_, _<_}
+use Prim.Native.Nat.{ℕ, _-_, _≤_, _<_}
 use mathlib.Core.Path.{_≡_}
 use mathlib.Core.Bool.{false}
 use mathlib.Core.List.{List, _++_}
 use mathlib.Core.Option.{some}
-use lib.ListN.{length, getD}
+use lib.ListN.{length, getD, replicate}
 use Rattle.units.specs.Told.{gives}
 use Rattle.units.specs.declared.Sector.{Sector}
 use Rattle.units.specs.declared.Region.{Region}
@@ -15,7 +15,7 @@ use Rattle.read_lookup.specs.declared.Looked.the-variants as looked
 use Rattle.read_lookup.specs.Lookup as lookup
 use Rattle.read_lookup.specs.Lookup.{stepAt, anyHigh, lookupOf}
 use Rattle.read_lookup.specs.Chain.{Endless, ReadsAgain, LengthIs, countOf}
-use Rattle.strict_rule.specs.Strict.{strictOf}
+use Rattle.strict_rule.specs.Strict as checking
 use Rattle.strict_rule.specs.Accepts.{Accepts}
 
 -- 25 EXACTLY WHERE THE CHAIN NEVER ENDS, which is exactly where it would read an offset again. (2 and 21 come
@@ -39,8 +39,15 @@ Counted = (w : List ℕ) (first : Sector) (t : Region) (name : List ℕ) (r : Lo
     → lookup.told r ≡ lookupOf w first t name
     → (n : ℕ) → countOf (lookup.told r) ≡ some n → LengthIs (stepAt lookupAbsent w first t name) 0 n
 
--- THE STRICT CHECK ACCEPTS EXACTLY the tables of the rule, in both directions
+-- THE STRICT CHECK ACCEPTS EXACTLY the tables of the rule: where it answers a number, the table whose walk lists xs
+-- keeps the rule, and the list has xs and then zeros; and where a table keeps the rule, and the list has room for
+-- its entries, it answers their number
+pub record Strict (w : List ℕ) (first : Sector) (t : Region) (list scratch : List ℕ) : Type 0 where
+  pub accepted : (k : ℕ) → checking.strictAnswer w first t (length list) (length scratch) ≡ gives k
+      → (xs : List ℕ) × (Accepts w first t xs × ((length xs ≡ k)
+      × (checking.listAfter w first t list (length scratch) ≡ xs ++ replicate (length list - k) 0)))
+  pub accepts : (xs : List ℕ) → Accepts w first t xs → length xs ≤ length list → length list < length scratch
+      → checking.strictAnswer w first t (length list) (length scratch) ≡ gives (length xs)
+
 abbrev pub StrictExactly : Type 0
-StrictExactly = (w : List ℕ) (first : Sector) (t : Region) (room : ℕ) (xs : List ℕ)
-    → (strictOf w first t room ≡ gives xs → Accepts w first t xs × (length xs ≤ room))
-    × (Accepts w first t xs → length xs ≤ room → strictOf w first t room ≡ gives xs)
+StrictExactly = (w : List ℕ) (first : Sector) (t : Region) (list scratch : List ℕ) → Strict w first t list scratch
