@@ -5,3 +5,4 @@ pub mod Image
 pub mod Reading
 pub mod Determined
 pub mod Starred
+pub mod Instances
