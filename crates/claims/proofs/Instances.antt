@@ -72,7 +72,6 @@ abc-raised : (i : ℕ) → i < 3 → map raised (nameAt (names (abc .bytes) (abc
 unfolding raised
 abc-raised = three-of (λ i. map raised (nameAt (names (abc .bytes) (abc .start) (abc .len)) i) ≡ (65 + i) ∷ []) refl refl refl
 
-
 abc-named : Fair 3 (abc .start) (abc .len) (abc .bytes)
 abc-named = record {
   few = omega arith;
