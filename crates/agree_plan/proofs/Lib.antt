@@ -10,8 +10,8 @@
 --     Found       path-finds: a path to a planned entry finds it, unless a link of 255 stands on the way; then 22. path-finds-by: of every set of absent links
 --     Only        path-only, path-only-by: no path finds anything else
 --     Cases       a request that meets all that is supposed, computed; and one with an entry in two shares
-mod Grew
-mod Down
+pub mod Grew
+pub mod Down
 mod Up
 pub mod Tables
 mod Lists

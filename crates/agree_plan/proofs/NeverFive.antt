@@ -81,14 +81,14 @@ unfolding treeIn
 tree-other S tab h = grow-other (checkIn S tab) (orderIn (S .bytes) (givenAt S tab)) (check-other S tab h) (S .count) 0 leaf
 
 -- sizes that are all low stay so
-set-low : (xs : List ℕ) (n z x : ℕ) → z ≤ most → getD xs x 0 ≤ most → getD (set xs n z) x 0 ≤ most
+pub set-low : (xs : List ℕ) (n z x : ℕ) → z ≤ most → getD xs x 0 ≤ most → getD (set xs n z) x 0 ≤ most
 set-low [] n z x hz h = h
 set-low (y ∷ ys) zero z zero hz h = hz
 set-low (y ∷ ys) zero z (suc x) hz h = h
 set-low (y ∷ ys) (suc n) z zero hz h = h
 set-low (y ∷ ys) (suc n) z (suc x) hz h = set-low ys n z x hz h
 
-zeros-low : (n x : ℕ) → getD (replicate n 0) x 0 ≤ most
+pub zeros-low : (n x : ℕ) → getD (replicate n 0) x 0 ≤ most
 zeros-low zero x = omega arith
 zeros-low (suc n) zero = omega arith
 zeros-low (suc n) (suc x) = zeros-low n x

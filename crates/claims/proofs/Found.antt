@@ -1,0 +1,102 @@
+-- Demand 3 of the writers of tables: cited. Assumes nothing.
+use Prim.Native.Nat.{ℕ, _-_, _≤_}
+use native.Mathlib.Omega.{arith}
+use mathlib.Core.Path.{_≡_, sym, ap, subst, _∙_}
+use mathlib.Core.List.{List, _++_}
+use lib.ListN.{length, replicate, length-map}
+use Rattle.units.specs.Told.{gives}
+use Rattle.units.specs.declared.Sector.{Sector}
+use Rattle.units.specs.declared.Region.{Region}
+use Rattle.read_entry.specs.Links.{lookupAbsent}
+use Rattle.read_walk.specs.Walk as walking
+use Rattle.strict_rule.specs.Strict as checking
+use Rattle.strict_rule.specs.Strict.{strictOf}
+use Rattle.table_model.specs.Entry.{Entry, Item}
+use Rattle.table_model.specs.Place.{items}
+use Rattle.table_model.specs.Table.{Placing}
+use Rattle.table_model.proofs.Geometry.{of-item, items-length}
+use Rattle.dirtab_arena.specs.Arena.{Columns, Arena, entryAt, treeOf}
+use Rattle.dirtab_arena.proofs.Passed.{held}
+use Rattle.dirtab.specs.Serialise as serialise
+use Rattle.dirtab_list.specs.Whole as whole
+use Rattle.dirtab_list.specs.Whole.{Listing, entryIn}
+use Rattle.agree.specs.Agreement.{offsets, placedAt, ReadBack, Reached, Agreement}
+use Rattle.agree.specs.Given.{grown, EachOnce}
+use Rattle.agree.proofs.FromList.{grown-size}
+use Rattle.agree_list.proofs.Same.{same-answer, same-output}
+use Rattle.agree_writers.specs.Wrote.{WroteList, WroteArena}
+use Rattle.agree_writers.proofs.OfList.{list-agrees, list-each, list-strict}
+use Rattle.agree_writers.proofs.OfArena.{arena-agrees, arena-each, arena-strict}
+use Rattle.agree_causes.specs.Lists.{itemsFor}
+use Rattle.agree_causes.proofs.Along.{along-found, along-lost}
+use Rattle.agree_causes.proofs.Listed.{walk-lists, check-lists}
+use Rattle.agree_causes.proofs.Serialised.{serialised-arena}
+use Rattle.claims.specs.Found.{FoundUnless255, Kept, ListRead, ListKept, TurnRead, TurnKept, ArenaRead, ArenaKept}
+
+module _ (w : List ℕ) (first : Sector) (t : Region) (place : ℕ) where
+  found-unless : (y : Item) → Reached lookupAbsent w first t place y → FoundUnless255 w first t place y
+  found-unless y r = record {
+    links = r .links;
+    way = r .way;
+    found = λ none name low same. r .answers name low same ∙ along-found (placedAt place y) (y .offset) 1 (r .links) (λ k m. r .real k m .0) none;
+    lost = λ some name low same. let a = along-lost (placedAt place y) (y .offset) 1 (r .links) some in (a .0, r .answers name low same ∙ a .1);
+  }
+
+  -- what the agreement of a table, its entries and the strict check give
+  pub kept : (n : ℕ) (entry : ℕ → Entry) (xs : List Item) → length xs ≡ n → Agreement lookupAbsent w first t place xs → EachOnce entry n xs
+      → ((room : ℕ) → n ≤ room → strictOf w first t room ≡ gives (offsets xs)) → Kept w first t place n entry xs
+  kept n entry xs long a e s =
+      let same : length (offsets xs) ≡ n = length-map xs (λ (y : Item). y .offset) ∙ long in
+      record {
+        each = e;
+        listed = λ list scratch h l.
+            subst (λ (k : ℕ). (walking.walkAnswer w first t (length list) (length scratch) ≡ gives k)
+            × (walking.listAfter w first t list (length scratch) ≡ offsets xs ++ replicate (length list - k) 0)) same
+            (walk-lists w first t list (length scratch) l (offsets xs) (a .listed (length list) (omega arith)));
+        read = λ y m. of-item (ReadBack w first t place) xs y (a .read) m;
+        found = λ y m. found-unless y (of-item (Reached lookupAbsent w first t place) xs y (a .reached) m);
+        only = a .sound;
+        accepted = λ list scratch h l.
+            subst (λ (k : ℕ). (checking.strictAnswer w first t (length list) (length scratch) ≡ gives k)
+            × (checking.listAfter w first t list (length scratch) ≡ offsets xs ++ replicate (length list - k) 0)) same
+            (check-lists w first t list (length scratch) l (offsets xs) (s (length list) h));
+      }
+
+long : (L : Listing) (s : ℕ) → length (itemsFor L s) ≡ L .count
+long L s = items-length (entryIn L) 1 (grown (entryIn L) (L .count)) 0 s ∙ grown-size (entryIn L) (L .count)
+
+of-list : (L : Listing) (n s : ℕ) (out : List ℕ) (p : Placing) (w : List ℕ) (first : Sector) (t : Region) (g : WroteList L n s out p w first t)
+    → Kept w first t (g .stand .place) (L .count) (entryIn L) (itemsFor L s)
+of-list L n s out p w first t g =
+    kept w first t (g .stand .place) (L .count) (entryIn L) (itemsFor L s) (long L s) (list-agrees L n s out p w first t g) (list-each L n s out p w first t g)
+    (list-strict L n s out p w first t g)
+
+pub list-kept : ListKept
+list-kept L s m p w first t g =
+    of-list L (whole.placesIn m) s (m .out) p w first t (record { sizes = g .sizes; answer = g .answer; stand = g .stand; sized = g .sized })
+
+pub turn-kept : TurnKept
+turn-kept L s c m p w first t g =
+    of-list L (L .count) s (m .out) p w first t
+    (record {
+      sizes = g .sizes;
+      answer = same-answer L (length (m .order)) (length (m .place)) (g .order) (g .place) s (L .count) (g .places) c (g .wide) (length (m .out)) ∙ g .answer;
+      stand = record {
+        place = g .stand .place;
+        at-sector = g .stand .at-sector;
+        rest = g .stand .rest;
+        here = g .stand .here ∙ ap (λ (z : List ℕ). z ++ g .stand .rest)
+            (sym (same-output L (length (m .order)) (length (m .place)) (g .order) (g .place) s (L .count) (g .places) c (g .wide) (m .out)));
+      };
+      sized = g .sized;
+    })
+
+pub arena-kept : ArenaKept
+arena-kept A s m p w first t g =
+    let n : ℕ = length (m .order) in
+    let k : ℕ = length (m .place) in
+    let q : WroteArena A s n k (m .out) p w first t = record { sizes = g .sizes; answer = g .answer; stand = g .stand; sized = g .sized } in
+    let a = serialised-arena A s n k (length (m .out)) p (g .answer) in
+    kept w first t (g .stand .place) (A .count) (entryAt A) (items (entryAt A) 1 0 s (treeOf A))
+    (items-length (entryAt A) 1 (treeOf A) 0 s ∙ held A a .size-is) (arena-agrees A s n k (m .out) p w first t q) (arena-each A a s)
+    (arena-strict A s n k (m .out) p w first t q)

@@ -1,0 +1,8 @@
+-- The statements of specs/ hold: each by a citation. And what they suppose can be met.
+pub mod Answers
+pub mod Found
+pub mod Image
+pub mod Reading
+pub mod Determined
+pub mod Starred
+pub mod Instances

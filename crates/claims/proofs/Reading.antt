@@ -1,0 +1,58 @@
+-- What 25, a count and the strict check mean: cited. Assumes nothing.
+use Prim.Native.Nat.{ℕ, _<_}
+use native.Mathlib.Omega.{arith}
+use mathlib.Core.Path.{_≡_, refl, sym, ap, _∙_}
+use mathlib.Core.Bool.{Bool, true, false}
+use mathlib.Core.List.{List, []}
+use lib.Dec.{eqb}
+use lib.ListN.{length, getD}
+use borrow.Author.Tests.{eqb-false}
+use Rattle.units.specs.Told.{Told, gives, refuses, pick}
+use Rattle.units.specs.declared.Sector.{Sector}
+use Rattle.units.specs.declared.Region.{Region}
+use Rattle.read_entry.specs.Links.{lookupAbsent}
+use Rattle.read_lookup.specs.declared.Looked.{Looked}
+use Rattle.read_lookup.specs.declared.Looked.the-variants as looked
+use Rattle.read_lookup.specs.Lookup as lookup
+use Rattle.read_lookup.specs.Lookup.{Finding, anyHigh, lookupBy, lookupOf}
+use Rattle.read_lookup.specs.Chain.{countOf}
+use Rattle.read_lookup.proofs.Laws.{looped-endless, looped-again, endless-looped, again-looped, count-is-length}
+use Rattle.read_lookup.proofs.Told.{told-one}
+use Rattle.strict_rule.proofs.Accepted.{accepted}
+use Rattle.strict_rule.proofs.Accepts.{accepts}
+use Rattle.agree_causes.proofs.Listed.{check-lists, check-listed}
+use Rattle.claims.specs.Reading.{Looped, LoopedExactly, Counted, StrictExactly}
+
+-- 25 is answered after 2 and 21 are not
+before-25 : (a b : Bool) (x : Told Finding) → pick a (refuses 2 []) (pick b (refuses 21 []) x) ≡ refuses 25 [] → (a ≡ false) × (b ≡ false)
+before-25 true b x e = let z : _≡_ {A = ℕ} 2 25 = cc in absurd (omega arith)
+before-25 false true x e = let z : _≡_ {A = ℕ} 21 25 = cc in absurd (omega arith)
+before-25 false false x e = (refl, refl)
+
+let-through : (w : List ℕ) (first : Sector) (t : Region) (name : List ℕ) → lookupOf w first t name ≡ refuses 25 [] → (anyHigh name ≡ false) × (t .size ≡ 0 → ⊥)
+unfolding lookupBy
+let-through w first t name e =
+    let s = before-25 (anyHigh name) (eqb (t .size) 0) _ e in
+    (s .0, eqb-false (t .size) 0 (s .1))
+
+pub looped-exactly : LoopedExactly
+looped-exactly w bytes first t name r c =
+    let said : r ≡ looked.Looped → lookupOf w first t name ≡ refuses 25 [] = λ q. sym c ∙ ap lookup.told q in
+    record {
+      never-ends = λ q. looped-endless lookupAbsent w first t name bytes (said q);
+      reads-again = λ q. looped-again lookupAbsent w first t name bytes (said q);
+      let-through = λ q. let-through w first t name (said q);
+      where-endless = λ low some e. told-one r looked.Looped (c ∙ endless-looped lookupAbsent w first t name low some e);
+      where-again = λ low some e. told-one r looked.Looped (c ∙ again-looped lookupAbsent w first t name low some e);
+    }
+
+pub counted : Counted
+counted w first t name r c n e = count-is-length lookupAbsent w first t name n (ap countOf (sym c) ∙ e)
+
+pub strict-exactly : StrictExactly
+strict-exactly w first t list scratch = record {
+  accepted = λ k e.
+      let s = check-listed w first t list (length scratch) k e in
+      (s .0, (accepted w first t (length list) (s .0) (s .1 .0) .0, s .1 .1));
+  accepts = λ xs a h l. check-lists w first t list (length scratch) l xs (accepts w first t (length list) xs a h) .0;
+}

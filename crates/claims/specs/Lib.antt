@@ -1,0 +1,7 @@
+-- What is claimed, a file for each group of statements.
+pub mod Answers
+pub mod Found
+pub mod Image
+pub mod Reading
+pub mod Determined
+pub mod Starred

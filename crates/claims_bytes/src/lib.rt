@@ -1,0 +1,28 @@
+// What a `&[u8]` is by its type, as a contract, and with it the law of 25 of `look_up` itself: no hypothesis is left.
+// Neither function is exported by a door; they stand here for what their contracts say.
+ghost use Prim.Native.Nat.{ℕ, _<_};
+ghost use lib.ListN.{getD};
+ghost use Rattle.units.specs.Lent.{was};
+ghost use Rattle.claims.specs.Reading.{Looped};
+use read_lookup::Looked;
+use units::Region;
+use units::Sector;
+
+// Every element of a slice of bytes is below 256. (An element has to be read for the prover to know it of them.)
+pub fn know_bytes(w: &[u8])
+    ensures { λ _. ⌜ ((i : ℕ) → getD (was w) i 0 < 256) ⌝ }
+{
+    if w.len() > 0 {
+        let first = w[0];
+        return;
+    }
+}
+
+// Looks a name up, as `xdvdfs::look_up` does. It answers 25 exactly where neither 2 nor 21 is answered and the chain
+// of headers never ends, which is exactly where it would read an offset again.
+pub fn look_up(w: &[u8], first: Sector, table: Region, name: &[u8]) -> Looked
+    ensures { λ r. ⌜ Looped (was w) first table (was name) r ⌝ }
+{
+    know_bytes(w);
+    xdvdfs::look_up(w, first, table, name)
+}
