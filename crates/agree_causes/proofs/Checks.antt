@@ -11,7 +11,7 @@ use borrow.Author.Tests.{ne-eqb, le-ltb}
 use Rattle.units.specs.Told.{Told, gives, refuses, pick}
 use Rattle.dirtab_entry.specs.declared.Entry.{Entry}
 use Rattle.dirtab_entry.specs.Entry.{isDirectory, anyBad, nameIn, checkOf}
-use Rattle.avl_model.specs.Names.{names, nameAt}
+use Rattle.avl_model.specs.Names.{namesIn, nameAt}
 use Rattle.agree_causes.specs.Lists.{Fair}
 
 -- bytes from 1 to 127 are none of them bad
@@ -23,13 +23,13 @@ none-bad (x ∷ xs) h =
     rw (ne-eqb x 0 (λ e. omega arith), le-ltb 127 x (a .1)) (none-bad xs (λ k l. h (suc k) (omega arith)))
 
 module _ (n : ℕ) (start len bytes : List ℕ) (f : Fair n start len bytes) (i : ℕ) (h : i < n) where
-  pub name-long : length (nameAt (names bytes start len) i) ≡ getD len i 0
+  pub name-long : length (nameAt (namesIn bytes start len) i) ≡ getD len i 0
   name-long = let a = f .inside i h in simp (length-take, length-drop) (omega arith)
 
-  name-good : anyBad (nameAt (names bytes start len) i) ≡ false
-  name-good = none-bad (nameAt (names bytes start len) i) (λ k l.
+  name-good : anyBad (nameAt (namesIn bytes start len) i) ≡ false
+  name-good = none-bad (nameAt (namesIn bytes start len) i) (λ k l.
       let j : k < getD len i 0 = omega (arith, name-long) in
-      let e : getD (nameAt (names bytes start len) i) k 0 ≡ getD bytes (getD start i 0 + k) 0 =
+      let e : getD (nameAt (namesIn bytes start len) i) k 0 ≡ getD bytes (getD start i 0 + k) 0 =
       getD-take (getD len i 0) (drop (getD start i 0) bytes) k 0 j ∙ getD-drop (getD start i 0) bytes k 0 in
       let a = f .ascii i k h j in
       (omega arith, omega arith))

@@ -4,7 +4,6 @@
 --     OfPlan      plan-outcome: a plan
 --     One         one-outcome, one-plan: a cause has one answer
 --     Bridge      plan-given, plan-never-5: from the contract of planning to a plan that is given; and never 5
---     Along       along-found, along-lost: what a lookup answers along a way
 --     Listed      walk-lists, check-lists, check-listed: what a walk and a strict check answer and leave, from what they list; and back
 --     Serialised  serialised-arena: what was serialised passed the test of an arena
 --     Thin        thin-size, none-fewer: the fewest nodes of a height
@@ -18,7 +17,6 @@ mod Up
 pub mod OfPlan
 pub mod One
 pub mod Bridge
-pub mod Along
 pub mod Listed
 pub mod Serialised
 pub mod Thin

@@ -10,7 +10,7 @@ use Rattle.units.specs.Told.{Told, gives, refuses}
 use Rattle.layout_sector.specs.Counter.{sectorsFor}
 use Rattle.dirtab_entry.specs.Entry.{rounded}
 use Rattle.avl_model.specs.Tree.{Tree}
-use Rattle.avl_model.specs.Names.{names, nameAt}
+use Rattle.avl_model.specs.Names.{namesIn, nameAt}
 use Rattle.table_model.specs.Entry.{Entry, Item}
 use Rattle.table_model.specs.Place.{items}
 use Rattle.table_model.specs.Table.{Placing, sizeOf}
@@ -32,7 +32,7 @@ pub record Fair (n : ℕ) (start len bytes : List ℕ) : Type 0 where
   pub ascii : (i k : ℕ) → i < n → k < getD len i 0
       → (1 ≤ getD bytes (getD start i 0 + k) 0) × (getD bytes (getD start i 0 + k) 0 ≤ 127)
   pub differ : (i j : ℕ) → i < n → j < n
-      → Same (nameAt (names bytes start len) i) (nameAt (names bytes start len) j) → i ≡ j
+      → Same (nameAt (namesIn bytes start len) i) (nameAt (namesIn bytes start len) j) → i ≡ j
 
 -- A LIST with such names; each size is a number of four bytes, as the column's type says
 pub record FairList (L : Listing) : Type 0 where

@@ -3,7 +3,7 @@ use Prim.Native.Nat.{ℕ, _-_, _≤_}
 use native.Mathlib.Omega.{arith}
 use mathlib.Core.Path.{_≡_, sym, ap, subst, _∙_}
 use mathlib.Core.List.{List, _++_}
-use lib.ListN.{length, replicate, length-map}
+use lib.ListN.{length, take, replicate, length-map}
 use Rattle.units.specs.Told.{gives}
 use Rattle.units.specs.declared.Sector.{Sector}
 use Rattle.units.specs.declared.Region.{Region}
@@ -15,6 +15,7 @@ use Rattle.table_model.specs.Entry.{Entry, Item}
 use Rattle.table_model.specs.Place.{items}
 use Rattle.table_model.specs.Table.{Placing}
 use Rattle.table_model.proofs.Geometry.{of-item, items-length}
+use Rattle.dirtab_entry.specs.Entry.{rounded}
 use Rattle.dirtab_arena.specs.Arena.{Columns, Arena, entryAt, treeOf}
 use Rattle.dirtab_arena.proofs.Passed.{held}
 use Rattle.dirtab.specs.Serialise as serialise
@@ -28,22 +29,29 @@ use Rattle.agree_writers.specs.Wrote.{WroteList, WroteArena}
 use Rattle.agree_writers.proofs.OfList.{list-agrees, list-each, list-strict}
 use Rattle.agree_writers.proofs.OfArena.{arena-agrees, arena-each, arena-strict}
 use Rattle.agree_causes.specs.Lists.{itemsFor}
-use Rattle.agree_causes.proofs.Along.{along-found, along-lost}
+use Rattle.lookup_way.specs.Along.{Along, Real}
+use Rattle.lookup_way.proofs.Along.{along-clear, along-absent}
+use Rattle.lookup_way.proofs.Sets.{lookup-0, without-255, with-255}
 use Rattle.agree_causes.proofs.Listed.{walk-lists, check-lists}
 use Rattle.agree_causes.proofs.Serialised.{serialised-arena}
 use Rattle.claims.specs.Found.{FoundUnless255, Kept, ListRead, ListKept, TurnRead, TurnKept, ArenaRead, ArenaKept}
 
 module _ (w : List ℕ) (first : Sector) (t : Region) (place : ℕ) where
-  found-unless : (y : Item) → Reached lookupAbsent w first t place y → FoundUnless255 w first t place y
-  found-unless y r = record {
+  found-unless : (xs : List Item) (y : Item) → Agreement w first t place xs → Reached w first t place xs y → FoundUnless255 w first t place y
+  found-unless xs y a r = record {
     links = r .links;
     way = r .way;
-    found = λ none name low same. r .answers name low same ∙ along-found (placedAt place y) (y .offset) 1 (r .links) (λ k m. r .real k m .0) none;
-    lost = λ some name low same. let a = along-lost (placedAt place y) (y .offset) 1 (r .links) some in (a .0, r .answers name low same ∙ a .1);
+    real = r .real;
+    only-way = λ ks k q. a .one-way (y .offset) ks (r .links) k q (r .way) (r .real);
+    found = λ none name low same.
+        r .answers lookupAbsent name low same ∙ along-clear lookupAbsent (placedAt place y) (y .offset) 1 (r .links) (without-255 (r .links) (r .real) none);
+    lost = λ some name low same.
+        let b = along-absent lookupAbsent (placedAt place y) (y .offset) 1 (r .links) (with-255 (r .links) some) in
+        (b .0, r .answers lookupAbsent name low same ∙ b .1);
   }
 
   -- what the agreement of a table, its entries and the strict check give
-  pub kept : (n : ℕ) (entry : ℕ → Entry) (xs : List Item) → length xs ≡ n → Agreement lookupAbsent w first t place xs → EachOnce entry n xs
+  pub kept : (n : ℕ) (entry : ℕ → Entry) (xs : List Item) → length xs ≡ n → Agreement w first t place xs → EachOnce entry n xs
       → ((room : ℕ) → n ≤ room → strictOf w first t room ≡ gives (offsets xs)) → Kept w first t place n entry xs
   kept n entry xs long a e s =
       let same : length (offsets xs) ≡ n = length-map xs (λ (y : Item). y .offset) ∙ long in
@@ -54,8 +62,8 @@ module _ (w : List ℕ) (first : Sector) (t : Region) (place : ℕ) where
             × (walking.listAfter w first t list (length scratch) ≡ offsets xs ++ replicate (length list - k) 0)) same
             (walk-lists w first t list (length scratch) l (offsets xs) (a .listed (length list) (omega arith)));
         read = λ y m. of-item (ReadBack w first t place) xs y (a .read) m;
-        found = λ y m. found-unless y (of-item (Reached lookupAbsent w first t place) xs y (a .reached) m);
-        only = a .sound;
+        found = λ y m. found-unless xs y a (of-item (Reached w first t place xs) xs y (a .reached) m);
+        only = a .sound lookupAbsent lookup-0;
         accepted = λ list scratch h l.
             subst (λ (k : ℕ). (checking.strictAnswer w first t (length list) (length scratch) ≡ gives k)
             × (checking.listAfter w first t list (length scratch) ≡ offsets xs ++ replicate (length list - k) 0)) same
@@ -85,7 +93,7 @@ turn-kept L s c m p w first t g =
         place = g .stand .place;
         at-sector = g .stand .at-sector;
         rest = g .stand .rest;
-        here = g .stand .here ∙ ap (λ (z : List ℕ). z ++ g .stand .rest)
+        here = g .stand .here ∙ ap (λ (z : List ℕ). take (rounded (p .size)) z ++ g .stand .rest)
             (sym (same-output L (length (m .order)) (length (m .place)) (g .order) (g .place) s (L .count) (g .places) c (g .wide) (m .out)));
       };
       sized = g .sized;

@@ -4,24 +4,24 @@ use Prim.Native.Nat.{ℕ, _+_, _-_, _≤_, _<_}
 use mathlib.Core.Path.{_≡_}
 use mathlib.Core.Bool.{true, false}
 use mathlib.Core.List.{List, [], _∷_, _++_, List·Memᴰ}
-use lib.ListN.{length, getD, replicate}
+use lib.ListN.{length, getD, take, replicate}
 use Rattle.units.specs.Told.{gives, refuses}
 use Rattle.units.specs.declared.Sector.{Sector}
 use Rattle.units.specs.declared.Region.{Region}
 use Rattle.read_entry.specs.Entry.{readAt}
-use Rattle.read_entry.specs.Links.{lookupAbsent}
 use Rattle.read_lookup.specs.Lookup.{anyHigh, lookupOf}
 use Rattle.read_walk.specs.Walk as walking
 use Rattle.strict_rule.specs.Strict as checking
 use Rattle.table_model.specs.Entry.{Entry, Item}
 use Rattle.table_model.specs.Place.{items}
 use Rattle.table_model.specs.Table.{Placing}
+use Rattle.dirtab_entry.specs.Entry.{rounded}
 use Rattle.dirtab_arena.specs.Arena.{Columns, Arena, entryAt, treeOf}
 use Rattle.dirtab.specs.Serialise as serialise
 use Rattle.dirtab_list.specs.Whole as whole
 use Rattle.dirtab_list.specs.Whole.{Listing, givenIn, entryIn, hasPlaces}
 use Rattle.agree.specs.Written.{Stand}
-use Rattle.agree.specs.Along.{Along}
+use Rattle.lookup_way.specs.Along.{Along, Real}
 use Rattle.agree.specs.Agreement.{Same, offsets, placedAt, ReadBack, Sound}
 use Rattle.agree.specs.Given.{EachOnce}
 use Rattle.agree_list.specs.InTurn.{addAll, emptyIn, thenAnswer, thenOutput, Wide}
@@ -34,6 +34,9 @@ module _ (w : List ℕ) (first : Sector) (t : Region) (place : ℕ) where
   pub record FoundUnless255 (y : Item) : Type 0 where
     pub links : List ℕ
     pub way : Along (readAt w first t) 0 (y .offset) links
+    -- the way is the only one along links of which none is 0 or 65,535
+    pub real : Real links
+    pub only-way : (ks : List ℕ) → Along (readAt w first t) 0 (y .offset) ks → Real ks → ks ≡ links
     pub found : (List·Memᴰ 255 links → ⊥) → (name : List ℕ) → anyHigh name ≡ false → Same name (y .entry .name)
         → lookupOf w first t name
         ≡ gives (record { entry = placedAt place y; offset = y .offset; headers = 1 + length links })
@@ -55,19 +58,19 @@ module _ (w : List ℕ) (first : Sector) (t : Region) (place : ℕ) where
     pub found : (y : Item) → List·Memᴰ y xs → FoundUnless255 y
     -- it finds nothing else: any other name is 22; and it reads at most 19 headers
     pub only : (name : List ℕ) → anyHigh name ≡ false
-        → Sound lookupAbsent w first t place xs 19 name (lookupOf w first t name)
+        → Sound place xs 19 name (lookupOf w first t name)
     -- the strict check accepts the table, and lists the same
     pub accepted : (list scratch : List ℕ) → n ≤ length list → length list < length scratch
         → (checking.strictAnswer w first t (length list) (length scratch) ≡ gives n)
         × (checking.listAfter w first t list (length scratch) ≡ offsets xs ++ replicate (length list - n) 0)
 
--- A LIST WAS WRITTEN: sizes are numbers of four bytes, as the column's type says; the answer is p, the output stands
--- in a window at the region's sector, and the region has the size answered
+-- A LIST WAS WRITTEN: sizes are numbers of four bytes, as the column's type says; the answer is p, the output's bytes
+-- up to that size, rounded, stand in a window at the region's sector, and the region has the size answered
 pub record ListRead (L : Listing) (s : ℕ) (m : whole.Lent) (p : Placing) (w : List ℕ) (first : Sector) (t : Region) :
     Type 0 where
   pub sizes : (i : ℕ) → getD (L .size) i 0 ≤ 4294967295
   pub answer : whole.answerIn L s m ≡ gives p
-  pub stand : Stand w first (t .sector) (whole.lentAfter L s m .out)
+  pub stand : Stand w first (t .sector) (take (rounded (p .size)) (whole.lentAfter L s m .out))
   pub sized : t .size ≡ p .size
 
 abbrev pub ListKept : Type 0
@@ -85,9 +88,9 @@ pub record TurnRead (L : Listing) (s : ℕ) (c : Columns) (m : serialise.Lent) (
   pub place : L .count ≤ length (m .place)
   pub answer : thenAnswer (addAll (givenIn L) (L .count) 0 (emptyIn c (L .bytes))) (λ A. serialise.answerIn A s m)
       ≡ gives p
-  pub stand : Stand w first (t .sector)
+  pub stand : Stand w first (t .sector) (take (rounded (p .size))
       (thenOutput (addAll (givenIn L) (L .count) 0 (emptyIn c (L .bytes))) (λ A. serialise.lentAfter A s m .out)
-      (m .out))
+      (m .out)))
   pub sized : t .size ≡ p .size
 
 abbrev pub TurnKept : Type 0
@@ -100,7 +103,7 @@ pub record ArenaRead (A : Arena) (s : ℕ) (m : serialise.Lent) (p : Placing) (w
     (t : Region) : Type 0 where
   pub sizes : (i : ℕ) → getD (A .columns .size) i 0 ≤ 4294967295
   pub answer : serialise.answerIn A s m ≡ gives p
-  pub stand : Stand w first (t .sector) (serialise.lentAfter A s m .out)
+  pub stand : Stand w first (t .sector) (take (rounded (p .size)) (serialise.lentAfter A s m .out))
   pub sized : t .size ≡ p .size
 
 abbrev pub ArenaKept : Type 0

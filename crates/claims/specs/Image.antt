@@ -3,13 +3,13 @@
 use Prim.Native.Nat.{ℕ, suc, _≤_, _<_}
 use mathlib.Core.Path.{_≡_}
 use mathlib.Core.Bool.{true}
-use mathlib.Core.List.{List, _++_}
+use mathlib.Core.List.{List, [], _++_, List·Memᴰ}
 use lib.ListN.{length, drop}
-use Rattle.units.specs.Told.{gives}
+use Rattle.units.specs.Told.{gives, refuses}
 use Rattle.units.specs.declared.Sector.{Sector}
 use Rattle.units.specs.declared.Region.{Region}
 use Rattle.dirtab_entry.specs.Entry.{rounded}
-use Rattle.read_path.specs.Path.{pathOf}
+use Rattle.read_path.specs.Path.{pathBy, pathOf}
 use Rattle.table_model.specs.Table.{tableBytes}
 use Rattle.dirtab_list.specs.Whole as whole
 use Rattle.dirtab_list.specs.Whole.{hasPlaces, placesIn}
@@ -17,6 +17,7 @@ use Rattle.img_model.specs.Shares.{Request, directoriesOf, countOf}
 use Rattle.img_model.specs.Plan.{tableIn, entriesAt, Plan}
 use Rattle.img_model.specs.Image.{Asked, Lent, requestIn}
 use Rattle.agree.specs.Written.{Stand}
+use Rattle.agree.specs.Agreement.{placedAt}
 use Rattle.agree_plan.specs.Planned.{treeAt, startSector, itemsAt, Disjoint, tableSector}
 use Rattle.agree_plan.specs.InTurn.{SizesFor, listingOf}
 use Rattle.agree_plan.specs.Runs.{runsOf, Follow, RunsApart}
@@ -37,9 +38,12 @@ pub record ImageFound (R : Request) (p : Plan) (f : ℕ) (w : List ℕ) (first :
   -- every table, in the root's region and in that of a directory's entry
   pub tables : (d : ℕ) (h : d < directoriesOf R) (t : Region) → RegionFor p d t
       → Kept w first t (g .stand d h .place) (countOf R d) (entriesAt R (p .sizes) d) (itemsAt R (p .sizes) d)
-  -- a path to a planned entry finds it, unless a link of 255 stands on the way; then 22
+  -- a path to a planned entry finds it, unless a link of 255 stands on the way, which is the only one; then 22
   pub path : (e j : ℕ) (parts : List (List ℕ)) → Leads R p 0 parts e j
-      → Finds R p w first (rootOf p) parts e j (pathOf w first (rootOf p) (joined parts))
+      → (f : Finds R p w first (rootOf p) parts e j (λ absent. pathBy absent w first (rootOf p) (joined parts)))
+      × ((List·Memᴰ 255 (f .links) → ⊥)
+      → pathOf w first (rootOf p) (joined parts) ≡ gives (placedAt (f .place) (f .item)))
+      × (List·Memᴰ 255 (f .links) → pathOf w first (rootOf p) (joined parts) ≡ refuses 22 [])
   -- no path finds anything else
   pub only : (parts : List (List ℕ)) → AllParts parts
       → Only R p first 0 parts (pathOf w first (rootOf p) (joined parts))
