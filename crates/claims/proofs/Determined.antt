@@ -12,7 +12,7 @@ use Rattle.strict_rule.proofs.Told as checking
 use Rattle.dirtab_add.proofs.Told as adding
 use Rattle.dirtab.proofs.Told as serialising
 use Rattle.dirtab_list.proofs.Told as whole
-use Rattle.img.proofs.Told as planning
+use Rattle.img_model.proofs.Told as planning
 use Rattle.claims.specs.Determined.{Determined}
 
 pub determined : Determined

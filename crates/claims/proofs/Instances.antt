@@ -21,7 +21,7 @@ use Rattle.read_lookup.specs.Lookup.{lookupOf}
 use Rattle.read_lookup.proofs.Cases.{file, first, of-size}
 use Rattle.read_lookup.proofs.Loops as loops
 use Rattle.avl_model.specs.Tree.{bal}
-use Rattle.avl_model.specs.Names.{names, nameAt, toName}
+use Rattle.avl_model.specs.Names.{namesIn, nameAt, toName}
 use Rattle.avl_model.specs.Seek.{treeAt}
 use Rattle.avl_arena.specs.Test.{places, inside, between, cellOk, decoded, wholeTree, holdsTree}
 use Rattle.avl_arena.proofs.Tested.{and-l, and-r}
@@ -68,9 +68,9 @@ three-of P a b c (suc (suc (suc i))) h = absurd (omega arith)
 abbrev abc : Listing
 abc = listing 3 (0 ∷ 1 ∷ 2 ∷ []) (1 ∷ 1 ∷ 1 ∷ []) (1 ∷ 1 ∷ 1 ∷ []) (0 ∷ 0 ∷ 0 ∷ []) (0x61 ∷ 0x62 ∷ 0x63 ∷ [])
 
-abc-raised : (i : ℕ) → i < 3 → map raised (nameAt (names (abc .bytes) (abc .start) (abc .len)) i) ≡ (65 + i) ∷ []
+abc-raised : (i : ℕ) → i < 3 → map raised (nameAt (namesIn (abc .bytes) (abc .start) (abc .len)) i) ≡ (65 + i) ∷ []
 unfolding raised
-abc-raised = three-of (λ i. map raised (nameAt (names (abc .bytes) (abc .start) (abc .len)) i) ≡ (65 + i) ∷ []) refl refl refl
+abc-raised = three-of (λ i. map raised (nameAt (namesIn (abc .bytes) (abc .start) (abc .len)) i) ≡ (65 + i) ∷ []) refl refl refl
 
 abc-named : Fair 3 (abc .start) (abc .len) (abc .bytes)
 abc-named = record {
@@ -212,9 +212,9 @@ abbrev lent : image.Lent
 lent = image.lent (0 ∷ 0 ∷ []) (0 ∷ 0 ∷ []) zeros (0 ∷ 0 ∷ []) zeros zeros zeros zeros zeros zeros zeros
 
 -- names of one byte, each its place in the bytes
-root-raised : (i : ℕ) → i < 2 → map raised (nameAt (names (100 ∷ 97 ∷ 98 ∷ []) (0 ∷ 1 ∷ []) (1 ∷ 1 ∷ [])) i) ≡ getD (68 ∷ 65 ∷ []) i 0 ∷ []
+root-raised : (i : ℕ) → i < 2 → map raised (nameAt (namesIn (100 ∷ 97 ∷ 98 ∷ []) (0 ∷ 1 ∷ []) (1 ∷ 1 ∷ [])) i) ≡ getD (68 ∷ 65 ∷ []) i 0 ∷ []
 unfolding raised
-root-raised = two-of (λ i. map raised (nameAt (names (100 ∷ 97 ∷ 98 ∷ []) (0 ∷ 1 ∷ []) (1 ∷ 1 ∷ [])) i) ≡ getD (68 ∷ 65 ∷ []) i 0 ∷ []) refl refl
+root-raised = two-of (λ i. map raised (nameAt (namesIn (100 ∷ 97 ∷ 98 ∷ []) (0 ∷ 1 ∷ []) (1 ∷ 1 ∷ [])) i) ≡ getD (68 ∷ 65 ∷ []) i 0 ∷ []) refl refl
 
 apart : (i : ℕ) → i < 2 → (j : ℕ) → j < 2 → getD {A = ℕ} (68 ∷ 65 ∷ []) i 0 ≡ getD (68 ∷ 65 ∷ []) j 0 → i ≡ j
 apart = two-of (λ i. (j : ℕ) → j < 2 → getD {A = ℕ} (68 ∷ 65 ∷ []) i 0 ≡ getD (68 ∷ 65 ∷ []) j 0 → i ≡ j)
