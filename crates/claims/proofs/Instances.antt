@@ -42,6 +42,7 @@ use Rattle.agree.specs.Given.{grown}
 use Rattle.agree_list.specs.InTurn.{addAll, emptyIn, thenAnswer, thenOutput, Wide}
 use Rattle.agree_list.proofs.Same.{same-answer}
 use Rattle.agree_plan.proofs.Cases as plans
+use Rattle.agree_writers.proofs.Stands.{first-stand}
 use Rattle.agree_causes.specs.Lists.{Fair, FairList, Enough, EnoughInTurn, treeFor}
 use Rattle.agree_causes.specs.Plans.{FairImage, EnoughFor, GivenIn}
 use Rattle.claims.specs.Found.{ListRead, TurnRead, ArenaRead}
@@ -141,7 +142,8 @@ pub abc-read : ListRead abc 34 memory answer (whole.lentAfter abc 34 memory .out
 abc-read = record {
   sizes = ones;
   answer = abc-answer;
-  stand = record { place = 0; at-sector = refl; rest = []; here = sym (append-nil (whole.lentAfter abc 34 memory .out)) };
+  stand = first-stand (whole.lentAfter abc 34 memory .out) window-first (record { 0 = 33 }) 2048 (whole.lentAfter abc 34 memory .out)
+      (record { place = 0; at-sector = refl; rest = []; here = sym (append-nil (whole.lentAfter abc 34 memory .out)) });
   sized = refl;
 }
 
@@ -179,7 +181,8 @@ turn-read = record {
   order = omega arith;
   place = omega arith;
   answer = sym (same-answer abc 3 3 (omega arith) (omega arith) 34 3 refl cells wide 2048) ∙ abc-answer;
-  stand = record { place = 0; at-sector = refl; rest = []; here = sym (append-nil turn-out) };
+  stand = first-stand turn-out window-first (record { 0 = 33 }) 2048 turn-out
+      (record { place = 0; at-sector = refl; rest = []; here = sym (append-nil turn-out) });
   sized = refl;
 }
 
@@ -199,7 +202,8 @@ pub held-read : ArenaRead held 34 scratch answer (serialise.lentAfter held 34 sc
 held-read = record {
   sizes = ones;
   answer = held-answer;
-  stand = record { place = 0; at-sector = refl; rest = []; here = sym (append-nil (serialise.lentAfter held 34 scratch .out)) };
+  stand = first-stand (serialise.lentAfter held 34 scratch .out) window-first (record { 0 = 33 }) 2048 (serialise.lentAfter held 34 scratch .out)
+      (record { place = 0; at-sector = refl; rest = []; here = sym (append-nil (serialise.lentAfter held 34 scratch .out)) });
   sized = refl;
 }
 
