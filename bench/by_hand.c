@@ -416,7 +416,7 @@ static uint32_t make(uint32_t n, int lo, int hi, const char *front, int sorted) 
         start[i] = at; len[i] = fl + m; size[i] = draw() % 5000; kind[i] = 0; perm[i] = i;
         memcpy(names + at, front, fl);
         for (int k = 0; k < m; k++) {
-            names[at + fl + k] = few ? 1 + x % 100 + (x % 100 >= 96 ? 26 : 0) : "abcdefghijklmnopqrstuvwxyz0123456789_"[draw() % 37];
+            names[at + fl + k] = few ? (uint8_t)(1 + x % 100 + (x % 100 >= 96 ? 26 : 0)) : (uint8_t)"abcdefghijklmnopqrstuvwxyz0123456789_"[draw() % 37];
             x /= 100;
         }
         at += fl + m;
@@ -561,7 +561,8 @@ static double plan(uint32_t directories, uint32_t entries, int turns) {
     for (int turn = 0; turn < turns; turn++) {
         double t = now();
         r = xdvdfs_plan(directories, entries, first, directories, share, directories, st, entries, ln, entries, kd, entries, value, entries, nm, at,
-                        sizes, directories, tables, directories, sectors, entries, sized, directories, L, MOST, R, MOST, P, MOST, H, MOST, K, MOST, sc, MOST, ord, entries, &nf, &en, &di);
+                        sizes, directories, tables, directories, sectors, entries, sized, directories, L, MOST, R, MOST, P, MOST, H, MOST, K, MOST, sc, MOST,
+                        ord, entries, &nf, &en, &di);
         t = now() - t;
         if (r == 4) { nm[st[en]] = "abcdefghijklmnopqrstuvwxyz0123456789_"[draw() % 37]; turn--; continue; } /* an equal name: drawn again */
         if (r) { fprintf(stderr, "plan refused: %u\n", r); exit(1); }
