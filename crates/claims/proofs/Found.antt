@@ -57,6 +57,9 @@ module _ (w : List ℕ) (first : Sector) (t : Region) (place : ℕ) where
       let same : length (offsets xs) ≡ n = length-map xs (λ (y : Item). y .offset) ∙ long in
       record {
         each = e;
+        inside = a .inside;
+        apart = a .apart;
+        sectors = a .sectors;
         listed = λ list scratch h l.
             subst (λ (k : ℕ). (walking.walkAnswer w first t (length list) (length scratch) ≡ gives k)
             × (walking.listAfter w first t list (length scratch) ≡ offsets xs ++ replicate (length list - k) 0)) same

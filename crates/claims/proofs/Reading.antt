@@ -4,9 +4,7 @@ use native.Mathlib.Omega.{arith}
 use mathlib.Core.Path.{_≡_, refl, sym, ap, _∙_}
 use mathlib.Core.Bool.{Bool, true, false}
 use mathlib.Core.List.{List, []}
-use lib.Dec.{eqb}
 use lib.ListN.{length, getD}
-use borrow.Author.Tests.{eqb-false}
 use Rattle.units.specs.Told.{Told, gives, refuses, pick}
 use Rattle.units.specs.declared.Sector.{Sector}
 use Rattle.units.specs.declared.Region.{Region}
@@ -16,24 +14,22 @@ use Rattle.read_lookup.specs.declared.Looked.the-variants as looked
 use Rattle.read_lookup.specs.Lookup as lookup
 use Rattle.read_lookup.specs.Lookup.{Finding, anyHigh, lookupBy, lookupOf}
 use Rattle.read_lookup.specs.Chain.{countOf}
-use Rattle.read_lookup.proofs.Laws.{looped-endless, looped-again, endless-looped, again-looped, count-is-length}
+use Rattle.read_lookup.proofs.Laws.{looped-endless, looped-again, again-endless, endless-looped, count-is-length}
 use Rattle.read_lookup.proofs.Told.{told-one}
 use Rattle.strict_rule.proofs.Accepted.{accepted}
 use Rattle.strict_rule.proofs.Accepts.{accepts}
+use Rattle.agree_causes.proofs.Endless.{empty-ends}
 use Rattle.agree_causes.proofs.Listed.{check-lists, check-listed}
 use Rattle.claims.specs.Reading.{Looped, LoopedExactly, Counted, StrictExactly}
 
--- 25 is answered after 2 and 21 are not
-before-25 : (a b : Bool) (x : Told Finding) → pick a (refuses 2 []) (pick b (refuses 21 []) x) ≡ refuses 25 [] → (a ≡ false) × (b ≡ false)
-before-25 true b x e = let z : _≡_ {A = ℕ} 2 25 = cc in absurd (omega arith)
-before-25 false true x e = let z : _≡_ {A = ℕ} 21 25 = cc in absurd (omega arith)
-before-25 false false x e = (refl, refl)
+-- 25 is answered after 2 is not
+not-2 : (a : Bool) (x : Told Finding) → pick a (refuses 2 []) x ≡ refuses 25 [] → a ≡ false
+not-2 true x e = let z : _≡_ {A = ℕ} 2 25 = cc in absurd (omega arith)
+not-2 false x e = refl
 
-let-through : (w : List ℕ) (first : Sector) (t : Region) (name : List ℕ) → lookupOf w first t name ≡ refuses 25 [] → (anyHigh name ≡ false) × (t .size ≡ 0 → ⊥)
+let-through : (w : List ℕ) (first : Sector) (t : Region) (name : List ℕ) → lookupOf w first t name ≡ refuses 25 [] → anyHigh name ≡ false
 unfolding lookupBy
-let-through w first t name e =
-    let s = before-25 (anyHigh name) (eqb (t .size) 0) _ e in
-    (s .0, eqb-false (t .size) 0 (s .1))
+let-through w first t name e = not-2 (anyHigh name) _ e
 
 pub looped-exactly : LoopedExactly
 looped-exactly w bytes first t name r c =
@@ -42,8 +38,10 @@ looped-exactly w bytes first t name r c =
       never-ends = λ q. looped-endless lookupAbsent w first t name bytes (said q);
       reads-again = λ q. looped-again lookupAbsent w first t name bytes (said q);
       let-through = λ q. let-through w first t name (said q);
-      where-endless = λ low some e. told-one r looked.Looped (c ∙ endless-looped lookupAbsent w first t name low some e);
-      where-again = λ low some e. told-one r looked.Looped (c ∙ again-looped lookupAbsent w first t name low some e);
+      where-endless = λ low e. told-one r looked.Looped (c ∙ endless-looped lookupAbsent w first t name low (λ z. empty-ends lookupAbsent w first t name z e) e);
+      where-again = λ low a.
+          let e = again-endless lookupAbsent w first t name a in
+          told-one r looked.Looped (c ∙ endless-looped lookupAbsent w first t name low (λ z. empty-ends lookupAbsent w first t name z e) e);
     }
 
 pub counted : Counted

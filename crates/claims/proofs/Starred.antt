@@ -49,8 +49,6 @@ starred = record {
   right-65532 = λ entry align e s i j l a b h.
       let k = ap (λ (o : ℕ). o / 4) h in
       (k, right-bytes (itemOf entry align e s l i (node a j b)) k);
-  seven = computed.cases .seven;
-  never-262140 = computed.cases .never;
   never-0xffff = λ entry align s x f y m.
       of-item (λ z. (z .left ≡ 65535 → ⊥) × (z .right ≡ 65535 → ⊥)) (items entry align 0 s x) y (never-linked entry align x 0 s f refl) m;
   thin-19 = (thin-balanced 19, (thin-height 19, thin-size 19 ∙ least-19));

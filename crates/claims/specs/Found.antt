@@ -15,6 +15,7 @@ use Rattle.strict_rule.specs.Strict as checking
 use Rattle.table_model.specs.Entry.{Entry, Item}
 use Rattle.table_model.specs.Place.{items}
 use Rattle.table_model.specs.Table.{Placing}
+use Rattle.table_model.specs.Said.{AllIn, Stands, Apart, SectorsApart}
 use Rattle.dirtab_entry.specs.Entry.{rounded}
 use Rattle.dirtab_arena.specs.Arena.{Columns, Arena, entryAt, treeOf}
 use Rattle.dirtab.specs.Serialise as serialise
@@ -47,6 +48,10 @@ module _ (w : List ℕ) (first : Sector) (t : Region) (place : ℕ) where
   pub record Kept (n : ℕ) (entry : ℕ → Entry) (xs : List Item) : Type 0 where
     -- the items are the entries, each once
     pub each : EachOnce entry n xs
+    -- they are inside the table, whole in a sector, and no two overlap, nor do their sectors
+    pub inside : AllIn (Stands 0 (t .size)) xs
+    pub apart : Apart xs
+    pub sectors : SectorsApart xs
     -- the walk lists them: with n places in its list or more, and scratch that is longer than the list, it answers
     -- n, and the list has the items' offsets in preorder, and then zeros
     pub listed : (list scratch : List ℕ) → n ≤ length list → length list < length scratch

@@ -18,16 +18,14 @@ use Rattle.read_lookup.specs.Chain.{Endless, ReadsAgain, LengthIs, countOf}
 use Rattle.strict_rule.specs.Strict as checking
 use Rattle.strict_rule.specs.Accepts.{Accepts}
 
--- 25 EXACTLY WHERE THE CHAIN NEVER ENDS, which is exactly where it would read an offset again. (2 and 21 come
--- before it.) w is a list of bytes: each element is below 256, as those of a `&[u8]` are (claims_bytes)
+-- 25 EXACTLY WHERE THE CHAIN NEVER ENDS, which is exactly where it would read an offset again. (2 comes before it; a
+-- chain in a table of size 0, which is 21, ends.) w is a list of bytes: each element is below 256, as those of a `&[u8]` are (claims_bytes)
 pub record Looped (w : List ℕ) (first : Sector) (t : Region) (name : List ℕ) (r : Looked) : Type 0 where
   pub never-ends : r ≡ looked.Looped → Endless (stepAt lookupAbsent w first t name) 0
   pub reads-again : r ≡ looked.Looped → ReadsAgain (stepAt lookupAbsent w first t name) 0
-  pub let-through : r ≡ looked.Looped → (anyHigh name ≡ false) × (t .size ≡ 0 → ⊥)
-  pub where-endless : anyHigh name ≡ false → (t .size ≡ 0 → ⊥) → Endless (stepAt lookupAbsent w first t name) 0
-      → r ≡ looked.Looped
-  pub where-again : anyHigh name ≡ false → (t .size ≡ 0 → ⊥) → ReadsAgain (stepAt lookupAbsent w first t name) 0
-      → r ≡ looked.Looped
+  pub let-through : r ≡ looked.Looped → anyHigh name ≡ false
+  pub where-endless : anyHigh name ≡ false → Endless (stepAt lookupAbsent w first t name) 0 → r ≡ looked.Looped
+  pub where-again : anyHigh name ≡ false → ReadsAgain (stepAt lookupAbsent w first t name) 0 → r ≡ looked.Looped
 
 abbrev pub LoopedExactly : Type 0
 LoopedExactly = (w : List ℕ) → ((i : ℕ) → getD w i 0 < 256) → (first : Sector) (t : Region) (name : List ℕ)

@@ -11,7 +11,6 @@ use Rattle.avl_model.specs.Tree.{Tree, node, ht}
 use Rattle.avl_model.specs.Laws.{Avl, All, size}
 use Rattle.table_model.specs.Entry.{Entry, Item, entryBytes}
 use Rattle.table_model.specs.Place.{startOf, stopOf, endOf, itemOf, items}
-use Rattle.table_model.specs.Table.{placeOf}
 use Rattle.table_model.specs.Said.{Fits}
 use Rattle.dirtab_arena.specs.Arena.{Arena, arena}
 use Rattle.dirtab_add.specs.Add.{Grown, addOf, columnsAfter}
@@ -44,11 +43,7 @@ pub record Starred : Type 0 where
       → startOf entry (endOf entry (stopOf entry e i) l) j ≡ 262128
       → (itemOf entry align e s l i (node a j b) .right ≡ 65532)
       × (take 2 (drop 2 (entryBytes (itemOf entry align e s l i (node a j b)))) ≡ 0xfc ∷ 0xff ∷ [])
-  -- an item at 262,144 is 7, and none is at 262,140: so no table has a link of 0xffff
-  pub seven : (entry : ℕ → Entry) (align s : ℕ) (x : Tree) (y : Item) → List·Memᴰ y (items entry align 0 s x)
-      → y .offset ≡ 262144 → placeOf entry align s x ≡ refuses 7 []
-  pub never-262140 : (entry : ℕ → Entry) (align s : ℕ) (x : Tree) → All (λ i. Fits (entry i)) x → (y : Item)
-      → List·Memᴰ y (items entry align 0 s x) → y .offset ≡ 262140 → ⊥
+  -- no table has a link of 0xffff (`table` has that an item at 262,144 is 7, and that none is at 262,140)
   pub never-0xffff : (entry : ℕ → Entry) (align s : ℕ) (x : Tree) → All (λ i. Fits (entry i)) x → (y : Item)
       → List·Memᴰ y (items entry align 0 s x) → (y .left ≡ 0xffff → ⊥) × (y .right ≡ 0xffff → ⊥)
   -- the fewest entries at height 19 are 10,945, at 20 are 17,710: a balanced tree has so many, and none has fewer

@@ -18,8 +18,8 @@ pub fn know_bytes(w: &[u8])
     }
 }
 
-// Looks a name up, as `xdvdfs::look_up` does. It answers 25 exactly where neither 2 nor 21 is answered and the chain
-// of headers never ends, which is exactly where it would read an offset again.
+// Looks a name up, as `xdvdfs::look_up` does. It answers 25 exactly where 2 is not answered and the chain of headers
+// never ends, which is exactly where it would read an offset again.
 pub fn look_up(w: &[u8], first: Sector, table: Region, name: &[u8]) -> Looked
     ensures { λ r. ⌜ Looped (was w) first table (was name) r ⌝ }
 {
