@@ -9,14 +9,16 @@ use lib.Dec.{leb, ltb}
 use Rattle.units.specs.Told.{Told, gives, refuses, pick}
 use Rattle.units.specs.declared.Sector.{Sector}
 use Rattle.units.specs.declared.Region.{Region}
-use Rattle.read_entry.specs.Entry.{Placed, byteOf, readHere, readAt}
+use Rattle.read_entry.specs.Entry.{Placed, readHere, readAt}
+use Rattle.read_entry.proofs.Located.{byteOf, read-by-tests}
 use Rattle.read_lookup.specs.Lookup.{Leads, refused, byRead, stepAt}
 use Rattle.read_lookup.specs.Chain.{goes, offsetFrom, Endless}
 
 module _ (absent w : List ℕ) (first : Sector) (t : Region) (name : List ℕ) (empty : t .size ≡ 0) where
   outside : readAt w first t 0 ≡ refuses 23 (0 ∷ [])
-  unfolding readAt
-  outside = ap (λ (n : ℕ). pick (leb n 0) (refuses 23 (0 ∷ [])) (pick (ltb (byteOf t 0) (2048 * (first .0))) (refuses 24 (0 ∷ [])) (readHere w (byteOf t 0 - 2048 * (first .0)) 0))) empty
+  outside =
+      read-by-tests w first t 0
+      ∙ ap (λ (n : ℕ). pick (leb n 0) (refuses 23 (0 ∷ [])) (pick (ltb (byteOf t 0) (2048 * (first .0))) (refuses 24 (0 ∷ [])) (readHere w (byteOf t 0 - 2048 * (first .0)) 0))) empty
 
   stops : stepAt absent w first t name 0 ≡ refused 23 (0 ∷ [])
   unfolding stepAt
