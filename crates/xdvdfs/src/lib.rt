@@ -59,7 +59,7 @@ ghost use Rattle.strict_rule.specs.Strict as checking;
 // Reads the volume descriptor that the bytes start with: where the root table stands. 20 where a mark differs or is
 // cut.
 pub fn read_descriptor(s: &[u8]) -> DescriptorRead
-    ensures { λ r. ⌜ volume.readTold r ≡ volume.readOf (was s) ⌝ }
+    ensures answer { λ r. ⌜ volume.readTold r ≡ volume.readOf (was s) ⌝ }
 {
     layout_volume::read_descriptor(s)
 }
@@ -67,14 +67,14 @@ pub fn read_descriptor(s: &[u8]) -> DescriptorRead
 // Reads the entry at an offset of a table: its header and place in the window, or that there is none. 23, 24 with
 // the offset.
 pub fn read_entry(w: &[u8], first: Sector, table: Region, offset: Offset) -> Read
-    ensures { λ r. ⌜ entry.told r ≡ entry.readAt (was w) first table (offset .0) ⌝ }
+    ensures answer { λ r. ⌜ entry.told r ≡ entry.readAt (was w) first table (offset .0) ⌝ }
 {
     read_entry::read_at(w, first, table, offset)
 }
 
 // The name of an entry whose first byte stands at a place of the window: that part of the window itself.
 pub fn entry_name(w: &[u8], place: usize, n: u8) -> &[u8]
-    ensures { λ r. ⌜ now r ≡ entry.nameOf (was w) place n ⌝ }
+    ensures name { λ r. ⌜ now r ≡ entry.nameOf (was w) place n ⌝ }
 {
     read_entry::name_of(w, place, n)
 }
@@ -82,7 +82,7 @@ pub fn entry_name(w: &[u8], place: usize, n: u8) -> &[u8]
 // Looks a name up in a table. 2, 21, then 22 with the number of headers read, 23, 24, 25. 22 is that the chain came
 // to an absent link, 0 or 255, or to no entry: with a link of 255 an entry may have the name, and the walk lists it.
 pub fn look_up(w: &[u8], first: Sector, table: Region, name: &[u8]) -> Looked
-    ensures { λ r. ⌜ lookup.told r ≡ lookup.lookupOf (was w) first table (was name) ⌝ }
+    ensures answer { λ r. ⌜ lookup.told r ≡ lookup.lookupOf (was w) first table (was name) ⌝ }
 {
     read_lookup::look_up(w, first, table, name)
 }
@@ -90,7 +90,7 @@ pub fn look_up(w: &[u8], first: Sector, table: Region, name: &[u8]) -> Looked
 // Follows a path from a table. 2, 28, then for each part what its lookup gives, and 27 where a part but the last is
 // no directory. 22 is as for lookup: a part below a link of 255 is not found, though the walk lists it.
 pub fn find_path(w: &[u8], first: Sector, table: Region, path: &[u8]) -> PathFound
-    ensures { λ r. ⌜ following.told r ≡ following.pathOf (was w) first table (was path) ⌝ }
+    ensures answer { λ r. ⌜ following.told r ≡ following.pathOf (was w) first table (was path) ⌝ }
 {
     read_path::find_path(w, first, table, path)
 }
@@ -136,8 +136,8 @@ pub fn check_table(
 
 // Writes a volume descriptor into the first 2,048 bytes of the output. 9 where it is shorter.
 pub fn write_descriptor(out: &mut [u8], d: Descriptor) -> DescriptorWritten
-    ensures { λ r. ⌜ volume.writeTold r ≡ volume.writeOf (was out) ⌝ }
-    ensures { λ _. ⌜ is out ≡ volume.bytesAfter (was out) d ⌝ }
+    ensures answer { λ r. ⌜ volume.writeTold r ≡ volume.writeOf (was out) ⌝ }
+    ensures output { λ _. ⌜ is out ≡ volume.bytesAfter (was out) d ⌝ }
 {
     layout_volume::write_descriptor(out, d)
 }
@@ -158,7 +158,7 @@ pub fn add(
     names: &[u8],
     entry: Entry,
 ) -> Added
-    ensures { λ r.
+    ensures answer_and_memory { λ r.
         let A = arenaIn (tree .root) (tree .count) left right parent height start len size kind names in
         let c = lentColumns left right parent height start len size kind in
         ⌜ adding.told r ≡ adding.addOf A entry ⌝
@@ -198,7 +198,7 @@ pub fn serialise(
     place: &mut [u16],
     out: &mut [u8],
 ) -> Serialised
-    ensures { λ r.
+    ensures answer_and_memory { λ r.
         let A = arenaIn (tree .root) (tree .count) left right parent height start len size kind names in
         let m = serialising.memory order place out in
         ⌜ serialising.told r ≡ serialising.answerIn A (first .0) (m .entry) ⌝
@@ -244,7 +244,7 @@ pub fn write_list(
     place: &mut [u16],
     out: &mut [u8],
 ) -> ListWritten
-    ensures { λ r.
+    ensures answer_and_memory { λ r.
         let list = whole.listed count start len size kind names in
         let m = whole.memory left right parent height key order place out in
         ⌜ whole.told r ≡ whole.answerIn list (first .0) (m .entry) ⌝
@@ -301,7 +301,7 @@ pub fn plan(
     size: &mut [u32],
     order: &mut [u16],
 ) -> Planned
-    ensures { λ r.
+    ensures answer_and_memory { λ r.
         let a = image.asking directories entries from share start len kind value names in
         let m = image.memory sizes tables sectors sized left right parent height key size order in
         ⌜ planning.told r ≡ image.answerIn a (m .entry) ⌝
