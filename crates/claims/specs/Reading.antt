@@ -19,7 +19,8 @@ use Rattle.strict_rule.specs.Strict as checking
 use Rattle.strict_rule.specs.Accepts.{Accepts}
 
 -- 25 EXACTLY WHERE THE CHAIN NEVER ENDS, which is exactly where it would read an offset again. (2 comes before it; a
--- chain in a table of size 0, which is 21, ends.) w is a list of bytes: each element is below 256, as those of a `&[u8]` are (claims_bytes)
+-- chain in a table of size 0, which is 21, ends.) w is a list of bytes: each element is below 256, as those of a
+-- `&[u8]` are (claims_bytes)
 pub record Looped (w : List ℕ) (first : Sector) (t : Region) (name : List ℕ) (r : Looked) : Type 0 where
   pub never-ends : r ≡ looked.Looped → Endless (stepAt lookupAbsent w first t name) 0
   pub reads-again : r ≡ looked.Looped → ReadsAgain (stepAt lookupAbsent w first t name) 0
