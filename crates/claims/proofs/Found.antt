@@ -42,7 +42,7 @@ module _ (w : List ℕ) (first : Sector) (t : Region) (place : ℕ) where
     links = r .links;
     way = r .way;
     real = r .real;
-    only-way = λ ks k q. a .one-way (y .offset) ks (r .links) k q (r .way) (r .real);
+    one-way = λ ks k q. a .one-way (y .offset) ks (r .links) k q (r .way) (r .real);
     found = λ none name low same.
         r .answers lookupAbsent name low same ∙ along-clear lookupAbsent (placedAt place y) (y .offset) 1 (r .links) (without-255 (r .links) (r .real) none);
     lost = λ some name low same.

@@ -37,7 +37,7 @@ module _ (w : List ℕ) (first : Sector) (t : Region) (place : ℕ) where
     pub way : Along (readAt w first t) 0 (y .offset) links
     -- the way is the only one along links of which none is 0 or 65,535
     pub real : Real links
-    pub only-way : (ks : List ℕ) → Along (readAt w first t) 0 (y .offset) ks → Real ks → ks ≡ links
+    pub one-way : (ks : List ℕ) → Along (readAt w first t) 0 (y .offset) ks → Real ks → ks ≡ links
     pub found : (List·Memᴰ 255 links → ⊥) → (name : List ℕ) → anyHigh name ≡ false → Same name (y .entry .name)
         → lookupOf w first t name
         ≡ gives (record { entry = placedAt place y; offset = y .offset; headers = 1 + length links })
