@@ -1,6 +1,6 @@
 -- DEMAND 3 OF A LIST OF ENTRIES: the tree that insertion grows is ordered and balanced and has each number once, so that the agreement holds of it.
 -- Assumes nothing.
-use Prim.Native.Nat.{ℕ, zero, suc, _+_, _*_, _/_, _≤_, _<_}
+use Prim.Native.Nat.{ℕ, zero, suc, _+_, _≤_, _<_}
 use mathlib.Core.Path.{_≡_, refl, sym, ap, _∙_}
 use mathlib.Core.Bool.{Bool, true, false}
 use mathlib.Core.List.{List, [], _∷_, _++_}
@@ -16,9 +16,8 @@ use Rattle.layout_name.specs.declared.Order.the-variants.{Less, Equal, Greater}
 use Rattle.layout_name.specs.Order.{nameOrder}
 use Rattle.layout_name.specs.inner.Order.{opposite}
 use Rattle.layout_name.proofs.Laws.{name-opposite, name-trans, name-equal→}
-use Rattle.dirtab_entry.specs.declared.Kind.{Kind}
-use Rattle.dirtab_entry.specs.declared.Kind.the-variants.{File, Directory}
-use Rattle.dirtab_entry.specs.Entry.{isDirectory, storedSize, isBad, anyBad}
+use Rattle.dirtab_entry.specs.Entry.{anyBad}
+use Rattle.dirtab_entry.proofs.Stored.{stored-low}
 use Rattle.read_lookup.specs.Lookup.{anyHigh}
 use Rattle.avl_model.specs.Tree.{Tree, leaf, node, δ, cnt, ins}
 use Rattle.avl_model.specs.Laws.{Avl, All, Ordered, size}
@@ -29,14 +28,14 @@ use Rattle.avl_model.proofs.Avl.{ins-avl, ins-ordered, all-ins, all-map, tally,
 use Rattle.avl_model.proofs.Bal.{ins-cnt}
 use Rattle.avl_model.proofs.Counted.{all-below}
 use Rattle.avl_model.proofs.Frame.{δ-same, δ-apart}
-use Rattle.table_model.specs.Entry.{Entry, Item}
+use Rattle.table_model.specs.Entry.{Entry}
 use Rattle.table_model.specs.Place.{items}
 use Rattle.table_model.specs.Table.{sizeOf}
 use Rattle.table_model.specs.Said.{Fits}
 use Rattle.table_model.proofs.Geometry.{items-entries}
 use Rattle.agree.specs.Written.{Before, Written}
 use Rattle.agree.specs.Agreement.{Agreement}
-use Rattle.agree.specs.Given.{Given, largestDirectory, Good, numbered, stored, entryOf, grown, treeOf, Admitted, WrittenList, times, EachOnce}
+use Rattle.agree.specs.Given.{Given, numbered, entryOf, grown, treeOf, WrittenList, times, EachOnce}
 use Rattle.agree.proofs.Sized.{as-reported}
 use Rattle.agree.proofs.Agrees.{agreement}
 
@@ -105,11 +104,6 @@ grown-each entry n align s = record {
   others = λ i h. times-order i (grown entry n) ∙ all-below n (grown entry n) i (grown-below entry n) h;
 }
 
--- what a good entry is stored as fits
-pub stored-small : (k : Kind) (n : ℕ) → n ≤ 4294967295 → (isDirectory k ≡ true → n ≤ largestDirectory) → storedSize k n ≤ 4294967295
-stored-small File n h f = h
-stored-small Directory n h f = let k = f refl in omega arith
-
 module _ (align s : ℕ) (gs : List Given) (w : List ℕ) (first : Sector) (t : Region) (g : WrittenList align s gs w first t) where
   -- the tree of a list that is admitted is written
   pub list-written : Written (entryOf gs) align s (treeOf gs) w first t
@@ -119,7 +113,7 @@ module _ (align s : ℕ) (gs : List Given) (w : List ℕ) (first : Sector) (t : 
         writable = record {
           aligned = a .aligned;
           fits = all-map (λ i. i < length gs) (λ i. Fits (entryOf gs i)) (treeOf gs)
-              (λ i h. let k = a .good i h in record { short = omega (arith, k .short); small = stored-small (numbered gs i .kind) (numbered gs i .size) (k .small) (k .roundable) })
+              (λ i h. let k = a .good i h in record { short = omega (arith, k .short); small = stored-low (numbered gs i .kind) (numbered gs i .size) (k .small) (k .roundable) })
               (grown-below (entryOf gs) (length gs));
           ordered = grown-ordered (entryOf gs) (length gs)
               (λ i j h k e. omega (arith, a .differ i j h (omega arith) (name-equal→ (numbered gs i .name) (numbered gs j .name) e)));

@@ -8,4 +8,5 @@ pub mod Unique
 pub mod Agrees
 pub mod Plain
 pub mod FromList
+pub mod Growing
 pub mod Cases

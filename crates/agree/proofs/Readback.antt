@@ -2,25 +2,25 @@
 use Prim.Native.Nat.{ℕ, _+_, _-_, _*_, _≤_, _<_}
 use mathlib.Core.Path.{_≡_, refl, sym, ap, _∙_}
 use mathlib.Core.Bool.{false}
-use mathlib.Core.List.{List, [], _∷_, _++_, append-assoc}
+use mathlib.Core.List.{List, _++_, append-assoc}
 use mathlib.Core.Option.{some}
 use native.Mathlib.Omega.{arith}
 use lib.ListN.{length, getD, take, drop, length-append, length-drop}
 use lib.Seq.{take-at, drop-at, drop-drop}
 use borrow.Author.Tests.{le-ltb, lt-leb}
-use Rattle.units.specs.Told.{gives, pick}
+use Rattle.units.specs.Told.{gives}
 use Rattle.units.specs.declared.Sector.{Sector}
 use Rattle.units.specs.declared.Region.{Region}
 use Rattle.layout_bytes.specs.Bytes.{all}
-use Rattle.layout_node.specs.Header.{headerOf, headerBytes, either, isBlank}
+use Rattle.layout_node.specs.Header.{headerOf, headerBytes, isBlank}
 use Rattle.layout_node.proofs.Blank.{not-all}
 use Rattle.layout_node.proofs.RoundTrip as node
 use Rattle.dirtab_entry.specs.declared.Kind.{Kind}
 use Rattle.dirtab_entry.specs.declared.Kind.the-variants.{File, Directory}
-use Rattle.read_entry.specs.Entry.{Placed, readHere, readAt, nameOf}
+use Rattle.read_entry.specs.Entry.{readHere, nameOf}
 use Rattle.read_entry.proofs.Located.{read-by-tests}
-use Rattle.table_model.specs.Entry.{Entry, Item, attributes, headerFor, entryBytes}
-use Rattle.agree.specs.Agreement.{placedAt, ReadBack}
+use Rattle.table_model.specs.Entry.{Item, attributes, headerFor, entryBytes}
+use Rattle.agree.specs.Agreement.{ReadBack}
 
 -- what fits the fields of a header
 pub record Fields (y : Item) : Type 0 where

@@ -28,7 +28,8 @@ use Rattle.dirtab.specs.Serialise as serialise
 use Rattle.dirtab_grow.specs.Grow.{grow}
 use Rattle.dirtab_list.specs.Whole.{Listing, givenIn, entryIn, hasPlaces, ifFits, ifGrown, wholeOf, Lent, placesIn, answerIn}
 use Rattle.agree.specs.Given.{grown}
-use Rattle.agree.proofs.FromList.{grown-below, stored-small}
+use Rattle.dirtab_entry.proofs.Stored.{stored-low}
+use Rattle.agree.proofs.FromList.{grown-below}
 use Rattle.agree_list.specs.InTurn.{addAll, emptyIn, thenAnswer}
 use Rattle.agree_list.proofs.Same.{same-answer}
 use Rattle.agree_causes.specs.Lists.{FairList, Roomy, Enough, EnoughInTurn, treeFor, itemsFor, TooLarge, Near, WriteOutcome, written, five, seven, eight}
@@ -86,7 +87,7 @@ module _ (L : Listing) (f : FairList L) where
           all-map (λ i. i < L .count) (FitsAt (entryIn L)) (treeFor L)
           (λ i h. record {
             short = omega (arith, name-long (L .count) (L .start) (L .len) (L .bytes) (f .named) i h, f .named .short i h);
-            small = stored-small (kindFor (getD (L .kind) i 0)) (getD (L .size) i 0) (f .sizes i)
+            small = stored-low (kindFor (getD (L .kind) i 0)) (getD (L .size) i 0) (f .sizes i)
                 (low-size (getD (L .kind) i 0) (getD (L .size) i 0) (eqb (getD (L .kind) i 0) 1) (ltb 4294965248 (getD (L .size) i 0)) refl refl
                 (λ k l. none i h (record { directory = k; large = l })));
           })

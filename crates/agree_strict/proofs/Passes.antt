@@ -13,7 +13,6 @@ use borrow.Author.Tests.{eq-eqb, ne-eqb, le-leb}
 use Rattle.units.specs.Told.{Told, gives, pick}
 use Rattle.units.specs.declared.Sector.{Sector}
 use Rattle.units.specs.declared.Region.{Region}
-use Rattle.layout_bytes.specs.Bytes.{both}
 use Rattle.layout_name.specs.declared.Order.the-variants.{Less}
 use Rattle.layout_name.specs.Order.{nameOrder}
 use Rattle.layout_node.specs.Header.{entryLength}
@@ -23,7 +22,7 @@ use Rattle.lookup_way.proofs.Sets.{in-walk, walk-0}
 use Rattle.read_walk.specs.Walk.{before}
 use Rattle.read_walk.proofs.Steps.{before-none, before-before}
 use Rattle.strict_rule.specs.Strict as strict
-use Rattle.strict_rule.specs.Strict.{endBy, nameBy, inSector, clear, apart, placed, isLess, Visit, ordered, verdictAt, push, toEntry, strictFrom, strictOf}
+use Rattle.strict_rule.specs.Strict.{endBy, nameBy, apart, placed, Visit, ordered, verdictAt, push, toEntry, strictFrom, strictOf}
 use Rattle.strict_rule.specs.Accepts.{Accepts}
 use Rattle.strict_rule.proofs.Accepted.{accepted}
 use Rattle.avl_model.specs.Tree.{Tree, leaf, node}
@@ -32,7 +31,6 @@ use Rattle.avl_model.proofs.Avl as avl
 use Rattle.table_model.specs.Entry.{Entry, Item}
 use Rattle.table_model.specs.Place.{items}
 use Rattle.table_model.specs.Said.{AllIn, Stands}
-use Rattle.table_model.proofs.Places.{Starts}
 use Rattle.table_model.proofs.Geometry.{items-stand}
 use Rattle.agree.specs.Written.{Before, Written}
 use Rattle.agree.specs.Agreement.{offsets, placedAt}

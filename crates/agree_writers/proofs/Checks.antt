@@ -1,48 +1,26 @@
 -- What an entry that adding takes is like, and an output that a table fits. Assumes nothing.
-use Prim.Native.Nat.{ℕ, _+_, _*_, _/_, _≤_, _<_}
-use mathlib.Core.Path.{_≡_, refl, sym, ap, _∙_}
+use Prim.Native.Nat.{ℕ, _≤_}
+use mathlib.Core.Path.{_≡_, sym, _∙_}
 use mathlib.Core.Bool.{Bool, true, false}
-use mathlib.Core.List.{List, [], _++_, append-assoc}
+use mathlib.Core.List.{List, []}
 use native.Mathlib.Omega.{arith}
-use lib.Dec.{ltb, leb, eqb}
-use lib.ListN.{length, take, drop, length-take}
-use borrow.Author.Tests.{ltb-false}
+use lib.Dec.{leb}
+use lib.ListN.{length, length-take}
 use Rattle.units.specs.Told.{Told, gives, refuses, pick}
-use Rattle.units.specs.declared.Sector.{Sector}
 use Rattle.dirtab_entry.specs.declared.Entry.{Entry}
-use Rattle.dirtab_entry.specs.Entry.{isDirectory, rounded, storedSize, anyBad, nameIn, checkOf}
+use Rattle.dirtab_entry.specs.Entry.{rounded, storedSize, nameIn, checkOf}
+use Rattle.dirtab_entry.proofs.Stored.{stored-low}
+use Rattle.dirtab_arena.proofs.Fine.{fine-of}
 use Rattle.table_model.specs.Table.{Placing}
-use Rattle.agree.specs.Written.{Stand}
-use Rattle.agree.specs.Given.{largestDirectory}
-use Rattle.agree.proofs.FromList.{stored-small}
-
-five : (a b c d e : Bool)
-    → _≡_ {A = Told (Unit {0})} (pick a (refuses 1 []) (pick b (refuses 2 []) (pick c (refuses 2 []) (pick d (refuses 3 []) (pick e (refuses 5 []) (gives tt)))))) (gives tt)
-    → (d ≡ false) × (e ≡ false)
-five true b c d e h = let z : _≡_ {A = ℕ} 0 1 = cc in absurd (omega arith)
-five false true c d e h = let z : _≡_ {A = ℕ} 0 1 = cc in absurd (omega arith)
-five false false true d e h = let z : _≡_ {A = ℕ} 0 1 = cc in absurd (omega arith)
-five false false false true e h = let z : _≡_ {A = ℕ} 0 1 = cc in absurd (omega arith)
-five false false false false true h = let z : _≡_ {A = ℕ} 0 1 = cc in absurd (omega arith)
-five false false false false false h = (refl, refl)
-
-where-directory : (b : Bool) (n : ℕ) → pick b (ltb 4294965248 n) false ≡ false → b ≡ true → n ≤ largestDirectory
-where-directory true n h e = ltb-false _ _ h
-where-directory false n h e = let z : _≡_ {A = ℕ} 0 1 = cc in absurd (omega arith)
 
 module _ (bytes : List ℕ) (e : Entry) (taken : checkOf bytes e ≡ gives tt) where
-  parts : (ltb 255 (e .len) ≡ false) × (pick (isDirectory (e .kind)) (ltb 4294965248 (e .size)) false ≡ false)
-  unfolding checkOf
-  parts =
-      five (eqb (e .len) 0) (ltb (length bytes) (e .start + e .len)) (anyBad (nameIn bytes e)) (ltb 255 (e .len)) (pick (isDirectory (e .kind)) (ltb 4294965248 (e .size)) false) taken
-
   -- its name is short
   pub name-short : length (nameIn bytes e) ≤ 255
-  name-short = let h : e .len ≤ 255 = ltb-false _ _ (parts .0) in simp length-take (omega arith)
+  name-short = let h = fine-of bytes e taken .short in simp length-take (omega arith)
 
   -- and its size fits as it is stored
   pub size-small : e .size ≤ 4294967295 → storedSize (e .kind) (e .size) ≤ 4294967295
-  size-small h = stored-small (e .kind) (e .size) h (where-directory (isDirectory (e .kind)) (e .size) (parts .1))
+  size-small h = stored-low (e .kind) (e .size) h (fine-of bytes e taken .small)
 
 -- what fits an output was placed: a given placing goes on where its rounded size fits, and is 9 where it does not
 pub fits-gives : (if-fits : ℕ → Told Placing → Told Placing) → ((n : ℕ) (q : Placing) → if-fits n (gives q) ≡ pick (leb (rounded (q .size)) n) (gives q) (refuses 9 []))

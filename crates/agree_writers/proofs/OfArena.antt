@@ -1,34 +1,28 @@
 -- WHAT SERIALISING AN ARENA LEAVES, where it answers a size, is what is listed and found. Assumes nothing.
 use Prim.Native.Nat.{ℕ, _+_, _≤_, _<_}
-use mathlib.Core.Path.{_≡_, refl, sym, ap, _∙_}
-use mathlib.Core.Bool.{Bool, true, false, _&&_}
-use mathlib.Core.List.{List, [], _∷_, _++_}
+use mathlib.Core.Path.{_≡_, refl, _∙_}
+use mathlib.Core.Bool.{Bool, true, false}
+use mathlib.Core.List.{List, [], _++_}
 use native.Mathlib.Omega.{arith}
-use lib.Dec.{leb}
 use lib.ListN.{length, getD, drop}
 use Rattle.units.specs.Told.{Told, gives, refuses, pick}
 use Rattle.units.specs.declared.Sector.{Sector}
 use Rattle.units.specs.declared.Region.{Region}
-use Rattle.dirtab_entry.specs.Entry.{rounded, checkOf}
-use Rattle.avl_model.specs.Tree.{Tree, cnt}
+use Rattle.dirtab_entry.specs.Entry.{rounded}
 use Rattle.avl_model.specs.Laws.{All, Ordered}
 use Rattle.avl_model.specs.Names.{toName}
 use Rattle.avl_model.specs.Order.{order}
 use Rattle.avl_model.proofs.Avl.{all-map}
-use Rattle.avl_model.proofs.Counted.{all-below, rep-below}
-use Rattle.avl_arena.specs.Test.{every, holdsTree, decoded}
-use Rattle.avl_arena.specs.HeldTree.{HeldTree}
-use Rattle.avl_arena.proofs.Tested.{and-l, and-r, every-at}
-use Rattle.avl_arena.proofs.Sound.{sound}
-use Rattle.avl_model.specs.Rep.{arrOf}
-use Rattle.table_model.specs.Entry.{Entry, Item}
+use Rattle.avl_model.proofs.Counted.{all-below}
+use Rattle.avl_arena.proofs.Complete.{held-below}
 use Rattle.table_model.specs.Place.{items}
 use Rattle.table_model.specs.Table.{Placing, sizeOf, tableBytes, placeOf}
 use Rattle.table_model.specs.Said.{Fits}
 use Rattle.table_model.proofs.Geometry.{items-entries}
 use Rattle.table_model.proofs.Placing.{size-given}
-use Rattle.dirtab_arena.specs.Arena.{Arena, listsOf, namesOf, givenAt, entryAt, isGiven, isTaken, isArena, treeOf}
-use Rattle.dirtab.specs.Serialise.{scratchFits, ifFits, serialiseOf, ifWritten, outAfter}
+use Rattle.dirtab_arena.specs.Arena.{Arena, listsOf, namesOf, givenAt, entryAt, isArena, treeOf}
+use Rattle.dirtab_arena.proofs.Passed.{held, each-taken}
+use Rattle.dirtab.specs.Serialise.{scratchFits, ifFits, serialiseOf, outAfter}
 use Rattle.strict_rule.specs.Strict.{strictOf}
 use Rattle.agree.specs.Written.{Before, Written}
 use Rattle.agree.specs.Agreement.{offsets, Agreement}
@@ -41,44 +35,26 @@ use Rattle.agree_writers.specs.Wrote.{WroteArena}
 use Rattle.agree_writers.proofs.Checks.{name-short, size-small, fits-gives}
 use Rattle.agree_writers.proofs.Stands.{stand-as, table-first}
 
-given-is : (a : Told (Unit {0})) → isGiven a ≡ true → a ≡ gives tt
-given-is (gives u) e = refl
-given-is (refuses k vs) e = let z : _≡_ {A = ℕ} 0 1 = cc in absurd (omega arith)
-
 -- what serialising's answer rests on
 if-arena : (b d : Bool) (x : Told Placing) (p : Placing) → pick b (pick d x (refuses 6 [])) (refuses 12 []) ≡ gives p → (b ≡ true) × (x ≡ gives p)
 if-arena true true x p e = (refl, e)
 if-arena true false x p e = let z : _≡_ {A = ℕ} 0 1 = cc in absurd (omega arith)
 if-arena false d x p e = let z : _≡_ {A = ℕ} 0 1 = cc in absurd (omega arith)
 
-module _ (A : Arena) (held : isArena A ≡ true) where
-  tests : (holdsTree (listsOf A) (namesOf A) (A .count) ≡ true) × (every (isTaken A) (A .count) ≡ true)
-  unfolding isArena
-  tests =
-      let e₁ = and-r (leb (A .count) (length (A .columns .size))) _ held in
-      let e₂ = and-r (leb (A .count) (length (A .columns .kind))) _ e₁ in
-      (and-l (holdsTree (listsOf A) (namesOf A) (A .count)) _ e₂, and-r (holdsTree (listsOf A) (namesOf A) (A .count)) _ e₂)
-
-  tree-held : HeldTree (listsOf A) (namesOf A) (A .count) (treeOf A)
-  tree-held = sound (listsOf A) (namesOf A) (A .count) (tests .0)
-
+module _ (A : Arena) (is : isArena A ≡ true) where
   below : All (λ i. i < A .count) (treeOf A)
-  below = rep-below (arrOf (listsOf A)) (A .count) _ (treeOf A) (tree-held .rep)
-
-  checked : (i : ℕ) → i < A .count → checkOf (A .bytes) (givenAt A i) ≡ gives tt
-  unfolding isTaken
-  checked i h = given-is (checkOf (A .bytes) (givenAt A i)) (every-at (isTaken A) (A .count) (tests .1) i h)
+  below = held-below (listsOf A) (namesOf A) (A .count) (treeOf A) (held A is)
 
   ordered : Ordered (Before (entryAt A)) (treeOf A)
   unfolding toName
-  ordered = tree-held .ordered
+  ordered = held A is .ordered
 
   fits : ((i : ℕ) → getD (A .columns .size) i 0 ≤ 4294967295) → All (λ i. Fits (entryAt A i)) (treeOf A)
   fits sizes =
       all-map (λ i. i < A .count) (λ i. Fits (entryAt A i)) (treeOf A)
       (λ i h. record {
-        short = name-short (A .bytes) (givenAt A i) (checked i h);
-        small = size-small (A .bytes) (givenAt A i) (checked i h) (sizes i);
+        short = name-short (A .bytes) (givenAt A i) (each-taken A is i h);
+        small = size-small (A .bytes) (givenAt A i) (each-taken A is i h) (sizes i);
       })
       below
 
@@ -87,7 +63,7 @@ module _ (A : Arena) (held : isArena A ≡ true) where
   arena-each s = record {
     numbers = order (treeOf A);
     entries = items-entries (entryAt A) 1 (treeOf A) 0 s;
-    once = λ i h. times-order i (treeOf A) ∙ tree-held .each i h;
+    once = λ i h. times-order i (treeOf A) ∙ held A is .each i h;
     others = λ i h. times-order i (treeOf A) ∙ all-below (A .count) (treeOf A) i below h;
   }
 
@@ -110,7 +86,7 @@ module _ (A : Arena) (s n m : ℕ) (out : List ℕ) (p : Placing) (w : List ℕ)
       aligned = omega arith;
       fits = fits A (told .0) (g .sizes);
       ordered = ordered A (told .0);
-      balanced = tree-held A (told .0) .balanced;
+      balanced = held A (told .0) .balanced;
       placing = p;
       placed = placed;
     };
@@ -125,4 +101,4 @@ module _ (A : Arena) (s n m : ℕ) (out : List ℕ) (p : Placing) (w : List ℕ)
 
   -- and it passes the strict check, which lists the same
   pub arena-strict : (room : ℕ) → A .count ≤ room → strictOf w first t room ≡ gives (offsets (items (entryAt A) 1 0 s (treeOf A)))
-  arena-strict room h = written-passes (entryAt A) 1 s (treeOf A) w first t arena-wrote room (omega (arith, tree-held A (told .0) .size-is))
+  arena-strict room h = written-passes (entryAt A) 1 s (treeOf A) w first t arena-wrote room (omega (arith, held A (told .0) .size-is))

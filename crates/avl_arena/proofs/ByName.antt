@@ -12,10 +12,9 @@ use borrow.Author.Tests.{le-leb}
 use Rattle.layout_name.specs.declared.Order.{Order}
 use Rattle.layout_name.specs.declared.Order.the-variants.{Less, Equal, Greater}
 use Rattle.layout_name.specs.Order.{nameOrder}
-use Rattle.layout_name.proofs.Laws.{name-trans, name-equal}
-use Rattle.avl_model.specs.Names.{Names, nameAt, toName, byName, isLess}
+use Rattle.layout_name.proofs.Laws.{name-equal}
+use Rattle.avl_model.specs.Names.{Names, nameAt, toName, byName, isLess, Before}
 use Rattle.avl_arena.specs.Test.{partNames, between}
-use Rattle.avl_arena.specs.HeldTree.{Before}
 
 -- i comes after lo, where that is one of the n nodes
 abbrev pub Lo : Names → ℕ → ℕ → ℕ → Type 0
@@ -24,10 +23,6 @@ Lo N n lo i = (n ≤ lo) ⊎ Before N lo i
 -- i comes before hi, where that is one of the n nodes
 abbrev pub Hi : Names → ℕ → ℕ → ℕ → Type 0
 Hi N n hi i = (n ≤ hi) ⊎ Before N i hi
-
-pub before-trans : (N : Names) (a b c : ℕ) → Before N a b → Before N b c → Before N a c
-unfolding toName
-before-trans N a b c = name-trans (nameAt N a) (nameAt N b) (nameAt N c)
 
 pub before-never : (N : Names) (a : ℕ) → Before N a a → ⊥
 unfolding toName

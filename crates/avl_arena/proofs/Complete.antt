@@ -1,27 +1,28 @@
 -- The arena test takes every held tree of at most 65,535 nodes: with `Sound`, it says exactly that. And there is one such tree at most.
-use Prim.Native.Nat.{ℕ, suc, _+_, _≤_, max}
+use Prim.Native.Nat.{ℕ, suc, _+_, _≤_, _<_, max}
 use native.Mathlib.Omega.{arith}
+use native.Mathlib.Decide.{decLt}
 use mathlib.Core.Path.{_≡_, refl, sym, ap, _∙_}
 use mathlib.Core.Bool.{Bool, true, _||_, or-true}
 use mathlib.Core.Logic.{_⊎_, inl, inr}
 use lib.ListN.{length, getD, take}
-use lib.Seq.{getD-take, length-take-le}
+use lib.Seq.{length-take-le}
 use lib.Dec.{leb}
 use borrow.Author.Tests.{le-leb, eq-eqb}
 use Rattle.layout_name.specs.declared.Order.{Order}
 use Rattle.avl_model.specs.Lists.{Lists}
-use Rattle.avl_model.specs.Names.{Names, byName, isLess}
-use Rattle.avl_model.specs.Tree.{Tree, leaf, node, none, top, ht}
+use Rattle.avl_model.specs.Names.{Names, byName, isLess, Before}
+use Rattle.avl_model.specs.Tree.{Tree, leaf, node, none, top, ht, cnt}
 use Rattle.avl_model.specs.Rep.{Cell, Rep}
 use Rattle.avl_model.specs.Rep.{arrOf}
 use Rattle.avl_model.specs.Laws.{Avl, All, Ordered, size}
 use Rattle.avl_model.specs.Seek.{treeAt}
-use Rattle.avl_model.specs.inner.Seek.{Links}
 use Rattle.avl_model.proofs.Avl.{all-map}
 use Rattle.avl_model.proofs.Seeking.{treeAt-is}
-use Rattle.avl_model.proofs.Counted.{low-22}
+use Rattle.avl_model.proofs.Counted.{all-below, rep-below, low-22}
+use Rattle.avl_model.proofs.Adding.{links-of, links-part}
 use Rattle.avl_arena.specs.Test.{places, between, cellOk, okTree, decoded, isWhole, holdsTree}
-use Rattle.avl_arena.specs.HeldTree.{Before, Places, HeldTree}
+use Rattle.avl_arena.specs.HeldTree.{Places, HeldTree}
 use Rattle.avl_arena.proofs.Tested.{and-both, every-of}
 use Rattle.avl_arena.proofs.ByName.{Lo, Hi}
 use Rattle.avl_arena.proofs.Decoded.{part-named, part-whole}
@@ -55,21 +56,17 @@ module _ (S : Lists) (N : Names) (n : ℕ) where
       and-both (le-leb n (length (S .L)) (w .l)) (and-both (le-leb n (length (S .R)) (w .r)) (and-both (le-leb n (length (S .P)) (w .p))
       (and-both (le-leb n (length (S .H)) (w .h)) (and-both (le-leb n (length (N .start)) (w .start)) (le-leb n (length (N .len)) (w .len))))))
 
-  pub links-part : (m p : ℕ) (t : Tree) → m ≡ n → Rep (arrOf S) n p t → Links (take n (S .L)) (take n (S .R)) m t
-  links-part m p leaf e c = tt
-  links-part m p (node l i r) e c = (
-    record {
-      fits = omega (arith, c .0 .fits);
-      left = getD-take n (S .L) i 0 (c .0 .fits) ∙ c .0 .left;
-      right = getD-take n (S .R) i 0 (c .0 .fits) ∙ c .0 .right;
-    },
-    links-part m i l e (c .1),
-    links-part m i r e (c .2),
-  )
-
 all-of : (P : ℕ → Type 0) (t : Tree) → ((j : ℕ) → P j) → All P t
 all-of P leaf f = tt
 all-of P (node l i r) f = (f i, all-of P l f, all-of P r f)
+
+-- a held tree has the numbers below n alone, and each once
+module _ (S : Lists) (N : Names) (n : ℕ) (t : Tree) (w : HeldTree S N n t) where
+  pub held-below : All (λ j. j < n) t
+  held-below = rep-below (arrOf S) n none t (w .rep)
+
+  pub held-once : (j : ℕ) → cnt j t ≤ 1
+  held-once j = elim (decLt j n) [ yes h ↦ omega (arith, w .each j h) | no h ↦ omega (arith, all-below n t j held-below (omega arith)) ]
 
 module _ (S : Lists) (N : Names) (n : ℕ) (small : n ≤ 65535) (t : Tree) (w : HeldTree S N n t) where
   -- a held tree is no higher than the test looks
@@ -82,7 +79,7 @@ module _ (S : Lists) (N : Names) (n : ℕ) (small : n ≤ 65535) (t : Tree) (w :
   decoded-is =
       let long : length (take n (S .L)) ≡ n = length-take-le n (S .L) (w .places .l) in
       ap (treeAt 22 (take n (S .L)) (take n (S .R))) (w .root-is)
-      ∙ treeAt-is (take n (S .L)) (take n (S .R)) t 22 (omega arith) (links-part S N n (length (take n (S .L))) none t long (w .rep)) held-low
+      ∙ treeAt-is (take n (S .L)) (take n (S .R)) t 22 (omega arith) (links-part (S .L) (S .R) n (length (take n (S .L))) t long (links-of S n none t (w .rep))) held-low
 
   -- and it passes the test
   pub complete : holdsTree S N n ≡ true

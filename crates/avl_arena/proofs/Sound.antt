@@ -8,18 +8,19 @@ use lib.ListN.{getD}
 use lib.Dec.{leb, eqb}
 use borrow.Author.Tests.{leb-true, eqb-true}
 use Rattle.avl_model.specs.Lists.{Lists}
-use Rattle.avl_model.specs.Names.{Names, byName, isLess}
+use Rattle.avl_model.specs.Names.{Names, byName, isLess, Before}
 use Rattle.avl_model.specs.Tree.{Tree, leaf, node, none, top, ht}
 use Rattle.avl_model.specs.Rep.{Cell, Rep}
 use Rattle.avl_model.specs.Rep.{arrOf}
 use Rattle.avl_model.specs.Laws.{Avl, All, Ordered, size}
 use Rattle.avl_model.proofs.Avl.{all-map}
 use Rattle.avl_model.proofs.Counted.{ordered-once, each-once}
+use Rattle.avl_model.proofs.Search.{before-trans}
 use Rattle.avl_arena.specs.Test.{partNames, places, every, inside, between, cellOk, okTree, decoded, isWhole, holdsTree}
-use Rattle.avl_arena.specs.HeldTree.{Before, Places, HeldTree}
+use Rattle.avl_arena.specs.HeldTree.{Places, HeldTree}
 use Rattle.avl_arena.proofs.Tested.{and-l, and-r, each-inside}
 use Rattle.avl_arena.proofs.Parts.{places-of}
-use Rattle.avl_arena.proofs.ByName.{Lo, Hi, before-trans, before-never, less-is}
+use Rattle.avl_arena.proofs.ByName.{Lo, Hi, before-never, less-is}
 use Rattle.avl_arena.proofs.Decoded.{part-named, part-whole, decoded-below}
 
 or-not : (a b : Bool) → (a || b) ≡ true → (a ≡ true) ⊎ (b ≡ true)

@@ -1,24 +1,23 @@
 -- What the other operations ask, from an arena that passed the test.
 use Prim.Native.Nat.{ℕ, _+_, _≤_, _<_}
 use native.Mathlib.Omega.{arith}
-use native.Mathlib.Decide.{decLt}
 use mathlib.Core.Path.{_≡_, refl, sym, _∙_}
 use mathlib.Core.Bool.{true}
 use lib.ListN.{length, take}
 use lib.Seq.{getD-take, length-take-le}
 use Rattle.avl_model.specs.Lists.{Lists}
 use Rattle.avl_model.specs.Names.{Names}
-use Rattle.avl_model.specs.Tree.{Tree, leaf, node, none, cnt}
+use Rattle.avl_model.specs.Tree.{Tree, leaf, node, none}
 use Rattle.avl_model.specs.Rep.{Rep}
 use Rattle.avl_model.specs.Rep.{arrOf}
 use Rattle.avl_model.specs.inner.Held.{Arena}
-use Rattle.avl_model.specs.Laws.{All}
 use Rattle.avl_model.specs.inner.Order.{Listed}
-use Rattle.avl_model.proofs.Counted.{all-below, rep-below}
+use Rattle.avl_model.proofs.Counted.{all-below}
+use Rattle.avl_model.proofs.Adding.{links-of, links-part}
 use Rattle.avl_arena.specs.Test.{partOf, decoded, holdsTree}
 use Rattle.avl_arena.specs.HeldTree.{Places, HeldTree}
 use Rattle.avl_arena.proofs.Sound.{sound}
-use Rattle.avl_arena.proofs.Complete.{links-part, held-low}
+use Rattle.avl_arena.proofs.Complete.{held-low, held-below, held-once}
 
 -- a tree that the columns hold stands in their first m places
 rep-part : (S : Lists) (n m k p : ℕ) (t : Tree) → n ≤ m → m ≡ k → Rep (arrOf S) n p t → Rep (arrOf (partOf m S)) k p t
@@ -37,12 +36,6 @@ rep-part S n m k p (node l i r) h e c =
     )
 
 module _ (S : Lists) (N : Names) (n : ℕ) (t : Tree) (w : HeldTree S N n t) where
-  below : All (λ j. j < n) t
-  below = rep-below (arrOf S) n none t (w .rep)
-
-  once : (j : ℕ) → cnt j t ≤ 1
-  once j = elim (decLt j n) [ yes h ↦ omega (arith, w .each j h) | no h ↦ omega (arith, all-below n t j below (omega arith)) ]
-
   -- insertion takes it, in columns that have a place more: those places, of which the last is the new node's
   pub arena-of : Places S N (n + 1) → n + 1 ≤ 65535 → Arena (partOf (n + 1) S) n
   arena-of room small =
@@ -60,10 +53,10 @@ module _ (S : Lists) (N : Names) (n : ℕ) (t : Tree) (w : HeldTree S N n t) whe
           link = w .root-is;
           rep = rep-part S n (n + 1) (length (take (n + 1) (S .L))) none t (omega arith) (sym long) (w .rep);
           krep = tt;
-          once = λ j. omega (arith, once j);
+          once = λ j. omega (arith, held-once S N n t w j);
         };
         new< = omega arith;
-        fresh = all-below n t n below (omega arith);
+        fresh = all-below n t n (held-below S N n t w) (omega arith);
         full = λ j h ne. omega (arith, w .each j (omega arith));
         even = w .balanced;
       }
@@ -81,7 +74,7 @@ module _ (S : Lists) (N : Names) (n : ℕ) (t : Tree) (w : HeldTree S N n t) whe
         t = t;
         n-is = length-take-le n (S .R) (w .places .r) ∙ sym long;
         small = omega arith;
-        links = links-part S N n (length (take n (S .L))) none t long (w .rep);
+        links = links-part (S .L) (S .R) n (length (take n (S .L))) t long (links-of S n none t (w .rep));
         root-is = w .root-is;
         low = held-low S N n small t w;
         room = omega (arith, w .size-is);

@@ -2,17 +2,12 @@
 use Prim.Native.Nat.{ℕ, _+_, _≤_, _<_}
 use mathlib.Core.Path.{_≡_}
 use lib.ListN.{length, getD}
-use Rattle.layout_name.specs.declared.Order.the-variants.{Less}
 use Rattle.avl_model.specs.Lists.{Lists}
-use Rattle.avl_model.specs.Names.{Names, byName}
+use Rattle.avl_model.specs.Names.{Names, Before}
 use Rattle.avl_model.specs.Tree.{Tree, none, top, cnt}
 use Rattle.avl_model.specs.Rep.{Rep}
 use Rattle.avl_model.specs.Rep.{arrOf}
 use Rattle.avl_model.specs.Laws.{Avl, Ordered, size}
-
--- the order of two nodes by their names
-abbrev pub Before : Names → ℕ → ℕ → Type 0
-Before N i j = byName N i j ≡ Less
 
 -- each column has n places
 pub record Places (S : Lists) (N : Names) (n : ℕ) : Type 0 where

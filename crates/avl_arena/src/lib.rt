@@ -12,6 +12,8 @@ ghost use Rattle.avl_arena.specs.Test.{places, every, inside, between, c
 ghost use Rattle.avl_arena.specs.inner.Seeing.{Named, Lent, Judged};
 use layout_name::Order;
 use layout_name::compare;
+use widths::u16_as_usize;
+use widths::u32_as_usize;
 
 // The number that stands for no node.
 const NONE: u16 = 65535;
@@ -31,20 +33,6 @@ pub struct Gap {
     pub up: u16,
 }
 
-// A node's number as an index.
-fn widen(x: u16) -> usize
-    ensures { λ r. ⌜ (r ≡ x) × (r < 65536) ⌝ }
-{
-    x as usize
-}
-
-// A place in the names as an index.
-fn widen_place(x: u32) -> usize
-    ensures { λ r. ⌜ (r ≡ x) × (r < 4294967296) ⌝ }
-{
-    x as usize
-}
-
 // The larger of two heights.
 fn choose_taller(x: u8, y: u8) -> u8
     ensures { λ r. ⌜ r ≡ max x y ⌝ }
@@ -57,8 +45,8 @@ fn read_name<'a>(names: &'a [u8], start: &[u32], len: &[u32], i: usize) -> &'a [
     requires { ⌜ Named (namesIn (now names) (now start) (now len)) × (i < length (now start)) ⌝ }
     ensures { λ r. ⌜ now r ≡ nameAt (namesIn (was names) (was start) (was len)) i ⌝ }
 {
-    let s = widen_place(start[i]);
-    let e = s + widen_place(len[i]);
+    let s = u32_as_usize(start[i]);
+    let e = s + u32_as_usize(len[i]);
     &names[s..e]
 }
 
@@ -83,7 +71,7 @@ fn is_after(names: &[u8], start: &[u32], len: &[u32], lo: u16, i: usize) -> bool
     ensures { λ r. ⌜ r ≡ (leb (length (was start)) lo || isLess
         (byName (namesIn (was names) (was start) (was len)) lo i)) ⌝ }
 {
-    let k = widen(lo);
+    let k = u16_as_usize(lo);
     if start.len() <= k {
         return true;
     }
@@ -96,7 +84,7 @@ fn is_before(names: &[u8], start: &[u32], len: &[u32], hi: u16, i: usize) -> boo
     ensures { λ r. ⌜ r ≡ (leb (length (was start)) hi || isLess
         (byName (namesIn (was names) (was start) (was len)) i hi)) ⌝ }
 {
-    let k = widen(hi);
+    let k = u16_as_usize(hi);
     if start.len() <= k {
         return true;
     }
@@ -199,7 +187,7 @@ fn look(
     if d == 0 {
         return see_none(true);
     }
-    let k = widen(at);
+    let k = u16_as_usize(at);
     if left.len() <= k {
         return see_none(true);
     }
@@ -267,7 +255,7 @@ fn are_inside(names: &[u8], start: &[u32], len: &[u32]) -> bool
 {
     let mut i = 0;
     while i < start.len() {
-        if names.len() < widen_place(start[i]) + widen_place(len[i]) {
+        if names.len() < u32_as_usize(start[i]) + u32_as_usize(len[i]) {
             return false;
         }
         i += 1;
@@ -321,7 +309,7 @@ pub fn is_tree(
     ensures { λ r. ⌜ r ≡ holdsTree (lists root (was left) (was right) (was parent) (was height))
         (namesIn (was names) (was start) (was len)) count ⌝ }
 {
-    let n = widen(count);
+    let n = u16_as_usize(count);
     if have_places(left, right, parent, height, start, len, n) {
         let s = &start[..n];
         let e = &len[..n];

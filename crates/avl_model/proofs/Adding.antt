@@ -4,8 +4,9 @@ use native.Mathlib.Omega.{arith}
 use native.Mathlib.Decide.{ℕ-discrete}
 use mathlib.Core.Path.{_≡_, refl, sym, ap, subst, _∙_}
 use mathlib.Core.Bool.{Bool, true, false}
-use lib.ListN.{length, getD, set, length-set}
-use lib.Seq.{getD-set-same, getD-set-other}
+use mathlib.Core.List.{List}
+use lib.ListN.{length, getD, set, take, length-set}
+use lib.Seq.{getD-set-same, getD-set-other, getD-take}
 use Rattle.layout_name.specs.declared.Order.{Order}
 use Rattle.layout_name.specs.declared.Order.the-variants.{Less, Equal, Greater}
 use Rattle.avl_model.specs.declared.Inserted.the-variants.{Done, Duplicate}
@@ -33,6 +34,19 @@ use Rattle.avl_model.proofs.Avl.{at-most-22}
 pub links-of : (S : Lists) (n p : ℕ) (t : Tree) → Rep (arrOf S) n p t → Links (S .L) (S .R) n t
 links-of S n p leaf c = tt
 links-of S n p (node l i r) c = (record { fits = c .0 .fits; left = c .0 .left; right = c .0 .right }, links-of S n i l (c .1), links-of S n i r (c .2))
+
+-- the same in the first n places of columns
+pub links-part : (L R : List ℕ) (n m : ℕ) (t : Tree) → m ≡ n → Links L R n t → Links (take n L) (take n R) m t
+links-part L R n m leaf e g = tt
+links-part L R n m (node l i r) e g = (
+  record {
+    fits = omega (arith, g .0 .fits);
+    left = getD-take n L i 0 (g .0 .fits) ∙ g .0 .left;
+    right = getD-take n R i 0 (g .0 .fits) ∙ g .0 .right;
+  },
+  links-part L R n m l e (g .1),
+  links-part L R n m r e (g .2),
+)
 
 -- a tree that is held has only indices
 pub below : (A : Arr) (n p : ℕ) (t : Tree) → Rep A n p t → All (λ j. j < n) t

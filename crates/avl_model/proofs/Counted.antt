@@ -5,10 +5,10 @@ use native.Mathlib.Decide.{decLe, ℕ-discrete}
 use mathlib.Core.Path.{_≡_, refl, sym, subst, _∙_}
 use Rattle.avl_model.specs.Tree.{Tree, leaf, node, ht, δ, cnt}
 use Rattle.avl_model.specs.Rep.{Arr, Rep}
-use Rattle.avl_model.specs.Laws.{Avl, All, Ordered, size, least}
+use Rattle.avl_model.specs.Laws.{Avl, All, Ordered, size}
 use Rattle.avl_model.proofs.Frame.{δ-same, δ-apart}
 use Rattle.avl_model.proofs.Peak.{δ-is}
-use Rattle.avl_model.proofs.Avl.{tally, size-tally, tally-le, least-mono, avl-size}
+use Rattle.avl_model.proofs.Avl.{tally, size-tally, tally-le, least-mono, least-23, avl-size}
 
 -- what holds of each node holds of a number that stands in the tree
 pub all-at : (P : ℕ → Type 0) (t : Tree) (j : ℕ) → All P t → 1 ≤ cnt j t → P j
@@ -82,11 +82,6 @@ tally-ones (suc n) f h = omega (arith, h n (omega arith), tally-ones n f (λ j k
 -- a tree of all numbers below n, each once, has n nodes
 pub each-size : (n : ℕ) (t : Tree) → All (λ j. j < n) t → ((j : ℕ) → j < n → cnt j t ≡ 1) → size t ≡ n
 each-size n t a h = sym (size-tally n t a) ∙ tally-ones n (λ j. cnt j t) h
-
--- the fewest nodes at height 23 are 75,024
-pub least-23 : least 23 ≡ 75024
-unfolding least
-least-23 = refl
 
 -- of 65,535 nodes or fewer no AVL tree is 23 high
 pub low-22 : (t : Tree) → size t ≤ 65535 → Avl t → ht t ≤ 22

@@ -15,8 +15,7 @@ use Rattle.avl_model.specs.declared.Spot.{Spot}
 use Rattle.avl_model.specs.declared.Spot.the-variants.{Same, Free}
 use Rattle.avl_model.specs.Tree.{Tree, leaf, node, δ, cnt, ins}
 use Rattle.avl_model.specs.Laws.{All, Ordered}
-use Rattle.avl_model.specs.Names.{Names, nameAt, toName, isLess}
-use Rattle.avl_model.specs.inner.Names.{Before}
+use Rattle.avl_model.specs.Names.{Names, nameAt, toName, isLess, Before}
 use Rattle.avl_model.specs.Seek.{spotIn, spotBy}
 use Rattle.avl_model.proofs.Frame.{δ-same}
 use Rattle.avl_model.proofs.Avl.{all-map, ins-ordered, two}
@@ -28,7 +27,7 @@ differ e f = let z : _≡_ {A = ℕ} 0 1 = cc in omega arith
 differ-more : {o : Order} → o ≡ Greater → o ≡ Equal → ⊥
 differ-more e f = let z : _≡_ {A = ℕ} 0 1 = cc in omega arith
 
-before-trans : (N : Names) (i j k : ℕ) → Before N i j → Before N j k → Before N i k
+pub before-trans : (N : Names) (i j k : ℕ) → Before N i j → Before N j k → Before N i k
 unfolding toName
 before-trans N i j k = name-trans (nameAt N i) (nameAt N j) (nameAt N k)
 

@@ -1,11 +1,12 @@
 -- The names of nodes: each by its place in lent bytes, and how two of them stand. Assumes nothing.
 use Prim.Native.Nat.{ℕ}
-use mathlib.Core.Bool.{Bool, true, false}
+use mathlib.Core.Path.{_≡_}
 use mathlib.Core.List.{List}
 use lib.ListN.{getD, take, drop}
 use Rattle.layout_name.specs.declared.Order.{Order}
-use Rattle.layout_name.specs.declared.Order.the-variants.{Less, Equal, Greater}
+use Rattle.layout_name.specs.declared.Order.the-variants.{Less}
 use Rattle.layout_name.specs.Order.{nameOrder}
+pub use Rattle.layout_name.specs.Order.{isLess}
 
 -- lent bytes, and for each node where its name starts in them and how long it is
 pub record Names : Type 0 where
@@ -29,8 +30,6 @@ toName N a i = nameOrder a (nameAt N i)
 abbrev pub byName : Names → ℕ → ℕ → Order
 byName N i j = toName N (nameAt N i) j
 
--- whether an order is less
-abbrev pub isLess : Order → Bool
-isLess Less = true
-isLess Equal = false
-isLess Greater = false
+-- the name of node i is before that of node j
+abbrev pub Before : Names → ℕ → ℕ → Type 0
+Before N i j = byName N i j ≡ Less

@@ -1,4 +1,5 @@
 // The numbers of a tree's nodes in preorder.
+use widths::u16_as_usize;
 ghost use mathlib.Core.Path.{_≡_};
 ghost use Prim.Native.Nat.{_<_, _≤_};
 ghost use mathlib.Core.List.{_++_};
@@ -11,13 +12,6 @@ ghost use Rattle.avl_order.specs.inner.Held.{heldBy};
 
 // The number that stands for no node.
 const NONE: u16 = 65535;
-
-// A node's number as an index.
-fn widen(x: u16) -> usize
-    ensures { λ r. ⌜ (r ≡ x) × (r < 65536) ⌝ }
-{
-    x as usize
-}
 
 // How many places of the stack a link takes: none where it is to no node.
 fn count_node(link: u16) -> usize
@@ -43,7 +37,7 @@ pub fn preorder(left: &[u16], right: &[u16], root: u16, list: &mut [u16])
         let i = stack[held];
         list[done] = i;
         done += 1;
-        let at = widen(i);
+        let at = u16_as_usize(i);
         let r = right[at];
         stack[held] = r;
         held += count_node(r);

@@ -1,30 +1,19 @@
 -- The way through `write_held`: the first n places of the links are what listing takes, and what it lists is the tree's preorder. Assumes nothing.
-use Prim.Native.Nat.{ℕ, _+_, _≤_, _<_}
-use mathlib.Core.Path.{_≡_, refl, sym, ap, ap₂, subst, _∙_}
-use mathlib.Core.List.{List, [], _++_}
+use Prim.Native.Nat.{ℕ, _+_, _≤_}
+use mathlib.Core.Path.{_≡_, sym, ap, subst, _∙_}
+use mathlib.Core.List.{List, _++_}
 use native.Mathlib.Omega.{arith}
-use lib.ListN.{length, getD, take, drop}
-use lib.Seq.{getD-take, length-take-le, take-at}
-use Rattle.avl_model.specs.Tree.{Tree, leaf, node, none, top, ht}
+use lib.ListN.{length, take, drop}
+use lib.Seq.{length-take-le, take-at}
+use Rattle.avl_model.specs.Tree.{Tree}
 use Rattle.avl_model.specs.Laws as laws
 use Rattle.avl_model.specs.Order.{order}
 use Rattle.avl_model.specs.inner.Order.{Listed}
 use Rattle.avl_model.specs.inner.Seek.{Links}
+use Rattle.avl_model.proofs.Adding.{links-part}
 use Rattle.avl_model.proofs.Order.{order-length}
 use Rattle.dirtab_write.specs.inner.Holds.{Holds}
 use Rattle.dirtab.specs.inner.Steps.{Listing, Rooted}
-
-links-part : (L R : List ℕ) (n m : ℕ) (t : Tree) → m ≡ n → Links L R n t → Links (take n L) (take n R) m t
-links-part L R n m leaf e g = tt
-links-part L R n m (node l i r) e g = (
-  record {
-    fits = omega (arith, g .0 .fits);
-    left = getD-take n L i 0 (g .0 .fits) ∙ g .0 .left;
-    right = getD-take n R i 0 (g .0 .fits) ∙ g .0 .right;
-  },
-  links-part L R n m l e (g .1),
-  links-part L R n m r e (g .2),
-)
 
 module _ (left right start len size kind bytes : List ℕ) (root count n : ℕ) (en : n ≡ count) (t : Tree) (h : Rooted left right start len size kind bytes root count t) where
   pub left-long : n ≡ length (take n left)

@@ -3,10 +3,10 @@ use Prim.Native.Nat.{ℕ}
 use mathlib.Core.Bool.{Bool, _&&_}
 use mathlib.Core.List.{List, [], _++_}
 use lib.Dec.{leb}
-use lib.ListN.{length, drop, replicate}
+use lib.ListN.{length, drop}
 use denote.Triple.Both.{Both}
 use Rattle.units.specs.Told.{Told, gives, refuses, pick}
-use Rattle.units.specs.Lent.{Slice, was, is}
+use Rattle.units.specs.Lent.{Slice, was, is, clearedIf}
 use Rattle.dirtab_entry.specs.Entry.{rounded}
 use Rattle.table_model.specs.Table.{Placing, placeOf, tableBytes}
 use Rattle.dirtab_arena.specs.Arena.{Arena, entryAt, isArena, treeOf}
@@ -40,7 +40,7 @@ outAfter A s n m out = ifWritten (serialiseOf A s n m (length out)) (tableBytes 
 
 -- THE SCRATCH AFTERWARDS: unchanged where either column is too short, else all zero
 unfoldable pub scratchAfter : Arena → ℕ → ℕ → List ℕ → List ℕ
-scratchAfter A n m xs = pick (scratchFits A n m) (replicate (length xs) 0) xs
+scratchAfter A n m xs = clearedIf (scratchFits A n m) xs
 
 -- what is lent: two columns of scratch, and the output
 pub record Lent : Type 0 where

@@ -9,6 +9,7 @@ use dirtab_place::place_entries;
 use dirtab_write::write_table;
 use scratch::clear_shorts;
 use units::Sector;
+use widths::u16_as_usize;
 ghost use mathlib.Core.Path.{_≡_};
 ghost use mathlib.Core.Bool.{_&&_};
 ghost use mathlib.Core.List.{[]};
@@ -38,12 +39,6 @@ pub enum Serialised {
     SectorOverflow,
     // 9: the output is shorter than the rounded size.
     BufferTooSmall,
-}
-
-fn widen(x: u16) -> usize
-    ensures { λ r. ⌜ (r ≡ x) × (r < 65536) ⌝ }
-{
-    x as usize
 }
 
 // The reported size of a table whose entries end at e: an empty one has 2,048 bytes.
@@ -142,7 +137,7 @@ pub fn write_held(
         ⌜ ((t : Tree) → RootedIn left right start len size kind names (tree .root) (tree .count) t →
         is out ≡ writingOut entry (first .0) t (was out)) ⌝ }
 {
-    let n = widen(tree.count);
+    let n = u16_as_usize(tree.count);
     preorder(&left[..n], &right[..n], tree.root, order);
     write_listed(
         &order[..n],
@@ -172,7 +167,7 @@ fn clear_both(order: &mut [u16], place: &mut [u16])
 fn has_room(count: u16, n: usize, m: usize) -> bool
     ensures { λ r. ⌜ r ≡ (leb count n && leb count m) ⌝ }
 {
-    let k = widen(count);
+    let k = u16_as_usize(count);
     if n < k {
         return false;
     }

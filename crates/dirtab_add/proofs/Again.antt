@@ -15,7 +15,7 @@ use Rattle.dirtab_entry.specs.declared.Kind.the-variants.{File, Directory}
 use Rattle.dirtab_entry.specs.Entry.{kindFor, isDirectory, storedSize, nameIn, checkOf}
 use Rattle.avl_model.specs.declared.Place.{Place}
 use Rattle.avl_model.specs.declared.Place.the-variants.{Root}
-use Rattle.avl_model.specs.Names.{nameAt, toName, isLess}
+use Rattle.avl_model.specs.Names.{nameAt, toName, isLess, Before}
 use Rattle.avl_model.specs.Tree.{Tree, none, top, δ, cnt}
 use Rattle.avl_model.specs.Rep.{Rep}
 use Rattle.avl_model.specs.Rep.{arrOf}
@@ -24,14 +24,14 @@ use Rattle.avl_model.specs.Columns.{written}
 use Rattle.avl_model.proofs.Frame.{δ-same, δ-apart}
 use Rattle.avl_model.proofs.Bal.{ins-cnt}
 use Rattle.avl_model.proofs.Avl.{all-map, all-ins, ins-avl}
-use Rattle.avl_model.proofs.Counted.{all-below, rep-below, each-size}
+use Rattle.avl_model.proofs.Counted.{all-below, each-size}
 use Rattle.avl_model.proofs.Search.{ins-names}
 use Rattle.avl_model.proofs.Alike.{ins-alike, spot-alike, ordered-alike}
 use Rattle.avl_model.proofs.Written.{write-length}
 use Rattle.avl_model.proofs.Writing.{Wide, written-held}
-use Rattle.avl_arena.specs.HeldTree.{Before, Places, HeldTree}
+use Rattle.avl_arena.specs.HeldTree.{Places, HeldTree}
 use Rattle.avl_arena.proofs.Tested.{and-both, every-at, every-from}
-use Rattle.avl_arena.proofs.Complete.{complete, decoded-is}
+use Rattle.avl_arena.proofs.Complete.{complete, decoded-is, held-below}
 use Rattle.table_model.specs.Entry.{Entry}
 use Rattle.dirtab_arena.specs.Arena.{Arena, arena, listsOf, namesOf, givenAt, entryAt, isGiven, isTaken, isArena, treeOf}
 use Rattle.dirtab_add.specs.Add.{Grown, orderTo, grownTree, addOf, kindNumber, columnsWith, ifGiven, columnsAfter}
@@ -83,7 +83,7 @@ module _ (A : Arena) (e : given.Entry) (q : Place) (w : Taking A e q) where
   m = roomy A e q w
 
   below : All (λ j. j < n) t
-  below = rep-below (arrOf (listsOf A)) n none t (h .rep)
+  below = held-below (listsOf A) (namesOf A) n t h
 
   below-more : All (λ j. j < n + 1) g
   below-more = all-ins (λ j. j < n + 1) less n t (omega arith) (all-map (λ j. j < n) (λ j. j < n + 1) t (λ j k. omega arith) below)

@@ -28,6 +28,8 @@ use dirtab_entry::EntryChecked;
 use dirtab_entry::Kind;
 use dirtab_entry::check_entry;
 use dirtab_entry::stored_size;
+use widths::u16_as_usize;
+use widths::u32_as_usize;
 
 // What adding answers.
 pub enum Added {
@@ -50,20 +52,6 @@ pub enum Added {
 pub enum Verdict {
     Refuse(Added),
     Take(Place),
-}
-
-// A count as an index.
-fn widen(x: u16) -> usize
-    ensures { λ r. ⌜ (r ≡ x) × (r < 65536) ⌝ }
-{
-    x as usize
-}
-
-// A place in the names as an index.
-fn widen_place(x: u32) -> usize
-    ensures { λ r. ⌜ (r ≡ x) × (r < 4294967296) ⌝ }
-{
-    x as usize
 }
 
 // There is a place more in every column, and fewer than 16,384 entries are held.
@@ -125,9 +113,9 @@ fn find_place(
         ⌜ ((w : Sought (take (tree .count) (was left)) (take (tree .count) (was right)) (tree .root) n) →
         s ≡ spotIn (toName n (nameIn (was names) entry)) (w .linked .t) Root) ⌝ }
 {
-    let n = widen(tree.count);
-    let from = widen_place(entry.start);
-    let to = from + widen_place(entry.len);
+    let n = u16_as_usize(tree.count);
+    let from = u32_as_usize(entry.start);
+    let to = from + u32_as_usize(entry.len);
     find_spot(
         &left[..n],
         &right[..n],
@@ -159,7 +147,7 @@ fn judge_name(
         let A = arenaIn (tree .root) (tree .count) left right parent height start len size kind names in
         ⌜ Judged v A entry ⌝ }
 {
-    let n = widen(tree.count);
+    let n = u16_as_usize(tree.count);
     let spot = find_place(tree, left, right, start, len, names, entry);
     match spot {
         Spot::Same(_i) => Verdict::Refuse(Added::DuplicateFileName),
@@ -279,7 +267,7 @@ fn grow(
         lists r (is left) (is right) (is parent) (is height)
         ≡ written (ins (λ i. isLess (w .by i)) (tree .count) (w .arena .t)) s) ⌝ }
 {
-    let m = widen(tree.count) + 1;
+    let m = u16_as_usize(tree.count) + 1;
     let mut root = tree.root;
     put_in(
         &mut root,
@@ -329,7 +317,7 @@ pub fn add(
     match verdict {
         Verdict::Refuse(answer) => answer,
         Verdict::Take(place) => {
-            let i = widen(tree.count);
+            let i = u16_as_usize(tree.count);
             store_entry(start, len, size, kind, i, entry);
             let root = grow(tree, left, right, parent, height, place);
             Added::Done(Held {

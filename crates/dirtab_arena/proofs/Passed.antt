@@ -9,7 +9,6 @@ use lib.Dec.{leb}
 use borrow.Author.Tests.{leb-true}
 use Rattle.units.specs.Told.{Told, gives, refuses}
 use Rattle.layout_name.specs.declared.Order.{Order}
-use Rattle.dirtab_entry.specs.declared.Entry as given
 use Rattle.dirtab_entry.specs.Entry.{checkOf}
 use Rattle.avl_model.specs.declared.Place.the-variants.{Root}
 use Rattle.avl_model.specs.declared.Spot.{Spot}
@@ -19,12 +18,13 @@ use Rattle.avl_model.specs.Seek.{spotIn}
 use Rattle.avl_model.specs.inner.Seek.{Sought}
 use Rattle.avl_model.specs.Rep.{arrOf}
 use Rattle.avl_model.proofs.Avl.{all-map}
+use Rattle.avl_model.proofs.Adding.{links-of, links-part}
 use Rattle.avl_model.proofs.Counted.{rep-below}
 use Rattle.avl_arena.specs.Test.{every, holdsTree}
 use Rattle.avl_arena.specs.HeldTree.{HeldTree}
 use Rattle.avl_arena.proofs.Tested.{and-l, and-r, every-at}
 use Rattle.avl_arena.proofs.Sound.{sound}
-use Rattle.avl_arena.proofs.Complete.{links-part, held-low}
+use Rattle.avl_arena.proofs.Complete.{held-low}
 use Rattle.dirtab_arena.specs.Arena.{Arena, listsOf, namesOf, givenAt, isGiven, isTaken, isArena, treeOf}
 use Rattle.dirtab_arena.proofs.Fine.{Fine, fine-of}
 
@@ -61,11 +61,14 @@ module _ (A : Arena) (p : isArena A ≡ true) where
   held = sound (listsOf A) (namesOf A) n tree-passed
 
   -- each held entry is one that adding takes
-  pub each-fine : (j : ℕ) → j < n → Fine (A .bytes) (givenAt A j)
+  pub each-taken : (j : ℕ) → j < n → checkOf (A .bytes) (givenAt A j) ≡ gives tt
   unfolding isTaken
-  each-fine j h = fine-of (A .bytes) (givenAt A j) (given-of (checkOf (A .bytes) (givenAt A j)) (every-at (isTaken A) n entries-passed j h))
+  each-taken j h = given-of (checkOf (A .bytes) (givenAt A j)) (every-at (isTaken A) n entries-passed j h)
 
-  inside-at : (j : ℕ) → j < n → Inside (namesOf A) j
+  pub each-fine : (j : ℕ) → j < n → Fine (A .bytes) (givenAt A j)
+  each-fine j h = fine-of (A .bytes) (givenAt A j) (each-taken j h)
+
+  pub inside-at : (j : ℕ) → j < n → Inside (namesOf A) j
   inside-at j h = record { starts = omega (arith, held .places .start); ends = omega (arith, held .places .len); fits = held .named j h }
 
   module _ (small : n ≤ 65535) where
@@ -78,7 +81,7 @@ module _ (A : Arena) (p : isArena A ≡ true) where
             t = treeOf A;
             n-is = length-take-le n (A .columns .right) (held .places .r) ∙ sym long;
             small = omega arith;
-            links = links-part (listsOf A) (namesOf A) n (length (take n (A .columns .left))) none (treeOf A) long (held .rep);
+            links = links-part (A .columns .left) (A .columns .right) n (length (take n (A .columns .left))) (treeOf A) long (links-of (listsOf A) n none (treeOf A) (held .rep));
             root-is = held .root-is;
             bound = omega (arith, held-low (listsOf A) (namesOf A) n small (treeOf A) held);
           };

@@ -12,6 +12,7 @@ use dirtab_entry::Entry;
 use dirtab_entry::EntryChecked;
 use dirtab_entry::check_entry;
 use dirtab_entry::kind_of;
+use widths::u16_as_usize;
 
 // The tree that the columns hold: its root, 65,535 for none, and how many nodes it has. They are the numbers below
 // count.
@@ -30,13 +31,6 @@ impl Held {
             count: 0,
         }
     }
-}
-
-// The count as an index.
-fn widen(x: u16) -> usize
-    ensures { λ r. ⌜ (r ≡ x) × (r < 65536) ⌝ }
-{
-    x as usize
 }
 
 // Adding takes the entry.
@@ -92,7 +86,7 @@ pub fn is_arena(
     ensures { λ r. let A = arenaIn (tree .root) (tree .count) left right parent height start len size kind names in
         ⌜ r ≡ isArena A ⌝ }
 {
-    let n = widen(tree.count);
+    let n = u16_as_usize(tree.count);
     if size.len() < n {
         return false;
     }

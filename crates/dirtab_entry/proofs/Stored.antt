@@ -1,5 +1,5 @@
 -- The kind of a number, and the stored size of a size: by cases. Assumes nothing.
-use Prim.Native.Nat.{ℕ}
+use Prim.Native.Nat.{ℕ, _≤_}
 use mathlib.Core.Path.{_≡_, refl, sym, _∙_}
 use mathlib.Core.Bool.{Bool, true, false}
 use native.Mathlib.Omega.{arith}
@@ -29,3 +29,8 @@ module _ (k : Kind) (n : ℕ) (d : Bool) (is : d ≡ isDirectory k) where
 
   pub stored-file : d ≡ false → n ≡ storedSize k n
   stored-file e = file k n (sym is ∙ e)
+
+-- a size that is taken is stored in four bytes
+pub stored-low : (k : Kind) (n : ℕ) → n ≤ 4294967295 → (isDirectory k ≡ true → n ≤ 4294965248) → storedSize k n ≤ 4294967295
+stored-low File n h d = h
+stored-low Directory n h d = let g = d refl in omega arith

@@ -1,9 +1,8 @@
 -- What handing out leaves where the tables cannot be placed, and where they can. Assumes nothing.
-use Prim.Native.Nat.{ℕ, _≤_}
-use mathlib.Core.Path.{_≡_, refl, sym, ap, subst, _∙_}
+use Prim.Native.Nat.{ℕ}
+use mathlib.Core.Path.{_≡_, refl, sym, ap, _∙_}
 use mathlib.Core.List.{List, [], _∷_}
 use native.Mathlib.Omega.{arith}
-use lib.ListN.{getD}
 use Rattle.units.specs.Told.{Told, gives, refuses}
 use Rattle.units.specs.declared.Sector.{Sector}
 use Rattle.img_model.specs.declared.Planned.{Planned}
@@ -11,22 +10,8 @@ use Rattle.img_model.specs.declared.Planned.the-variants as planned
 use Rattle.img_model.specs.Plan.{Taking, told}
 use Rattle.img_take.specs.declared.Fitting.{Fitting}
 use Rattle.img_take.specs.declared.Fitting.the-variants as fitting
-use Rattle.img_take.specs.inner.Forward.{Sized, freeTold, toldFitting}
+use Rattle.img_take.specs.inner.Forward.{freeTold, toldFitting}
 use Rattle.img.specs.inner.Steps.{after, HandedOut}
-
--- the same with a column of as many places
-abbrev pub widened : {from share kind value sizes orders : List ℕ} {n m : ℕ} → Sized from share kind value sizes orders n → m ≡ n → Sized from share kind value sizes orders m
-widened {share = share} w e = record {
-  start = w .start;
-  len = w .len;
-  bytes = w .bytes;
-  sizeable = w .sizeable;
-  some = w .some;
-  sized = w .sized;
-  tables = w .tables;
-  long = w .long;
-  wide = λ d h. subst (λ (n : ℕ). getD share d 0 ≤ n) (sym e) (w .wide d h);
-}
 
 -- whether something is given, and a refusal of one thing as a refusal of another
 abbrev isGiven : Told ℕ → ℕ

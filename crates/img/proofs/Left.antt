@@ -4,11 +4,12 @@ use mathlib.Core.Path.{_≡_, sym, ap, ap₂, subst, _∙_}
 use mathlib.Core.Bool.{Bool, true, false}
 use mathlib.Core.List.{List, []}
 use lib.ListN.{length, take, replicate}
+use Rattle.units.specs.Lent.{clearedIf}
 use Rattle.units.specs.Told.{Told, refuses, pick}
 use Rattle.img_model.specs.declared.Planned.{Planned}
 use Rattle.img_model.specs.declared.Planned.the-variants as planned
 use Rattle.img_model.specs.Plan.{Plan, told, planOf}
-use Rattle.img_model.specs.Image.{Asked, Lent, asked, lent, hasRoom, requestIn, imageOf, answerOf, columnAfter, scratchAfter, lentAfter}
+use Rattle.img_model.specs.Image.{Asked, Lent, asked, lent, hasRoom, requestIn, imageOf, answerOf, columnAfter, lentAfter}
 use Rattle.img.specs.inner.Steps.{planIn, PlannedIn}
 
 -- what is left, where it is known whether there is room and what is told
@@ -17,14 +18,14 @@ leftBy room g A L = record {
   sizes = columnAfter g (λ p. p .sizes) (A .directories) (L .sizes);
   tables = columnAfter g (λ p. p .taken .tables) (A .directories) (L .tables);
   sectors = columnAfter g (λ p. p .taken .sectors) (A .entries) (L .sectors);
-  sized = scratchAfter room (L .sized);
-  left = scratchAfter room (L .left);
-  right = scratchAfter room (L .right);
-  parent = scratchAfter room (L .parent);
-  height = scratchAfter room (L .height);
-  key = scratchAfter room (L .key);
-  size = scratchAfter room (L .size);
-  order = scratchAfter room (L .order);
+  sized = clearedIf room (L .sized);
+  left = clearedIf room (L .left);
+  right = clearedIf room (L .right);
+  parent = clearedIf room (L .parent);
+  height = clearedIf room (L .height);
+  key = clearedIf room (L .key);
+  size = clearedIf room (L .size);
+  order = clearedIf room (L .order);
 }
 
 left-by : (A : Asked) (L : Lent) (room : Bool) (g : Told Plan) → hasRoom A L ≡ room → imageOf A L ≡ g → lentAfter A L ≡ leftBy room g A L

@@ -11,6 +11,7 @@ use scratch::clear_bytes;
 use scratch::clear_shorts;
 use scratch::clear_words;
 use scratch::copy_words;
+use widths::u32_as_usize;
 ghost use mathlib.Core.Path.{_≡_};
 ghost use mathlib.Core.Bool.{true, _&&_};
 ghost use mathlib.Core.List.{[], _∷_};
@@ -27,13 +28,6 @@ ghost use Rattle.img_take.specs.inner.Forward.{Sized, requestOf};
 ghost use Rattle.img_model.specs.Image.{asked, asking, lent, memory, fits, answerIn, lentAfter};
 ghost use Rattle.img.specs.inner.Steps.{Exact, Wide, HandedOut, PlannedBy, Cut, PlannedIn};
 
-// A count of four bytes as an index.
-fn widen(n: u32) -> usize
-    ensures { λ r. ⌜ (r ≡ n) × (r < 4294967296) ⌝ }
-{
-    n as usize
-}
-
 // The lesser of two lengths.
 fn least(a: usize, b: usize) -> usize
     ensures { λ r. ⌜ r ≡ min a b ⌝ }
@@ -47,7 +41,7 @@ fn fit_shares(share: &[u32], entries: usize, n: usize) -> bool
 {
     let mut d = 0;
     while d < share.len() {
-        if n < least(widen(share[d]), entries) {
+        if n < least(u32_as_usize(share[d]), entries) {
             return false;
         }
         d += 1;
@@ -63,7 +57,7 @@ fn add_shares(share: &[u32]) -> u64
     let mut sum: u64 = 0;
     let mut d = 0;
     while d < share.len() {
-        sum += widen(share[d]) as u64;
+        sum += u32_as_usize(share[d]) as u64;
         d += 1;
     }
     sum
@@ -451,8 +445,8 @@ pub fn plan(
     let by_directory = measure_directories(from, share, sizes, tables, sized);
     let by_entry = measure_entries(start, len, kind, value, sectors, order);
     let by_node = measure_nodes(left, right, parent, height, key, size);
-    let d = widen(directories);
-    let e = widen(entries);
+    let d = u32_as_usize(directories);
+    let e = u32_as_usize(entries);
     if have_room(share, d, e, by_directory, by_entry, by_node) {
         let r = plan_cut(
             d,

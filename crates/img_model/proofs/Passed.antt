@@ -8,9 +8,8 @@ use lib.Dec.{ltb}
 use lib.ListN.{getD, drop, length-take}
 use borrow.Author.Tests.{ltb-false}
 use Rattle.units.specs.Told.{Told, gives, refuses, pick}
-use Rattle.dirtab_entry.specs.declared.Kind.{Kind}
-use Rattle.dirtab_entry.specs.declared.Kind.the-variants.{File, Directory}
 use Rattle.dirtab_entry.specs.Entry as entries
+use Rattle.dirtab_entry.proofs.Stored.{stored-low}
 use Rattle.dirtab_arena.proofs.Fine.{Fine, fine-of}
 use Rattle.avl_model.specs.Tree.{Tree, leaf}
 use Rattle.avl_model.specs.Laws.{All}
@@ -26,10 +25,6 @@ use Rattle.img_model.specs.Plan.{sizeAt, givenAt, entryIn, checkIn, tree
 passes : (n : ℕ) (b : Bool) (x : Told (Unit {0})) → ltb 4294967295 n ≡ b → pick b (refuses 10 []) x ≡ gives tt → (n ≤ 4294967295) × (x ≡ gives tt)
 passes n true x q e = let z : _≡_ {A = ℕ} 0 1 = cc in absurd (omega arith)
 passes n false x q e = (ltb-false _ _ q, e)
-
-stored-low : (k : Kind) (n : ℕ) → n ≤ 4294967295 → (entries.isDirectory k ≡ true → n ≤ 4294965248) → entries.storedSize k n ≤ 4294967295
-stored-low File n h d = h
-stored-low Directory n h d = let g = d refl in omega arith
 
 module _ (S : Share) (tab : ℕ → ℕ) {t : Tree} (told : treeIn S tab ≡ gives t) where
   pub all-checked : (j : ℕ) → j < S .count → checkIn S tab j ≡ gives tt

@@ -4,10 +4,10 @@ use Prim.Native.Nat.{ℕ, min}
 use mathlib.Core.Bool.{Bool, true, _&&_}
 use mathlib.Core.List.{List, [], _∷_, _++_}
 use lib.Dec.{leb}
-use lib.ListN.{length, take, drop, replicate}
+use lib.ListN.{length, take, drop}
 use denote.Triple.Both.{Both}
 use Rattle.units.specs.Told.{Told, gives, refuses, pick}
-use Rattle.units.specs.Lent.{Slice, was, is}
+use Rattle.units.specs.Lent.{Slice, was, is, clearedIf}
 use Rattle.img_model.specs.Shares.{Request, request}
 use Rattle.img_model.specs.Plan.{Plan, planOf}
 
@@ -133,22 +133,18 @@ abbrev pub columnAfter : Told Plan → (Plan → List ℕ) → ℕ → List ℕ 
 columnAfter (gives p) column n xs = column p ++ drop n xs
 columnAfter (refuses k vs) column n xs = xs
 
--- a column of scratch afterwards: unchanged after the first 6, else all zero
-abbrev pub scratchAfter : Bool → List ℕ → List ℕ
-scratchAfter room xs = pick room (replicate (length xs) 0) xs
-
--- ALL THAT WAS LENT, AFTERWARDS
+-- ALL THAT WAS LENT, AFTERWARDS; scratch is unchanged after the first 6, else all zero
 unfoldable pub lentAfter : Asked → Lent → Lent
 lentAfter A L = record {
   sizes = columnAfter (imageOf A L) (λ p. p .sizes) (A .directories) (L .sizes);
   tables = columnAfter (imageOf A L) (λ p. p .taken .tables) (A .directories) (L .tables);
   sectors = columnAfter (imageOf A L) (λ p. p .taken .sectors) (A .entries) (L .sectors);
-  sized = scratchAfter (hasRoom A L) (L .sized);
-  left = scratchAfter (hasRoom A L) (L .left);
-  right = scratchAfter (hasRoom A L) (L .right);
-  parent = scratchAfter (hasRoom A L) (L .parent);
-  height = scratchAfter (hasRoom A L) (L .height);
-  key = scratchAfter (hasRoom A L) (L .key);
-  size = scratchAfter (hasRoom A L) (L .size);
-  order = scratchAfter (hasRoom A L) (L .order);
+  sized = clearedIf (hasRoom A L) (L .sized);
+  left = clearedIf (hasRoom A L) (L .left);
+  right = clearedIf (hasRoom A L) (L .right);
+  parent = clearedIf (hasRoom A L) (L .parent);
+  height = clearedIf (hasRoom A L) (L .height);
+  key = clearedIf (hasRoom A L) (L .key);
+  size = clearedIf (hasRoom A L) (L .size);
+  order = clearedIf (hasRoom A L) (L .order);
 }

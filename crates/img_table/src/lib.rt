@@ -4,6 +4,9 @@ use dirtab_grow::Built;
 use dirtab_grow::Cause;
 use dirtab_grow::build;
 use layout_node::entry_length;
+use widths::u16_as_usize;
+use widths::u32_as_u64;
+use widths::u64_as_usize;
 ghost use mathlib.Core.Path.{_≡_};
 ghost use mathlib.Core.List.{[]};
 ghost use Prim.Native.Nat.{ℕ, _+_, _≤_, _<_};
@@ -34,26 +37,13 @@ pub enum TableSized {
     FileTooLarge(u32),
 }
 
-// A number as an index.
-fn index_of(n: u64) -> usize
-    ensures { λ r. ⌜ r ≡ n ⌝ }
-{
-    n as usize
-}
-
-fn widen(n: u32) -> u64
-    ensures { λ r. ⌜ r ≡ n ⌝ }
-{
-    n as u64
-}
-
 // The size of an entry: a directory's is its table's.
 fn size_for(kind: u8, value: u64, sized: &[u32]) -> u64
     requires { ⌜ (eqb kind 1 ≡ true → value < length (now sized)) ⌝ }
     ensures { λ r. ⌜ r ≡ pick (eqb kind 1) (tableIn (was sized) value) value ⌝ }
 {
     if kind == 1 {
-        return widen(sized[index_of(value)]);
+        return u32_as_u64(sized[u64_as_usize(value)]);
     }
     value
 }
@@ -140,13 +130,6 @@ fn stop_after(e: u32, n: u32) -> u32
     (e + 2047) / 2048 * 2048 + n
 }
 
-// An entry's number as an index.
-fn index_in(i: u16) -> usize
-    ensures { λ r. ⌜ (r ≡ i) × (r < 65536) ⌝ }
-{
-    i as usize
-}
-
 // The length of an entry whose name has so many bytes.
 fn length_for(n: u32) -> u32
     requires { ⌜ n ≤ 255 ⌝ }
@@ -166,7 +149,7 @@ fn measure(order: &[u16], len: &[u32]) -> u32
     let mut e: u32 = 0;
     let mut k: usize = 0;
     while k < order.len() {
-        let i = index_in(order[k]);
+        let i = u16_as_usize(order[k]);
         let n = length_for(len[i]);
         e = stop_after(e, n);
         k += 1;

@@ -31,9 +31,6 @@ few-sectors n h = few-by n (eqb n 0) h
 
 -- ---- an entry that names a directory
 
-pub named-at : (kind value n at : ℕ) → (eqb kind 1 ≡ true → value < n) → kind ≡ 1 → at ≡ value → at < n
-named-at kind value n at f k e = omega (arith, f (eq-eqb kind 1 k))
-
 pub named-is : (tables : List ℕ) (kind value sector at : ℕ) → kind ≡ 1 → at ≡ value → set tables at sector ≡ pick (eqb kind 1) (set tables value sector) tables
 named-is tables kind value sector at k e = ap (λ (i : ℕ). set tables i sector) e ∙ sym (ap (λ (b : Bool). pick b (set tables value sector) tables) (eq-eqb kind 1 k))
 

@@ -7,6 +7,10 @@ use img_table::fill_sizes;
 use layout_sector::SectorCounter;
 use layout_sector::required_sectors;
 use units::Sector;
+use widths::u16_as_usize;
+use widths::u32_as_u64;
+use widths::u32_as_usize;
+use widths::u64_as_usize;
 ghost use mathlib.Core.Path.{_≡_};
 ghost use mathlib.Core.Bool.{true};
 ghost use mathlib.Core.List.{List, []};
@@ -32,44 +36,19 @@ pub enum Fitting {
     SectorOverflow(u32),
 }
 
-fn index_of(i: u16) -> usize
-    ensures { λ r. ⌜ (r ≡ i) × (r < 65536) ⌝ }
-{
-    i as usize
-}
-
 // The number of the k-th entry of an order.
 fn entry_at(order: &[u16], k: usize) -> usize
     requires { ⌜ k < length (now order) ⌝ }
     ensures { λ r. ⌜ r ≡ getD (was order) k 0 ⌝ }
 {
-    index_of(order[k])
-}
-
-fn widen(n: u32) -> usize
-    ensures { λ r. ⌜ r ≡ n ⌝ }
-{
-    n as usize
-}
-
-fn widen_size(n: u32) -> u64
-    ensures { λ r. ⌜ r ≡ n ⌝ }
-{
-    n as u64
-}
-
-// A directory's place in the list of directories, as an index.
-fn place_in(x: u64) -> usize
-    ensures { λ r. ⌜ r ≡ x ⌝ }
-{
-    x as usize
+    u16_as_usize(order[k])
 }
 
 // The sectors that a size of four bytes takes.
 fn sectors_for(size: u32) -> u32
     ensures { λ r. ⌜ (r ≡ sectorsFor size) × (r ≤ 2097152) ⌝ }
 {
-    required_sectors(widen_size(size)) as u32
+    required_sectors(u32_as_u64(size)) as u32
 }
 
 // The next free sector after the root table, which stands first.
@@ -120,8 +99,8 @@ fn check_table(
     if 262144 < sized[d] {
         return Fitting::TooManyDirectoryEntries(d as u32);
     }
-    let f = widen(from[d]);
-    let n = widen(share[d]);
+    let f = u32_as_usize(from[d]);
+    let n = u32_as_usize(share[d]);
     match count_table(
         &order[to - n..to],
         &kind[f..f + n],
@@ -163,7 +142,7 @@ pub fn check_tables(
             Fitting::SectorOverflow(x) => return Fitting::SectorOverflow(x),
             Fitting::Free(next) => {
                 free = next;
-                to -= widen(share[d]);
+                to -= u32_as_usize(share[d]);
             }
         }
         d += 1;
@@ -177,7 +156,7 @@ fn name_table(kind: u8, value: u64, sector: u32, tables: &mut [u32])
     ensures { λ _. ⌜ is tables ≡ pick (eqb kind 1) (set (was tables) value sector) (was tables) ⌝ }
 {
     if kind == 1 {
-        tables[place_in(value)] = sector;
+        tables[u64_as_usize(value)] = sector;
     }
 }
 
@@ -265,8 +244,8 @@ fn take_table(
         takingUp (requestOf w) (was sized) 1 d (taking (was tables) (was sectors) free) ≡ gives p →
         taking (is tables) (is sectors) r ≡ p) ⌝ }
 {
-    let f = widen(from[d]);
-    let n = widen(share[d]);
+    let f = u32_as_usize(from[d]);
+    let n = u32_as_usize(share[d]);
     fill_sizes(&kind[f..f + n], &value[f..f + n], sized, size);
     take_entries(
         &order[to - n..to],
@@ -324,7 +303,7 @@ pub fn take_tables(
             tables,
             sectors,
         );
-        to -= widen(share[d]);
+        to -= u32_as_usize(share[d]);
         d += 1;
     }
 }

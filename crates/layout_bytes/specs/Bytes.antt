@@ -1,6 +1,6 @@
 -- Little-endian numbers as bytes, both ways, and bytes put over others in a list. Assumes nothing.
 use Prim.Native.Nat.{ℕ, _+_, _*_, _/_, _%_}
-use mathlib.Core.Bool.{Bool, true, false}
+use mathlib.Core.Bool.{Bool, true, _&&_}
 use mathlib.Core.List.{List, [], _∷_}
 use lib.Dec.{eqb}
 use lib.ListN.{getD}
@@ -21,12 +21,11 @@ le16 x = x % 256 ∷ x / 256 % 256 ∷ []
 abbrev pub le32 : ℕ → List ℕ
 le32 x = x % 256 ∷ x / 256 % 256 ∷ x / 65536 % 256 ∷ x / 16777216 % 256 ∷ []
 
--- both
+-- both of two tests
 abbrev pub both : Bool → Bool → Bool
-both true b = b
-both false b = false
+both a b = a && b
 
 -- every byte is b
 unfoldable pub all : ℕ → List ℕ → Bool
 all b [] = true
-all b (x ∷ xs) = both (eqb x b) (all b xs)
+all b (x ∷ xs) = eqb x b && all b xs

@@ -3,6 +3,7 @@
 -- every ASCII byte. Another key (a code point) is another argument of `orderBy`; the laws, in proofs/Laws.antt,
 -- hold for every key.
 use Prim.Native.Nat.{ℕ, _-_}
+use mathlib.Core.Bool.{Bool, true, false}
 use mathlib.Core.List.{List, [], _∷_, map}
 use lib.Dec.{ltb, leb}
 use Rattle.units.specs.Told.{pick}
@@ -37,3 +38,9 @@ raised b = pick (leb 97 b) (pick (leb b 122) (b - 32) b) b
 -- the order of two names
 unfoldable pub nameOrder : List ℕ → List ℕ → Order
 nameOrder a b = orderBy raised a b
+
+-- whether an order is less
+abbrev pub isLess : Order → Bool
+isLess Less = true
+isLess Equal = false
+isLess Greater = false

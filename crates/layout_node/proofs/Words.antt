@@ -2,52 +2,52 @@
 use Prim.Native.Nat.{ℕ, zero, suc, _+_, _*_, _<_}
 use mathlib.Core.Path.{_≡_, refl, sym, ap, _∙_}
 use mathlib.Core.Bool.{Bool, true, false, _&&_}
-use mathlib.Core.List.{List, [], _∷_}
+use mathlib.Core.List.{List}
 use native.Mathlib.Omega.{arith}
 use lib.Dec.{eqb}
 use lib.ListN.{length, getD, drop, drop-of-length-le}
 use lib.Seq.{drop-cons}
 use borrow.Author.Tests.{eqb-true, eqb-false, eq-eqb, ne-eqb}
-use Rattle.layout_bytes.specs.Bytes.{both, all, u32At}
+use Rattle.layout_bytes.specs.Bytes.{all, u32At}
 
 -- the tests of n bytes, from place i on
 unfoldable chain : ℕ → List ℕ → ℕ → ℕ → Bool
 chain b s zero i = true
-chain b s (suc n) i = both (eqb (getD s i 0) b) (chain b s n (suc i))
+chain b s (suc n) i = eqb (getD s i 0) b && chain b s n (suc i)
 
 chain-all : (b : ℕ) (s : List ℕ) (n i : ℕ) → i + n ≡ length s → all b (drop i s) ≡ chain b s n i
 unfolding chain all
 chain-all b s zero i e = rw (drop-of-length-le s {i = i} (omega arith))
-chain-all b s (suc n) i e = rw (drop-cons s i 0 (omega arith)) (ap (both (eqb (getD s i 0) b)) (chain-all b s n (suc i) (omega arith)))
+chain-all b s (suc n) i e = rw (drop-cons s i 0 (omega arith)) (ap (λ (c : Bool). eqb (getD s i 0) b && c) (chain-all b s n (suc i) (omega arith)))
 
 -- four bytes are 255, or 0, exactly where their number is the greatest, or 0
 module _ (x y z u : ℕ) where
-  zeros-by : (p q r s : Bool) → eqb x 0 ≡ p → eqb y 0 ≡ q → eqb z 0 ≡ r → eqb u 0 ≡ s → eqb (x + 256 * y + 65536 * (z + 256 * u)) 0 ≡ both p (both q (both r s))
+  zeros-by : (p q r s : Bool) → eqb x 0 ≡ p → eqb y 0 ≡ q → eqb z 0 ≡ r → eqb u 0 ≡ s → eqb (x + 256 * y + 65536 * (z + 256 * u)) 0 ≡ (p && (q && (r && s)))
   zeros-by false q r s ex ey ez eu = ne-eqb (x + 256 * y + 65536 * (z + 256 * u)) 0 (λ k. eqb-false x 0 ex (omega arith))
   zeros-by true false r s ex ey ez eu = ne-eqb (x + 256 * y + 65536 * (z + 256 * u)) 0 (λ k. eqb-false y 0 ey (omega arith))
   zeros-by true true false s ex ey ez eu = ne-eqb (x + 256 * y + 65536 * (z + 256 * u)) 0 (λ k. eqb-false z 0 ez (omega arith))
   zeros-by true true true false ex ey ez eu = ne-eqb (x + 256 * y + 65536 * (z + 256 * u)) 0 (λ k. eqb-false u 0 eu (omega arith))
   zeros-by true true true true ex ey ez eu = eq-eqb (x + 256 * y + 65536 * (z + 256 * u)) 0 (omega (arith, eqb-true x 0 ex, eqb-true y 0 ey, eqb-true z 0 ez, eqb-true u 0 eu))
 
-  four-zeros : eqb (x + 256 * y + 65536 * (z + 256 * u)) 0 ≡ both (eqb x 0) (both (eqb y 0) (both (eqb z 0) (eqb u 0)))
+  four-zeros : eqb (x + 256 * y + 65536 * (z + 256 * u)) 0 ≡ (eqb x 0 && (eqb y 0 && (eqb z 0 && eqb u 0)))
   four-zeros = zeros-by (eqb x 0) (eqb y 0) (eqb z 0) (eqb u 0) refl refl refl refl
 
   module _ (hx : x < 256) (hy : y < 256) (hz : z < 256) (hu : u < 256) where
     ones-by : (p q r s : Bool) → eqb x 255 ≡ p → eqb y 255 ≡ q → eqb z 255 ≡ r → eqb u 255 ≡ s →
-        eqb (x + 256 * y + 65536 * (z + 256 * u)) 4294967295 ≡ both p (both q (both r s))
+        eqb (x + 256 * y + 65536 * (z + 256 * u)) 4294967295 ≡ (p && (q && (r && s)))
     ones-by false q r s ex ey ez eu = ne-eqb (x + 256 * y + 65536 * (z + 256 * u)) 4294967295 (λ k. eqb-false x 255 ex (omega arith))
     ones-by true false r s ex ey ez eu = ne-eqb (x + 256 * y + 65536 * (z + 256 * u)) 4294967295 (λ k. eqb-false y 255 ey (omega arith))
     ones-by true true false s ex ey ez eu = ne-eqb (x + 256 * y + 65536 * (z + 256 * u)) 4294967295 (λ k. eqb-false z 255 ez (omega arith))
     ones-by true true true false ex ey ez eu = ne-eqb (x + 256 * y + 65536 * (z + 256 * u)) 4294967295 (λ k. eqb-false u 255 eu (omega arith))
     ones-by true true true true ex ey ez eu = eq-eqb (x + 256 * y + 65536 * (z + 256 * u)) 4294967295 (omega (arith, eqb-true x 255 ex, eqb-true y 255 ey, eqb-true z 255 ez, eqb-true u 255 eu))
 
-    four-ones : eqb (x + 256 * y + 65536 * (z + 256 * u)) 4294967295 ≡ both (eqb x 255) (both (eqb y 255) (both (eqb z 255) (eqb u 255)))
+    four-ones : eqb (x + 256 * y + 65536 * (z + 256 * u)) 4294967295 ≡ (eqb x 255 && (eqb y 255 && (eqb z 255 && eqb u 255)))
     four-ones = ones-by (eqb x 255) (eqb y 255) (eqb z 255) (eqb u 255) refl refl refl refl
 
 -- the tests by fours are the tests one by one
 regroup : (a b c d e f g h i j k l m n : Bool) →
-    (both a (both b (both c d))) && ((both e (both f (both g h))) && ((both i (both j (both k l))) && (m && n)))
-    ≡ both a (both b (both c (both d (both e (both f (both g (both h (both i (both j (both k (both l (both m (both n true)))))))))))))
+    (a && (b && (c && d))) && ((e && (f && (g && h))) && ((i && (j && (k && l))) && (m && n)))
+    ≡ (a && (b && (c && (d && (e && (f && (g && (h && (i && (j && (k && (l && (m && (n && true))))))))))))))
 regroup false b c d e f g h i j k l m n = refl
 regroup true false c d e f g h i j k l m n = refl
 regroup true true false d e f g h i j k l m n = refl

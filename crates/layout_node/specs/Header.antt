@@ -1,7 +1,7 @@
 -- The fourteen bytes of an entry before its name: left link u16, right link u16, sector u32, size u32, attributes
 -- u8, name length u8, little-endian. Assumes nothing.
 use Prim.Native.Nat.{ℕ, _+_, _*_, _/_, _%_}
-use mathlib.Core.Bool.{Bool, true, false}
+use mathlib.Core.Bool.{Bool, _||_}
 use mathlib.Core.List.{List, [], _∷_, _++_}
 use lib.Dec.{eqb}
 use lib.ListN.{getD}
@@ -24,14 +24,9 @@ unfoldable pub headerBytes : Header → List ℕ
 headerBytes h = le16 (h .left .0)
     ++ (le16 (h .right .0) ++ (le32 (h .sector .0) ++ (le32 (h .size) ++ (h .attributes ∷ h .«name_len» ∷ []))))
 
--- either
-abbrev pub either : Bool → Bool → Bool
-either true b = true
-either false b = b
-
 -- no entry: every byte 0xff, or every byte 0 (dirent_node.rs)
 unfoldable pub isBlank : List ℕ → Bool
-isBlank h = either (all 255 h) (all 0 h)
+isBlank h = all 255 h || all 0 h
 
 -- a directory: attribute bit 0x10
 abbrev pub isDirectory : Header → Bool

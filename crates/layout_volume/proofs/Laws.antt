@@ -1,12 +1,11 @@
 -- A descriptor has 2,048 bytes, is read back from them, and is never read from fewer. Assumes nothing.
 use Prim.Native.Nat.{ℕ, _+_, _<_}
 use mathlib.Core.Path.{_≡_, refl}
-use mathlib.Core.Bool.{Bool, true, false}
+use mathlib.Core.Bool.{Bool, true, false, _&&_}
 use mathlib.Core.List.{List, [], _++_}
 use native.Mathlib.Omega.{arith}
 use lib.ListN.{length, take, drop, length-take, length-drop}
 use Rattle.units.specs.Told.{gives, refuses, pick}
-use Rattle.layout_bytes.specs.Bytes.{both}
 use Rattle.layout_bytes.proofs.Numbers.{u32-le32}
 use Rattle.layout_volume.specs.declared.Descriptor.{Descriptor}
 use Rattle.layout_volume.specs.Descriptor.{mark, descriptorBytes, sameList, readOf}
@@ -23,7 +22,7 @@ unfolding readOf descriptorBytes sameList
 read-written d rest h k =
     λ i. gives (record { root = record { sector = record { 0 = u32-le32 (d .root .sector .0) [] h i }; size = u32-le32 (d .root .size) [] k i } })
 
-cut : (b r : Bool) (d : Descriptor) → r ≡ false → pick (both b r) (gives d) (refuses 20 []) ≡ refuses 20 []
+cut : (b r : Bool) (d : Descriptor) → r ≡ false → pick (b && r) (gives d) (refuses 20 []) ≡ refuses 20 []
 cut true r d e = rw e
 cut false r d e = refl
 

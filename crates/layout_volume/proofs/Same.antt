@@ -1,7 +1,7 @@
 -- Two lists compared place by place, and the mark found at a place: what the loop over the mark is made of. Assumes nothing.
 use Prim.Native.Nat.{ℕ, _+_, _-_, _≤_, _<_}
-use mathlib.Core.Path.{_≡_, refl, sym, _∙_}
-use mathlib.Core.Bool.{Bool, true, false}
+use mathlib.Core.Path.{_≡_, refl, sym, ap, _∙_}
+use mathlib.Core.Bool.{Bool, true, false, _&&_, and-false}
 use mathlib.Core.List.{List, [], _∷_}
 use native.Mathlib.Omega.{arith}
 use native.Mathlib.Numerals.{add-one}
@@ -9,12 +9,7 @@ use lib.Dec.{eqb}
 use lib.ListN.{length, getD, take, drop, length-take, length-drop, drop-of-length-le}
 use lib.Seq.{drop-cons, getD-take, getD-drop}
 use borrow.Author.Tests.{eq-eqb, ne-eqb}
-use Rattle.layout_bytes.specs.Bytes.{both}
 use Rattle.layout_volume.specs.Descriptor.{mark, sameList}
-
-not-both : (c r : Bool) → r ≡ false → both c r ≡ false
-not-both true r e = e
-not-both false r e = refl
 
 -- a list is the same as itself
 pub same-self : (p : List ℕ) → sameList p p ≡ true
@@ -27,7 +22,7 @@ pub shorter : (p m : List ℕ) → length p < length m → sameList p m ≡ fals
 unfolding sameList
 shorter p [] h = absurd (omega arith)
 shorter [] (y ∷ ys) h = refl
-shorter (x ∷ xs) (y ∷ ys) h = not-both (eqb x y) (sameList xs ys) (shorter xs ys (omega arith))
+shorter (x ∷ xs) (y ∷ ys) h = ap (λ (c : Bool). eqb x y && c) (shorter xs ys (omega arith)) ∙ and-false (eqb x y)
 
 -- so far the lists are alike: what is left of them decides
 module _ (p m : List ℕ) (i : ℕ) (so-far : sameList p m ≡ sameList (drop i p) (drop i m)) where

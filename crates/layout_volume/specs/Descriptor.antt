@@ -1,12 +1,12 @@
 -- The volume descriptor: the mark, root sector u32, root size u32, eight stamp bytes, 1,992 unused bytes, the mark
 -- again; 2,048 bytes in all. Stamp and unused bytes are zero (volume.rs). Assumes nothing.
 use Prim.Native.Nat.{ℕ, _+_}
-use mathlib.Core.Bool.{Bool, true, false}
+use mathlib.Core.Bool.{Bool, true, false, _&&_}
 use mathlib.Core.List.{List, [], _∷_, _++_}
 use lib.Dec.{ltb, eqb}
 use lib.ListN.{length, take, drop, replicate}
 use Rattle.units.specs.Told.{Told, gives, refuses, pick}
-use Rattle.layout_bytes.specs.Bytes.{u32At, le32, both}
+use Rattle.layout_bytes.specs.Bytes.{u32At, le32}
 use Rattle.layout_volume.specs.declared.Descriptor.{Descriptor}
 use Rattle.layout_volume.specs.declared.DescriptorWritten.{DescriptorWritten}
 use Rattle.layout_volume.specs.declared.DescriptorWritten.the-variants.{Done, BufferTooSmall}
@@ -27,7 +27,7 @@ unfoldable pub sameList : List ℕ → List ℕ → Bool
 sameList [] [] = true
 sameList [] (y ∷ ys) = false
 sameList (x ∷ xs) [] = false
-sameList (x ∷ xs) (y ∷ ys) = both (eqb x y) (sameList xs ys)
+sameList (x ∷ xs) (y ∷ ys) = eqb x y && sameList xs ys
 
 -- writing: 9 where the output is shorter than 2,048 bytes; else its first 2,048 bytes are the descriptor's
 abbrev pub writeTold : DescriptorWritten → Told (Unit {0})
@@ -47,6 +47,6 @@ readTold NoVolume = refuses 20 []
 
 unfoldable pub readOf : List ℕ → Told Descriptor
 readOf s =
-    pick (both (sameList (take 20 s) mark) (sameList (take 20 (drop 2028 s)) mark))
+    pick (sameList (take 20 s) mark && sameList (take 20 (drop 2028 s)) mark)
     (gives (record { root = record { sector = record { 0 = u32At s 20 }; size = u32At s 24 } }))
     (refuses 20 [])

@@ -2,11 +2,13 @@
 -- bound on its steps: each entry takes a place of the list, of which there are `room`, and between two entries the
 -- stack only shrinks, so the definition recurses on the places, and within them on the stack.
 use Prim.Native.Nat.{ℕ, zero, suc, _-_, _*_}
+use mathlib.Core.Bool.{not}
 use mathlib.Core.List.{List, [], _∷_, _++_}
 use mathlib.Core.Option.{Option, some, none}
 use lib.Dec.{leb, eqb}
 use lib.ListN.{length, replicate}
 use Rattle.units.specs.Told.{Told, gives, refuses, pick}
+use Rattle.units.specs.Lent.{clearedIf}
 use Rattle.units.specs.declared.Sector.{Sector}
 use Rattle.units.specs.declared.Region.{Region}
 use Rattle.layout_node.specs.declared.Header.{Header}
@@ -69,7 +71,7 @@ listAfter w first t list m = pick (leb m (length list)) list (listed (walkOf w f
 
 -- THE SCRATCH AFTERWARDS: unchanged after 6, else all zero
 unfoldable pub scratchAfter : ℕ → List ℕ → List ℕ
-scratchAfter n scratch = pick (leb (length scratch) n) scratch (replicate (length scratch) 0)
+scratchAfter n scratch = clearedIf (not (leb (length scratch) n)) scratch
 
 -- what each answer of the code stands for
 abbrev pub told : Walked → Told ℕ

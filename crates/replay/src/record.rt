@@ -1,15 +1,10 @@
 // What a recorded answer holds: numbers, parts and rows of numbers at places of a record. The record is any bytes;
 // what is not there reads as 0, or as nothing. crates/replay/src/main.rt describes the records.
+use widths::u16_as_usize;
 ghost use mathlib.Core.Path.{_≡_};
 ghost use Prim.Native.Nat.{_<_, _≤_};
 ghost use lib.ListN.{length};
 ghost use Rattle.units.specs.Lent.{was, is};
-
-fn wide(x: u16) -> usize
-    ensures { λ r. ⌜ (r ≡ x) × (r < 65536) ⌝ }
-{
-    x as usize
-}
 
 // The number of two bytes at a place; 0 where they are not there.
 pub fn short_at(s: &[u8], at: usize) -> usize
@@ -21,7 +16,7 @@ pub fn short_at(s: &[u8], at: usize) -> usize
     if s.len() - 2 < at {
         return 0;
     }
-    wide(layout_bytes::u16_at(s, at))
+    u16_as_usize(layout_bytes::u16_at(s, at))
 }
 
 // The number of four bytes at a place; 0 where they are not there.

@@ -1,7 +1,7 @@
 -- The check accepts every table of the rule. Assumes nothing.
 use Prim.Native.Nat.{ℕ, suc, _+_, _-_, _*_, _≤_, _<_}
 use mathlib.Core.Path.{_≡_, refl, sym, ap, ap₂, subst, _∙_}
-use mathlib.Core.Bool.{Bool, true, false}
+use mathlib.Core.Bool.{Bool, true, false, _&&_}
 use mathlib.Core.Logic.{_⊎_, inl, inr, ⊎-elim}
 use mathlib.Core.List.{List, [], _∷_, _++_, append-assoc, List·Memᴰ, List·Memᴰ·head, List·Memᴰ·tail, List·Memᴰ·not-nil, List·Memᴰ·cases-cons, List·Memᴰ·append-cases, List·Memᴰ·eq-of-singleton, Memᴰ·append-left, Memᴰ·append-right}
 use mathlib.Core.Option.{Option, some}
@@ -14,7 +14,6 @@ use lib.Seq.{getD-append-seam}
 use Rattle.units.specs.Told.{Told, gives, pick}
 use Rattle.units.specs.declared.Sector.{Sector}
 use Rattle.units.specs.declared.Region.{Region}
-use Rattle.layout_bytes.specs.Bytes.{both}
 use Rattle.layout_name.specs.inner.Order.{opposite}
 use Rattle.layout_name.proofs.Laws.{name-opposite}
 use Rattle.read_entry.specs.Entry.{Placed, readAt}
@@ -91,13 +90,13 @@ module _ (w : List ℕ) (first : Sector) (t : Region) (all : List ℕ) (rule : A
     apart-all : (ys : List ℕ) → ((p : ℕ) → List·Memᴰ p ys → clear f o (endOf (x .header) o) p ≡ true) → apart f o (endOf (x .header) o) ys ≡ true
     unfolding apart
     apart-all [] h = refl
-    apart-all (y ∷ ys) h = ap₂ both (h y (List·Memᴰ·head refl)) (apart-all ys (λ p m. h p (List·Memᴰ·tail m)))
+    apart-all (y ∷ ys) h = ap₂ _&&_ (h y (List·Memᴰ·head refl)) (apart-all ys (λ p m. h p (List·Memᴰ·tail m)))
 
     is-placed : Entries seen → placed f (t .size) o (endOf (x .header) o) seen ≡ true
     unfolding placed
     is-placed entries =
         let p : InPlace w first t o x = rule .in-place o x here-in there in
-        ap₂ both (ap₂ both (le-leb _ _ (p .inside)) (eq-eqb _ _ (p .uncrossed)))
+        ap₂ _&&_ (ap₂ _&&_ (le-leb _ _ (p .inside)) (eq-eqb _ _ (p .uncrossed)))
         (apart-all seen (λ q m.
         let e : (y : Placed) × (f q ≡ gives (some y)) = entries q m in
         is-clear f o (endOf (x .header) o) q (⊎-elim (λ (a : endOf (x .header) o ≤ q). inl a)
@@ -108,7 +107,7 @@ module _ (w : List ℕ) (first : Sector) (t : Region) (all : List ℕ) (rule : A
     left-ordered : (v : Visit) → isIn (x .header .left .0) walkAbsent ≡ false → (y : Placed) → f (4 * x .header .left .0) ≡ gives (some y) →
         ordered w f (visitLeft (x .header .left .0) v o) (nameFrom w y) ≡ true
     unfolding ordered
-    left-ordered v a y e = rw there (ap₂ both (ap isLess (rule .in-order o x here-in there .left y a e)) refl)
+    left-ordered v a y e = rw there (ap₂ _&&_ (ap isLess (rule .in-order o x here-in there .left y a e)) refl)
 
     right-ordered : (v : Visit) → isIn (x .header .right .0) walkAbsent ≡ false → (y : Placed) → f (4 * x .header .right .0) ≡ gives (some y) →
         ordered w f (visitRight (x .header .right .0) v o) (nameFrom w y) ≡ true

@@ -2,7 +2,7 @@
 -- Assumes nothing.
 use Prim.Native.Nat.{ℕ, _≤_, _<_}
 use mathlib.Core.Path.{_≡_, refl, ap, _∙_}
-use mathlib.Core.Bool.{Bool, true, false}
+use mathlib.Core.Bool.{Bool, true, false, _&&_, and-eq-true-iff}
 use mathlib.Core.Logic.{_⊎_, inl, inr}
 use mathlib.Core.List.{List, [], _∷_, _++_}
 use mathlib.Core.Option.{Option}
@@ -10,7 +10,6 @@ use native.Mathlib.Omega.{arith}
 use borrow.Author.Tests.{eq-eqb, ne-eqb, le-leb, lt-leb, leb-true}
 use lib.Dec.{leb, eqb}
 use Rattle.units.specs.Told.{Told, pick}
-use Rattle.layout_bytes.specs.Bytes.{both}
 use Rattle.read_entry.specs.Entry.{Placed}
 use Rattle.read_entry.specs.Links.{isIn}
 use Rattle.strict_rule.specs.Strict.{endBy, clear}
@@ -23,13 +22,11 @@ not-true-is-false false n = refl
 pub true-not-false : {b : Bool} → b ≡ true → b ≡ false → ⊥
 true-not-false p q = let z : _≡_ {A = ℕ} 0 1 = cc in omega arith
 
-pub both-first : (a b : Bool) → both a b ≡ true → a ≡ true
-both-first true b e = refl
-both-first false b e = e
+pub both-first : (a b : Bool) → (a && b) ≡ true → a ≡ true
+both-first a b e = and-eq-true-iff a b .0 e .0
 
-pub both-second : (a b : Bool) → both a b ≡ true → b ≡ true
-both-second true b e = e
-both-second false b e = let z : _≡_ {A = ℕ} 0 1 = cc in absurd (omega arith)
+pub both-second : (a b : Bool) → (a && b) ≡ true → b ≡ true
+both-second a b e = and-eq-true-iff a b .0 e .1
 
 -- a list with one more at its end
 pub is-in-last : (u x : ℕ) (xs : List ℕ) → u ≡ x → isIn u (xs ++ (x ∷ [])) ≡ true

@@ -1,22 +1,21 @@
 -- What the strict check answers: a walk that stops at the first fault, in walk order. Assumes nothing.
 use Prim.Native.Nat.{ℕ, zero, suc, _+_, _-_, _*_, _/_}
-use mathlib.Core.Bool.{Bool, true, false}
+use mathlib.Core.Bool.{Bool, true, false, _&&_}
 use mathlib.Core.List.{List, [], _∷_, _++_}
 use mathlib.Core.Option.{Option, some, none}
 use lib.Dec.{leb, eqb}
-use lib.ListN.{length, replicate}
+use lib.ListN.{length}
 use Rattle.units.specs.Told.{Told, gives, refuses, pick}
 use Rattle.units.specs.declared.Sector.{Sector}
 use Rattle.units.specs.declared.Region.{Region}
-use Rattle.layout_bytes.specs.Bytes.{both}
-use Rattle.layout_name.specs.declared.Order.{Order}
-use Rattle.layout_name.specs.declared.Order.the-variants.{Less, Equal, Greater}
 use Rattle.layout_name.specs.Order.{nameOrder}
+pub use Rattle.layout_name.specs.Order.{isLess}
 use Rattle.layout_node.specs.declared.Header.{Header}
 use Rattle.layout_node.specs.Header.{entryLength}
 use Rattle.read_entry.specs.Entry.{Placed, readAt, nameOf}
 use Rattle.read_entry.specs.Links.{isIn, walkAbsent}
 use Rattle.read_walk.specs.Walk.{before, counted, listed}
+unfoldable pub use Rattle.read_walk.specs.Walk.{scratchAfter}
 use Rattle.strict_rule.specs.declared.Checked.{Checked}
 use Rattle.strict_rule.specs.declared.Checked.the-variants as checked
 
@@ -37,7 +36,7 @@ nameBy w (refuses k vs) = []
 
 -- an entry from o to e is inside the table and crosses no sector line
 abbrev pub inSector : ℕ → ℕ → ℕ → Bool
-inSector size o e = both (leb e size) (eqb (o / 2048) ((e - 1) / 2048))
+inSector size o e = leb e size && eqb (o / 2048) ((e - 1) / 2048)
 
 -- from o to e there is nothing of the entry at x; and nothing of the entries listed
 abbrev pub clear : (ℕ → Told (Option Placed)) → ℕ → ℕ → ℕ → Bool
@@ -45,17 +44,11 @@ clear f o e x = pick (leb e x) true (leb (endBy (f x) x) o)
 
 unfoldable pub apart : (ℕ → Told (Option Placed)) → ℕ → ℕ → List ℕ → Bool
 apart f o e [] = true
-apart f o e (x ∷ xs) = both (clear f o e x) (apart f o e xs)
+apart f o e (x ∷ xs) = clear f o e x && apart f o e xs
 
 -- in its place: inside the table, over no sector line, and over no entry listed
 unfoldable pub placed : (ℕ → Told (Option Placed)) → ℕ → ℕ → ℕ → List ℕ → Bool
-placed f size o e seen = both (inSector size o e) (apart f o e seen)
-
--- one name is less than another
-abbrev pub isLess : Order → Bool
-isLess Less = true
-isLess Equal = false
-isLess Greater = false
+placed f size o e seen = inSector size o e && apart f o e seen
 
 -- a place to visit: its offset, and the offsets of the entries, if any, than whose names its own must be less and
 -- greater
@@ -80,7 +73,7 @@ nameAt w f none = none
 nameAt w f (some o) = some (nameBy w (f o))
 
 unfoldable pub ordered : List ℕ → (ℕ → Told (Option Placed)) → Visit → List ℕ → Bool
-ordered w f v name = both (lessThan name (nameAt w f (v .under))) (moreThan name (nameAt w f (v .over)))
+ordered w f v name = lessThan name (nameAt w f (v .under)) && moreThan name (nameAt w f (v .over))
 
 abbrev pub visitLeft : ℕ → Visit → ℕ → Visit
 visitLeft k parent p = record { offset = 4 * k; under = some p; over = none }
@@ -143,16 +136,13 @@ unfoldable pub strictOf : List ℕ → Sector → Region → ℕ → Told (List 
 strictOf w first t room =
     pick (eqb (t .size) 0) (gives []) (strictFrom w (readAt w first t) (t .size) room [] (root ∷ []))
 
--- THE ANSWER, THE LIST AND THE SCRATCH AFTERWARDS, as the walk has them: 6 where the scratch is not longer than the
--- list, and then all is unchanged
+-- THE ANSWER AND THE LIST AFTERWARDS, as the walk has them: 6 where the scratch is not longer than the list, and then
+-- all is unchanged; THE SCRATCH AFTERWARDS is the walk's `scratchAfter`
 unfoldable pub strictAnswer : List ℕ → Sector → Region → ℕ → ℕ → Told ℕ
 strictAnswer w first t n m = pick (leb m n) (refuses 6 []) (counted (strictOf w first t n))
 
 unfoldable pub listAfter : List ℕ → Sector → Region → List ℕ → ℕ → List ℕ
 listAfter w first t list m = pick (leb m (length list)) list (listed (strictOf w first t (length list)) (length list))
-
-unfoldable pub scratchAfter : ℕ → List ℕ → List ℕ
-scratchAfter n scratch = pick (leb (length scratch) n) scratch (replicate (length scratch) 0)
 
 -- what each answer of the code stands for
 abbrev pub told : Checked → Told ℕ

@@ -1,9 +1,12 @@
 -- How a contract names what its function is lent: `was x` is the value of the parameter x at the call, `is x` its
 -- value at the return. Assumes nothing.
 use Prim.Native.Nat.{ℕ}
+use mathlib.Core.Bool.{Bool}
 use mathlib.Core.List.{List}
+use lib.ListN.{length, replicate}
 use denote.Ref.{RefT, now}
 use denote.Triple.Both.{Both}
+use Rattle.units.specs.Told.{pick}
 
 -- a parameter that is a reference: `&` or `&mut`, to a value of A
 abbrev pub Lent : Type 0 → Type 0
@@ -21,3 +24,7 @@ was x = now (x .entry)
 
 abbrev pub is : {A : Type 0} → Lent A → A
 is x = now (x .exit)
+
+-- a column of scratch at the return, by whether there was room: all zero, else as it was at the call
+abbrev pub clearedIf : Bool → List ℕ → List ℕ
+clearedIf room xs = pick room (replicate (length xs) 0) xs

@@ -18,7 +18,7 @@ use Rattle.avl_arena.proofs.is_between.Reads as is-between-reads
 use Rattle.avl_arena.proofs.is_cell.Reads as is-cell-reads
 use Rattle.avl_arena.proofs.join.Reads as join-reads
 use Rattle.avl_arena.proofs.see_none.Reads as see-none-reads
-use Rattle.avl_arena.proofs.widen.Reads as widen-reads
+use Rattle.widths.proofs.u16_as_usize.Reads as u16-as-usize-reads
 use Rattle.avl_arena.proofs.+look.{statement}
 use Rattle.avl_arena.proofs.+look.Tie.{close}
 
@@ -31,473 +31,13 @@ look-at t = and 7 look-kinds.ps (is 7 look-kinds.ps μ-look t) look.Pre
 abbrev look-below : ℕ → In 7 look-kinds.ps
 look-below t = and 7 look-kinds.ps (falls 7 look-kinds.ps _<_ μ-look t) look.Pre
 
-look-see-none-requires : (t : ℕ) → look-lts.Need-see-none-requires (
-  see-none-reads.Asked,
-  see-none-reads.Learnt,
-  widen-reads.Asked,
-  widen-reads.Learnt,
-  is-between-reads.Asked,
-  is-between-reads.Learnt,
-  look-below t,
-  look.Post,
-  is-cell-reads.Asked,
-  is-cell-reads.Learnt,
-  join-reads.Asked,
-  join-reads.Learnt,
-) (look-at t) look.Post
-look-see-none-requires t c κs = search needs
-
-look-returns : (t : ℕ) → look-lts.Need-returns (
-  see-none-reads.Asked,
-  see-none-reads.Learnt,
-  widen-reads.Asked,
-  widen-reads.Learnt,
-  is-between-reads.Asked,
-  is-between-reads.Learnt,
-  look-below t,
-  look.Post,
-  is-cell-reads.Asked,
-  is-cell-reads.Learnt,
-  join-reads.Asked,
-  join-reads.Learnt,
-) (look-at t) look.Post
-look-returns t c =
-    let a = c .before .before .before .before .before .before .before .before .before .args in
-    seen-zero (lists 0 (a .left .now) (a .right .now) (a .parent .now) (a .height .now)) (namesIn (a .names .now) (a .start .now) (a .len .now))
-    (length (a .left .now)) (a .g .lo) (a .g .hi) (a .g .up) (a .at) (a .d) (c .before .if1 .taken) (c .see-none .ensures)
-
-look-widen-requires : (t : ℕ) → look-lts.Need-widen-requires (
-  see-none-reads.Asked,
-  see-none-reads.Learnt,
-  widen-reads.Asked,
-  widen-reads.Learnt,
-  is-between-reads.Asked,
-  is-between-reads.Learnt,
-  look-below t,
-  look.Post,
-  is-cell-reads.Asked,
-  is-cell-reads.Learnt,
-  join-reads.Asked,
-  join-reads.Learnt,
-) (look-at t) look.Post
-look-widen-requires t c κs = search needs
-
-look-see-none-requires-2 : (t : ℕ) → look-lts.Need-see-none-requires-2 (
-  see-none-reads.Asked,
-  see-none-reads.Learnt,
-  widen-reads.Asked,
-  widen-reads.Learnt,
-  is-between-reads.Asked,
-  is-between-reads.Learnt,
-  look-below t,
-  look.Post,
-  is-cell-reads.Asked,
-  is-cell-reads.Learnt,
-  join-reads.Asked,
-  join-reads.Learnt,
-) (look-at t) look.Post
-look-see-none-requires-2 t c κs = search needs
-
-look-returns-2 : (t : ℕ) → look-lts.Need-returns-2 (
-  see-none-reads.Asked,
-  see-none-reads.Learnt,
-  widen-reads.Asked,
-  widen-reads.Learnt,
-  is-between-reads.Asked,
-  is-between-reads.Learnt,
-  look-below t,
-  look.Post,
-  is-cell-reads.Asked,
-  is-cell-reads.Learnt,
-  join-reads.Asked,
-  join-reads.Learnt,
-) (look-at t) look.Post
-look-returns-2 t c =
-    let a = c .before .before .before .before .before .before .before .before .before .before .before .args in
-    seen-out (lists 0 (a .left .now) (a .right .now) (a .parent .now) (a .height .now)) (namesIn (a .names .now) (a .start .now) (a .len .now))
-    (length (a .left .now)) (a .g .lo) (a .g .hi) (a .g .up) (a .at) (a .d) (c .before .before .widen .result) (c .before .before .widen .ensures)
-    (c .before .if2 .taken) (c .see-none2 .ensures)
-
-look-is-between-requires : (t : ℕ) → look-lts.Need-is-between-requires (
-  see-none-reads.Asked,
-  see-none-reads.Learnt,
-  widen-reads.Asked,
-  widen-reads.Learnt,
-  is-between-reads.Asked,
-  is-between-reads.Learnt,
-  look-below t,
-  look.Post,
-  is-cell-reads.Asked,
-  is-cell-reads.Learnt,
-  join-reads.Asked,
-  join-reads.Learnt,
-) (look-at t) look.Post
-look-is-between-requires t c κs = (
-  c .before .before .before .before .before .before .before .before .before .before .pre .1 .0 .named,
-  omega
-      (arith, c .if2 .left, c .before .before .before .before .before .before .before .before .before .before .pre .1 .0 .starts),
-)
-
-look-see-none-requires-3 : (t : ℕ) → look-lts.Need-see-none-requires-3 (
-  see-none-reads.Asked,
-  see-none-reads.Learnt,
-  widen-reads.Asked,
-  widen-reads.Learnt,
-  is-between-reads.Asked,
-  is-between-reads.Learnt,
-  look-below t,
-  look.Post,
-  is-cell-reads.Asked,
-  is-cell-reads.Learnt,
-  join-reads.Asked,
-  join-reads.Learnt,
-) (look-at t) look.Post
-look-see-none-requires-3 t c κs = search needs
-
-look-returns-3 : (t : ℕ) → look-lts.Need-returns-3 (
-  see-none-reads.Asked,
-  see-none-reads.Learnt,
-  widen-reads.Asked,
-  widen-reads.Learnt,
-  is-between-reads.Asked,
-  is-between-reads.Learnt,
-  look-below t,
-  look.Post,
-  is-cell-reads.Asked,
-  is-cell-reads.Learnt,
-  join-reads.Asked,
-  join-reads.Learnt,
-) (look-at t) look.Post
-look-returns-3 t c =
-    let a = c .before .before .before .before .before .before .before .before .before .before .before .before .before .args in
-    not-between (lists 0 (a .left .now) (a .right .now) (a .parent .now) (a .height .now)) (namesIn (a .names .now) (a .start .now) (a .len .now))
-    (length (a .left .now)) (a .g .lo) (a .g .hi) (a .g .up) (a .at) (a .d) (c .before .before .before .before .before .if1 .left)
-    (c .before .before .before .before .widen .result) (c .before .before .before .before .widen .ensures) (c .before .before .before .if2 .left)
-    (length (a .start .now)) (c .before .before .before .before .before .before .before .before .before .before .before .before .before .pre .1 .0 .starts)
-    (c .before .before .is-between .ensures) (not-true (c .before .before .is-between .result) (c .before .if3 .taken)) (c .see-none3 .ensures)
-
-look-mul-a : (t : ℕ) → look-lts.Need-mul-a (
-  see-none-reads.Asked,
-  see-none-reads.Learnt,
-  widen-reads.Asked,
-  widen-reads.Learnt,
-  is-between-reads.Asked,
-  is-between-reads.Learnt,
-  look-below t,
-  look.Post,
-  is-cell-reads.Asked,
-  is-cell-reads.Learnt,
-  join-reads.Asked,
-  join-reads.Learnt,
-) (look-at t) look.Post
-look-mul-a t c = search needs
-
-look-shared-slice-read-a : (t : ℕ) → look-lts.Need-shared-slice-read-a (
-  see-none-reads.Asked,
-  see-none-reads.Learnt,
-  widen-reads.Asked,
-  widen-reads.Learnt,
-  is-between-reads.Asked,
-  is-between-reads.Learnt,
-  look-below t,
-  look.Post,
-  is-cell-reads.Asked,
-  is-cell-reads.Learnt,
-  join-reads.Asked,
-  join-reads.Learnt,
-) (look-at t) look.Post
-look-shared-slice-read-a t c = search needs
-
-look-sub-look : (t : ℕ) → look-lts.Need-sub-look (
-  see-none-reads.Asked,
-  see-none-reads.Learnt,
-  widen-reads.Asked,
-  widen-reads.Learnt,
-  is-between-reads.Asked,
-  is-between-reads.Learnt,
-  look-below t,
-  look.Post,
-  is-cell-reads.Asked,
-  is-cell-reads.Learnt,
-  join-reads.Asked,
-  join-reads.Learnt,
-) (look-at t) look.Post
-look-sub-look t c = omega (arith, c .before .before .before .before .before .if1 .left)
-
-look-look-requires : (t : ℕ) → look-lts.Need-look-requires (
-  see-none-reads.Asked,
-  see-none-reads.Learnt,
-  widen-reads.Asked,
-  widen-reads.Learnt,
-  is-between-reads.Asked,
-  is-between-reads.Learnt,
-  look-below t,
-  look.Post,
-  is-cell-reads.Asked,
-  is-cell-reads.Learnt,
-  join-reads.Asked,
-  join-reads.Learnt,
-) (look-at t) look.Post
-look-look-requires t c κs = (
-  omega (
-    arith,
-    c .before .before .before .before .before .before .before .before .before .before .before .before .before .pre .0,
-    c .before .before .before
-        .before .before .if1 .left,
-  ),
-  (
-    c .before .before .before .before .before .before .before .before .before .before .before .before .before .pre .1 .0,
-    omega
-        (arith, c .before .before .before .before .before .before .before .before .before .before .before .before .before .pre .1 .1),
-  ),
-)
-
-look-returns-4 : (t : ℕ) → look-lts.Need-returns-4 (
-  see-none-reads.Asked,
-  see-none-reads.Learnt,
-  widen-reads.Asked,
-  widen-reads.Learnt,
-  is-between-reads.Asked,
-  is-between-reads.Learnt,
-  look-below t,
-  look.Post,
-  is-cell-reads.Asked,
-  is-cell-reads.Learnt,
-  join-reads.Asked,
-  join-reads.Learnt,
-) (look-at t) look.Post
-look-returns-4 t c =
-    let a = c .before .before .before .before .before .before .before .before .before .before .before .before .before .before .before .before .args in
-    not-left (lists 0 (a .left .now) (a .right .now) (a .parent .now) (a .height .now)) (namesIn (a .names .now) (a .start .now) (a .len .now))
-    (length (a .left .now)) (a .g .lo) (a .g .hi) (a .g .up) (a .at) (a .d) (c .before .before .before .before .before .before .before .before .if1 .left)
-    (c .before .before .before .before .before .before .before .widen .result) (c .before .before .before .before .before .before .before .widen .ensures)
-    (c .before .before .before .before .before .before .if2 .left) (c .before .before .look .ensures)
-    (not-true (c .before .before .look .result .ok) (c .if4 .taken))
-
-look-mul-b : (t : ℕ) → look-lts.Need-mul-b (
-  see-none-reads.Asked,
-  see-none-reads.Learnt,
-  widen-reads.Asked,
-  widen-reads.Learnt,
-  is-between-reads.Asked,
-  is-between-reads.Learnt,
-  look-below t,
-  look.Post,
-  is-cell-reads.Asked,
-  is-cell-reads.Learnt,
-  join-reads.Asked,
-  join-reads.Learnt,
-) (look-at t) look.Post
-look-mul-b t c = search needs
-
-look-shared-slice-read-b : (t : ℕ) → look-lts.Need-shared-slice-read-b (
-  see-none-reads.Asked,
-  see-none-reads.Learnt,
-  widen-reads.Asked,
-  widen-reads.Learnt,
-  is-between-reads.Asked,
-  is-between-reads.Learnt,
-  look-below t,
-  look.Post,
-  is-cell-reads.Asked,
-  is-cell-reads.Learnt,
-  join-reads.Asked,
-  join-reads.Learnt,
-) (look-at t) look.Post
-look-shared-slice-read-b t c =
-    omega (
-      arith,
-      c .before .before .before .before .before .before .before .if2 .left,
-      c .before .before .before .before .before .before .before .before
-          .before .before .before .before .before .before .before .before .before .pre .1 .0 .long .r,
-    )
-
-look-sub-look-2 : (t : ℕ) → look-lts.Need-sub-look-2 (
-  see-none-reads.Asked,
-  see-none-reads.Learnt,
-  widen-reads.Asked,
-  widen-reads.Learnt,
-  is-between-reads.Asked,
-  is-between-reads.Learnt,
-  look-below t,
-  look.Post,
-  is-cell-reads.Asked,
-  is-cell-reads.Learnt,
-  join-reads.Asked,
-  join-reads.Learnt,
-) (look-at t) look.Post
-look-sub-look-2 t c = omega (arith, c .before .before .before .before .before .before .before .before .before .if1 .left)
-
-look-look-requires-2 : (t : ℕ) → look-lts.Need-look-requires-2 (
-  see-none-reads.Asked,
-  see-none-reads.Learnt,
-  widen-reads.Asked,
-  widen-reads.Learnt,
-  is-between-reads.Asked,
-  is-between-reads.Learnt,
-  look-below t,
-  look.Post,
-  is-cell-reads.Asked,
-  is-cell-reads.Learnt,
-  join-reads.Asked,
-  join-reads.Learnt,
-) (look-at t) look.Post
-look-look-requires-2 t c κs = (
-  omega (
-    arith,
-    c .before .before .before .before .before .before .before .before .before .before .before .before .before .before .before .before .before
-        .pre .0,
-    c .before .before .before .before .before .before .before .before .before .if1 .left,
-  ),
-  (
-    c .before .before .before .before .before .before .before .before .before .before .before .before .before .before .before .before .before .pre .1 .0,
-    omega (
-      arith,
-      c .before .before .before .before .before .before .before .before .before .before .before .before .before .before .before .before .before .pre .1
-          .1,
-    ),
-  ),
-)
-
-look-returns-5 : (t : ℕ) → look-lts.Need-returns-5 (
-  see-none-reads.Asked,
-  see-none-reads.Learnt,
-  widen-reads.Asked,
-  widen-reads.Learnt,
-  is-between-reads.Asked,
-  is-between-reads.Learnt,
-  look-below t,
-  look.Post,
-  is-cell-reads.Asked,
-  is-cell-reads.Learnt,
-  join-reads.Asked,
-  join-reads.Learnt,
-) (look-at t) look.Post
-look-returns-5 t c =
-    let a = c .before .before .before .before .before .before .before .before .before .before .before .before .before .before .before .before .before .before
-    .before .before .args in
-    not-right (lists 0 (a .left .now) (a .right .now) (a .parent .now) (a .height .now)) (namesIn (a .names .now) (a .start .now) (a .len .now))
-    (length (a .left .now)) (a .g .lo) (a .g .hi) (a .g .up) (a .at) (a .d)
-    (c .before .before .before .before .before .before .before .before .before .before .before .before .if1 .left)
-    (c .before .before .before .before .before .before .before .before .before .before .before .widen .result)
-    (c .before .before .before .before .before .before .before .before .before .before .before .widen .ensures)
-    (c .before .before .before .before .before .before .before .before .before .before .if2 .left) (c .before .before .look2 .ensures)
-    (not-true (c .before .before .look2 .result .ok) (c .if5 .taken))
-
-look-is-cell-requires : (t : ℕ) → look-lts.Need-is-cell-requires (
-  see-none-reads.Asked,
-  see-none-reads.Learnt,
-  widen-reads.Asked,
-  widen-reads.Learnt,
-  is-between-reads.Asked,
-  is-between-reads.Learnt,
-  look-below t,
-  look.Post,
-  is-cell-reads.Asked,
-  is-cell-reads.Learnt,
-  join-reads.Asked,
-  join-reads.Learnt,
-) (look-at t) look.Post
-look-is-cell-requires t c κs =
-    let a = c .before .before .before .before .before .before .before .before .before .before .before .before .before .before .before .before .before .before
-    .before .before .args in
-    let h = c .before .before .before .before .before .before .before .before .before .before .if2 .left in
-    let w = c .before .before .before .before .before .before .before .before .before .before .before .before .before .before .before .before .before .before
-    .before .before .pre .1 .0 .long in
-    let l = high-small _ (a .d - 1) (a .left .now) (a .right .now)
-    (getD (a .left .now) (c .before .before .before .before .before .before .before .before .before .before .before .widen .result) 0)
-    (c .before .before .before .before .before .before .look .ensures)
-    (not-false (c .before .before .before .before .before .before .look .result .ok) (c .before .before .before .before .if4 .left))
-    (omega (
-      arith,
-      c .before .before .before .before .before .before .before .before .before .before .before .before .before .before .before .before .before
-          .before .before .before .pre .1 .1,
-    )) in
-    let r = high-small _ (a .d - 1) (a .left .now) (a .right .now)
-    (getD (a .right .now) (c .before .before .before .before .before .before .before .before .before .before .before .widen .result) 0)
-    (c .before .before .look2 .ensures) (not-false (c .before .before .look2 .result .ok) (c .if5 .left))
-    (omega (
-      arith,
-      c .before .before .before .before .before .before .before .before .before .before .before .before .before .before .before .before .before
-          .before .before .before .pre .1 .1,
-    )) in
-    (h, omega (arith, w .r), omega (arith, w .p), omega (arith, w .h), l .0, r .0)
-
-look-join-requires : (t : ℕ) → look-lts.Need-join-requires (
-  see-none-reads.Asked,
-  see-none-reads.Learnt,
-  widen-reads.Asked,
-  widen-reads.Learnt,
-  is-between-reads.Asked,
-  is-between-reads.Learnt,
-  look-below t,
-  look.Post,
-  is-cell-reads.Asked,
-  is-cell-reads.Learnt,
-  join-reads.Asked,
-  join-reads.Learnt,
-) (look-at t) look.Post
-look-join-requires t c κs =
-    let a = c .before .before .before .before .before .before .before .before .before .before .before .before .before .before .before .before .before .before
-    .before .before .before .args in
-    let l = high-small _ (a .d - 1) (a .left .now) (a .right .now)
-    (getD (a .left .now) (c .before .before .before .before .before .before .before .before .before .before .before .before .widen .result) 0)
-    (c .before .before .before .before .before .before .before .look .ensures)
-    (not-false (c .before .before .before .before .before .before .before .look .result .ok) (c .before .before .before .before .before .if4 .left))
-    (omega (
-      arith,
-      c .before .before .before .before .before .before .before .before .before .before .before .before .before .before .before .before .before
-          .before .before .before .before .pre .1 .1,
-    )) in
-    let r = high-small _ (a .d - 1) (a .left .now) (a .right .now)
-    (getD (a .right .now) (c .before .before .before .before .before .before .before .before .before .before .before .before .widen .result) 0)
-    (c .before .before .before .look2 .ensures) (not-false (c .before .before .before .look2 .result .ok) (c .before .if5 .left))
-    (omega (
-      arith,
-      c .before .before .before .before .before .before .before .before .before .before .before .before .before .before .before .before .before
-          .before .before .before .before .pre .1 .1,
-    )) in
-    (l .0, r .0, l .1, r .1)
-
-look-returns-6 : (t : ℕ) → look-lts.Need-returns-6 (
-  see-none-reads.Asked,
-  see-none-reads.Learnt,
-  widen-reads.Asked,
-  widen-reads.Learnt,
-  is-between-reads.Asked,
-  is-between-reads.Learnt,
-  look-below t,
-  look.Post,
-  is-cell-reads.Asked,
-  is-cell-reads.Learnt,
-  join-reads.Asked,
-  join-reads.Learnt,
-) (look-at t) look.Post
-look-returns-6 t c =
-    let a = c .before .before .before .before .before .before .before .before .before .before .before .before .before .before .before .before .before .before
-    .before .before .before .before .args in
-    node-seen (lists 0 (a .left .now) (a .right .now) (a .parent .now) (a .height .now)) (namesIn (a .names .now) (a .start .now) (a .len .now))
-    (length (a .left .now)) (a .g .lo) (a .g .hi) (a .g .up) (a .at) (a .d)
-    (c .before .before .before .before .before .before .before .before .before .before .before .before .before .before .if1 .left)
-    (c .before .before .before .before .before .before .before .before .before .before .before .before .before .widen .result)
-    (c .before .before .before .before .before .before .before .before .before .before .before .before .before .widen .ensures)
-    (c .before .before .before .before .before .before .before .before .before .before .before .before .if2 .left) (length (a .start .now))
-    (c .before .before .before .before .before .before .before .before .before .before .before .before .before .before .before .before .before .before
-    .before .before .before .before .pre .1 .0 .starts)
-    (c .before .before .before .before .before .before .before .before .before .before .before .is-between .ensures)
-    (not-false (c .before .before .before .before .before .before .before .before .before .before .before .is-between .result)
-    (c .before .before .before .before .before .before .before .before .before .before .if3 .left))
-    (c .before .before .before .before .before .before .before .before .look .ensures)
-    (not-false (c .before .before .before .before .before .before .before .before .look .result .ok)
-    (c .before .before .before .before .before .before .if4 .left)) (c .before .before .before .before .look2 .ensures)
-    (not-false (c .before .before .before .before .look2 .result .ok) (c .before .before .if5 .left)) (c .before .is-cell .ensures) (c .join .ensures)
-
+-- what is asked and learnt of each function that is called, in the order of the calls
 pub +look-spec : {M : Type 1} → statement M
 +look-spec = close μ-look λ t. look-lts.spec (
   see-none-reads.Asked,
   see-none-reads.Learnt,
-  widen-reads.Asked,
-  widen-reads.Learnt,
+  u16-as-usize-reads.Asked,
+  u16-as-usize-reads.Learnt,
   is-between-reads.Asked,
   is-between-reads.Learnt,
   look-below t,
@@ -509,24 +49,149 @@ pub +look-spec : {M : Type 1} → statement M
 )
     (look-at t)
     look.Post
-    (look-see-none-requires t)
-    (look-returns t)
-    (look-widen-requires t)
-    (look-see-none-requires-2 t)
-    (look-returns-2 t)
-    (look-is-between-requires t)
-    (look-see-none-requires-3 t)
-    (look-returns-3 t)
-    (look-mul-a t)
-    (look-shared-slice-read-a t)
-    (look-sub-look t)
-    (look-look-requires t)
-    (look-returns-4 t)
-    (look-mul-b t)
-    (look-shared-slice-read-b t)
-    (look-sub-look-2 t)
-    (look-look-requires-2 t)
-    (look-returns-5 t)
-    (look-is-cell-requires t)
-    (look-join-requires t)
-    (look-returns-6 t)
+    (λ c κs. search needs)
+    (λ c.
+    let a = c .before .before .before .before .before .before .before .before .before .args in
+    seen-zero (lists 0 (a .left .now) (a .right .now) (a .parent .now) (a .height .now)) (namesIn (a .names .now) (a .start .now) (a .len .now))
+    (length (a .left .now)) (a .g .lo) (a .g .hi) (a .g .up) (a .at) (a .d) (c .before .if1 .taken) (c .see-none .ensures))
+    (λ c κs. search needs)
+    (λ c κs. search needs)
+    (λ c.
+    let a = c .before .before .before .before .before .before .before .before .before .before .before .args in
+    seen-out (lists 0 (a .left .now) (a .right .now) (a .parent .now) (a .height .now)) (namesIn (a .names .now) (a .start .now) (a .len .now))
+    (length (a .left .now)) (a .g .lo) (a .g .hi) (a .g .up) (a .at) (a .d) (c .before .before .u16-as-usize .result) (c .before .before .u16-as-usize .ensures)
+    (c .before .if2 .taken) (c .see-none2 .ensures))
+    (λ c κs. (
+      c .before .before .before .before .before .before .before .before .before .before .pre .1 .0 .named,
+      omega
+          (arith, c .if2 .left, c .before .before .before .before .before .before .before .before .before .before .pre .1 .0 .starts),
+    ))
+    (λ c κs. search needs)
+    (λ c.
+    let a = c .before .before .before .before .before .before .before .before .before .before .before .before .before .args in
+    not-between (lists 0 (a .left .now) (a .right .now) (a .parent .now) (a .height .now)) (namesIn (a .names .now) (a .start .now) (a .len .now))
+    (length (a .left .now)) (a .g .lo) (a .g .hi) (a .g .up) (a .at) (a .d) (c .before .before .before .before .before .if1 .left)
+    (c .before .before .before .before .u16-as-usize .result) (c .before .before .before .before .u16-as-usize .ensures) (c .before .before .before .if2 .left)
+    (length (a .start .now)) (c .before .before .before .before .before .before .before .before .before .before .before .before .before .pre .1 .0 .starts)
+    (c .before .before .is-between .ensures) (not-true (c .before .before .is-between .result) (c .before .if3 .taken)) (c .see-none3 .ensures))
+    (λ c. search needs)
+    (λ c. search needs)
+    (λ c. omega (arith, c .before .before .before .before .before .if1 .left))
+    (λ c κs. (
+      omega (
+        arith,
+        c .before .before .before .before .before .before .before .before .before .before .before .before .before .pre .0,
+        c .before .before .before
+            .before .before .if1 .left,
+      ),
+      (
+        c .before .before .before .before .before .before .before .before .before .before .before .before .before .pre .1 .0,
+        omega
+            (arith, c .before .before .before .before .before .before .before .before .before .before .before .before .before .pre .1 .1),
+      ),
+    ))
+    (λ c.
+    let a = c .before .before .before .before .before .before .before .before .before .before .before .before .before .before .before .before .args in
+    not-left (lists 0 (a .left .now) (a .right .now) (a .parent .now) (a .height .now)) (namesIn (a .names .now) (a .start .now) (a .len .now))
+    (length (a .left .now)) (a .g .lo) (a .g .hi) (a .g .up) (a .at) (a .d) (c .before .before .before .before .before .before .before .before .if1 .left)
+    (c .before .before .before .before .before .before .before .u16-as-usize .result) (c .before .before .before .before .before .before .before .u16-as-usize .ensures)
+    (c .before .before .before .before .before .before .if2 .left) (c .before .before .look .ensures)
+    (not-true (c .before .before .look .result .ok) (c .if4 .taken)))
+    (λ c. search needs)
+    (λ c.
+    omega (
+      arith,
+      c .before .before .before .before .before .before .before .if2 .left,
+      c .before .before .before .before .before .before .before .before
+          .before .before .before .before .before .before .before .before .before .pre .1 .0 .long .r,
+    ))
+    (λ c. omega (arith, c .before .before .before .before .before .before .before .before .before .if1 .left))
+    (λ c κs. (
+      omega (
+        arith,
+        c .before .before .before .before .before .before .before .before .before .before .before .before .before .before .before .before .before
+            .pre .0,
+        c .before .before .before .before .before .before .before .before .before .if1 .left,
+      ),
+      (
+        c .before .before .before .before .before .before .before .before .before .before .before .before .before .before .before .before .before .pre .1 .0,
+        omega (
+          arith,
+          c .before .before .before .before .before .before .before .before .before .before .before .before .before .before .before .before .before .pre .1
+              .1,
+        ),
+      ),
+    ))
+    (λ c.
+    let a = c .before .before .before .before .before .before .before .before .before .before .before .before .before .before .before .before .before .before
+    .before .before .args in
+    not-right (lists 0 (a .left .now) (a .right .now) (a .parent .now) (a .height .now)) (namesIn (a .names .now) (a .start .now) (a .len .now))
+    (length (a .left .now)) (a .g .lo) (a .g .hi) (a .g .up) (a .at) (a .d)
+    (c .before .before .before .before .before .before .before .before .before .before .before .before .if1 .left)
+    (c .before .before .before .before .before .before .before .before .before .before .before .u16-as-usize .result)
+    (c .before .before .before .before .before .before .before .before .before .before .before .u16-as-usize .ensures)
+    (c .before .before .before .before .before .before .before .before .before .before .if2 .left) (c .before .before .look2 .ensures)
+    (not-true (c .before .before .look2 .result .ok) (c .if5 .taken)))
+    (λ c κs.
+    let a = c .before .before .before .before .before .before .before .before .before .before .before .before .before .before .before .before .before .before
+    .before .before .args in
+    let h = c .before .before .before .before .before .before .before .before .before .before .if2 .left in
+    let w = c .before .before .before .before .before .before .before .before .before .before .before .before .before .before .before .before .before .before
+    .before .before .pre .1 .0 .long in
+    let l = high-small _ (a .d - 1) (a .left .now) (a .right .now)
+    (getD (a .left .now) (c .before .before .before .before .before .before .before .before .before .before .before .u16-as-usize .result) 0)
+    (c .before .before .before .before .before .before .look .ensures)
+    (not-false (c .before .before .before .before .before .before .look .result .ok) (c .before .before .before .before .if4 .left))
+    (omega (
+      arith,
+      c .before .before .before .before .before .before .before .before .before .before .before .before .before .before .before .before .before
+          .before .before .before .pre .1 .1,
+    )) in
+    let r = high-small _ (a .d - 1) (a .left .now) (a .right .now)
+    (getD (a .right .now) (c .before .before .before .before .before .before .before .before .before .before .before .u16-as-usize .result) 0)
+    (c .before .before .look2 .ensures) (not-false (c .before .before .look2 .result .ok) (c .if5 .left))
+    (omega (
+      arith,
+      c .before .before .before .before .before .before .before .before .before .before .before .before .before .before .before .before .before
+          .before .before .before .pre .1 .1,
+    )) in
+    (h, omega (arith, w .r), omega (arith, w .p), omega (arith, w .h), l .0, r .0))
+    (λ c κs.
+    let a = c .before .before .before .before .before .before .before .before .before .before .before .before .before .before .before .before .before .before
+    .before .before .before .args in
+    let l = high-small _ (a .d - 1) (a .left .now) (a .right .now)
+    (getD (a .left .now) (c .before .before .before .before .before .before .before .before .before .before .before .before .u16-as-usize .result) 0)
+    (c .before .before .before .before .before .before .before .look .ensures)
+    (not-false (c .before .before .before .before .before .before .before .look .result .ok) (c .before .before .before .before .before .if4 .left))
+    (omega (
+      arith,
+      c .before .before .before .before .before .before .before .before .before .before .before .before .before .before .before .before .before
+          .before .before .before .before .pre .1 .1,
+    )) in
+    let r = high-small _ (a .d - 1) (a .left .now) (a .right .now)
+    (getD (a .right .now) (c .before .before .before .before .before .before .before .before .before .before .before .before .u16-as-usize .result) 0)
+    (c .before .before .before .look2 .ensures) (not-false (c .before .before .before .look2 .result .ok) (c .before .if5 .left))
+    (omega (
+      arith,
+      c .before .before .before .before .before .before .before .before .before .before .before .before .before .before .before .before .before
+          .before .before .before .before .pre .1 .1,
+    )) in
+    (l .0, r .0, l .1, r .1))
+    (λ c.
+    let a = c .before .before .before .before .before .before .before .before .before .before .before .before .before .before .before .before .before .before
+    .before .before .before .before .args in
+    node-seen (lists 0 (a .left .now) (a .right .now) (a .parent .now) (a .height .now)) (namesIn (a .names .now) (a .start .now) (a .len .now))
+    (length (a .left .now)) (a .g .lo) (a .g .hi) (a .g .up) (a .at) (a .d)
+    (c .before .before .before .before .before .before .before .before .before .before .before .before .before .before .if1 .left)
+    (c .before .before .before .before .before .before .before .before .before .before .before .before .before .u16-as-usize .result)
+    (c .before .before .before .before .before .before .before .before .before .before .before .before .before .u16-as-usize .ensures)
+    (c .before .before .before .before .before .before .before .before .before .before .before .before .if2 .left) (length (a .start .now))
+    (c .before .before .before .before .before .before .before .before .before .before .before .before .before .before .before .before .before .before
+    .before .before .before .before .pre .1 .0 .starts)
+    (c .before .before .before .before .before .before .before .before .before .before .before .is-between .ensures)
+    (not-false (c .before .before .before .before .before .before .before .before .before .before .before .is-between .result)
+    (c .before .before .before .before .before .before .before .before .before .before .if3 .left))
+    (c .before .before .before .before .before .before .before .before .look .ensures)
+    (not-false (c .before .before .before .before .before .before .before .before .look .result .ok)
+    (c .before .before .before .before .before .before .if4 .left)) (c .before .before .before .before .look2 .ensures)
+    (not-false (c .before .before .before .before .look2 .result .ok) (c .before .before .if5 .left)) (c .before .is-cell .ensures) (c .join .ensures))

@@ -11,8 +11,8 @@ use Rattle.avl_arena.proofs.is_after.Tie as tie
 returns-2 : tie.Need-returns-2
 returns-2 c =
     let a = c .before .before .before .before .before .before .args in
-    c .is-less .ensures ∙ by-bound (length (a .start .now)) (c .before .before .widen .result) (a .lo)
-    (λ (v : ℕ). isLess (byName (namesIn (a .names .now) (a .start .now) (a .len .now)) v (a .i))) (c .before .before .widen .ensures) (c .before .if1 .left)
+    c .is-less .ensures ∙ by-bound (length (a .start .now)) (c .before .before .u16-as-usize .result) (a .lo)
+    (λ (v : ℕ). isLess (byName (namesIn (a .names .now) (a .start .now) (a .len .now)) v (a .i))) (c .before .before .u16-as-usize .ensures) (c .before .if1 .left)
 
 pub is-after-spec : {M : Type 1} → statement M
 is-after-spec = tie.close (tie.spec (λ c κs. search needs) (λ c. search no-bound) (λ c κs. search needs) returns-2)

@@ -9,50 +9,50 @@ use Rattle.avl_arena.proofs.is_tree.Tie as tie
 slice-aggregate-s : tie.Need-slice-aggregate-s
 slice-aggregate-s c =
     let a = c .before .before .before .before .before .before .before .before .before .before .before .args in
-    sym (length-take-le (c .before .before .before .widen .result) (a .start .now)
+    sym (length-take-le (c .before .before .before .u16-as-usize .result) (a .start .now)
     (have (a .root) (a .left .now) (a .right .now) (a .parent .now) (a .height .now) (a .names .now) (a .start .now) (a .len .now) (a .count)
-    (c .before .before .before .widen .result) (c .before .before .before .widen .ensures) (c .before .before .have-places .ensures) (c .before .if1 .taken)
+    (c .before .before .before .u16-as-usize .result) (c .before .before .before .u16-as-usize .ensures) (c .before .before .have-places .ensures) (c .before .if1 .taken)
     .start))
 
 slice-aggregate-e : tie.Need-slice-aggregate-e
 slice-aggregate-e c =
     let a = c .before .before .before .before .before .before .before .before .before .before .before .before .args in
-    sym (length-take-le (c .before .before .before .before .widen .result) (a .len .now)
+    sym (length-take-le (c .before .before .before .before .u16-as-usize .result) (a .len .now)
     (have (a .root) (a .left .now) (a .right .now) (a .parent .now) (a .height .now) (a .names .now) (a .start .now) (a .len .now) (a .count)
-    (c .before .before .before .before .widen .result) (c .before .before .before .before .widen .ensures) (c .before .before .before .have-places .ensures)
+    (c .before .before .before .before .u16-as-usize .result) (c .before .before .before .before .u16-as-usize .ensures) (c .before .before .before .have-places .ensures)
     (c .before .before .if1 .taken) .len))
 
 are-inside-requires : tie.Need-are-inside-requires
 are-inside-requires c κs =
     let a = c .before .before .before .before .before .before .before .before .before .before .before .before .args in
     as-long (a .root) (a .left .now) (a .right .now) (a .parent .now) (a .height .now) (a .names .now) (a .start .now) (a .len .now) (a .count)
-    (c .before .before .before .before .widen .result) (c .before .before .before .before .widen .ensures) (c .before .before .before .have-places .ensures)
+    (c .before .before .before .before .u16-as-usize .result) (c .before .before .before .before .u16-as-usize .ensures) (c .before .before .before .have-places .ensures)
     (c .before .before .if1 .taken)
 
 slice-aggregate-is-whole : tie.Need-slice-aggregate-is-whole
 slice-aggregate-is-whole c =
     let a = c .before .before .before .before .before .before .before .before .before .before .before .before .before .before .before .args in
-    sym (length-take-le (c .before .before .before .before .before .before .before .widen .result) (a .left .now)
+    sym (length-take-le (c .before .before .before .before .before .before .before .u16-as-usize .result) (a .left .now)
     (have (a .root) (a .left .now) (a .right .now) (a .parent .now) (a .height .now) (a .names .now) (a .start .now) (a .len .now) (a .count)
-    (c .before .before .before .before .before .before .before .widen .result) (c .before .before .before .before .before .before .before .widen .ensures)
+    (c .before .before .before .before .before .before .before .u16-as-usize .result) (c .before .before .before .before .before .before .before .u16-as-usize .ensures)
     (c .before .before .before .before .before .before .have-places .ensures) (c .before .before .before .before .before .if1 .taken) .l))
 
 slice-aggregate-is-whole-2 : tie.Need-slice-aggregate-is-whole-2
 slice-aggregate-is-whole-2 c =
     let a = c .before .before .before .before .before .before .before .before .before .before .before .before .before .before .before .before .args in
-    sym (length-take-le (c .before .before .before .before .before .before .before .before .widen .result) (a .right .now)
+    sym (length-take-le (c .before .before .before .before .before .before .before .before .u16-as-usize .result) (a .right .now)
     (have (a .root) (a .left .now) (a .right .now) (a .parent .now) (a .height .now) (a .names .now) (a .start .now) (a .len .now) (a .count)
-    (c .before .before .before .before .before .before .before .before .widen .result)
-    (c .before .before .before .before .before .before .before .before .widen .ensures)
+    (c .before .before .before .before .before .before .before .before .u16-as-usize .result)
+    (c .before .before .before .before .before .before .before .before .u16-as-usize .ensures)
     (c .before .before .before .before .before .before .before .have-places .ensures) (c .before .before .before .before .before .before .if1 .taken) .r))
 
 slice-aggregate-is-whole-3 : tie.Need-slice-aggregate-is-whole-3
 slice-aggregate-is-whole-3 c =
     let a = c .before .before .before .before .before .before .before .before .before .before .before .before .before .before .before .before .before .args in
-    sym (length-take-le (c .before .before .before .before .before .before .before .before .before .widen .result) (a .parent .now)
+    sym (length-take-le (c .before .before .before .before .before .before .before .before .before .u16-as-usize .result) (a .parent .now)
     (have (a .root) (a .left .now) (a .right .now) (a .parent .now) (a .height .now) (a .names .now) (a .start .now) (a .len .now) (a .count)
-    (c .before .before .before .before .before .before .before .before .before .widen .result)
-    (c .before .before .before .before .before .before .before .before .before .widen .ensures)
+    (c .before .before .before .before .before .before .before .before .before .u16-as-usize .result)
+    (c .before .before .before .before .before .before .before .before .before .u16-as-usize .ensures)
     (c .before .before .before .before .before .before .before .before .have-places .ensures)
     (c .before .before .before .before .before .before .before .if1 .taken) .p))
 
@@ -60,10 +60,10 @@ slice-aggregate-is-whole-4 : tie.Need-slice-aggregate-is-whole-4
 slice-aggregate-is-whole-4 c =
     let a = c .before .before .before .before .before .before .before .before .before .before .before .before .before .before .before .before .before .before
     .args in
-    sym (length-take-le (c .before .before .before .before .before .before .before .before .before .before .widen .result) (a .height .now)
+    sym (length-take-le (c .before .before .before .before .before .before .before .before .before .before .u16-as-usize .result) (a .height .now)
     (have (a .root) (a .left .now) (a .right .now) (a .parent .now) (a .height .now) (a .names .now) (a .start .now) (a .len .now) (a .count)
-    (c .before .before .before .before .before .before .before .before .before .before .widen .result)
-    (c .before .before .before .before .before .before .before .before .before .before .widen .ensures)
+    (c .before .before .before .before .before .before .before .before .before .before .u16-as-usize .result)
+    (c .before .before .before .before .before .before .before .before .before .before .u16-as-usize .ensures)
     (c .before .before .before .before .before .before .before .before .before .have-places .ensures)
     (c .before .before .before .before .before .before .before .before .if1 .taken) .h))
 
@@ -72,8 +72,8 @@ is-whole-requires c κs =
     let a = c .before .before .before .before .before .before .before .before .before .before .before .before .before .before .before .before .before .before
     .args in
     lent (a .root) (a .left .now) (a .right .now) (a .parent .now) (a .height .now) (a .names .now) (a .start .now) (a .len .now) (a .count)
-    (c .before .before .before .before .before .before .before .before .before .before .widen .result)
-    (c .before .before .before .before .before .before .before .before .before .before .widen .ensures)
+    (c .before .before .before .before .before .before .before .before .before .before .u16-as-usize .result)
+    (c .before .before .before .before .before .before .before .before .before .before .u16-as-usize .ensures)
     (c .before .before .before .before .before .before .before .before .before .have-places .ensures)
     (c .before .before .before .before .before .before .before .before .if1 .taken) (c .before .before .before .before .before .are-inside .ensures)
     (c .before .before .before .before .if2 .taken)
@@ -83,8 +83,8 @@ returns c =
     let a = c .before .before .before .before .before .before .before .before .before .before .before .before .before .before .before .before .before .before
     .before .args in
     by-whole (a .root) (a .left .now) (a .right .now) (a .parent .now) (a .height .now) (a .names .now) (a .start .now) (a .len .now) (a .count)
-    (c .before .before .before .before .before .before .before .before .before .before .before .widen .result)
-    (c .before .before .before .before .before .before .before .before .before .before .before .widen .ensures)
+    (c .before .before .before .before .before .before .before .before .before .before .before .u16-as-usize .result)
+    (c .before .before .before .before .before .before .before .before .before .before .before .u16-as-usize .ensures)
     (c .before .before .before .before .before .before .before .before .before .before .have-places .ensures)
     (c .before .before .before .before .before .before .before .before .before .if1 .taken)
     (c .before .before .before .before .before .before .are-inside .ensures) (c .before .before .before .before .before .if2 .taken) (c .is-whole .ensures)
@@ -93,7 +93,7 @@ returns-2 : tie.Need-returns-2
 returns-2 c =
     let a = c .before .before .before .before .before .before .before .before .before .before .before .before .before .before .args in
     no-inside (a .root) (a .left .now) (a .right .now) (a .parent .now) (a .height .now) (a .names .now) (a .start .now) (a .len .now) (a .count)
-    (c .before .before .before .before .before .before .widen .result) (c .before .before .before .before .before .before .widen .ensures)
+    (c .before .before .before .before .before .before .u16-as-usize .result) (c .before .before .before .before .before .before .u16-as-usize .ensures)
     (c .before .before .before .before .before .have-places .ensures) (c .before .before .before .before .if1 .taken) (c .before .are-inside .ensures)
     (c .if2 .left)
 
@@ -101,7 +101,7 @@ returns-3 : tie.Need-returns-3
 returns-3 c =
     let a = c .before .before .before .before .before .before .before .before .before .before .args in
     no-places (a .root) (a .left .now) (a .right .now) (a .parent .now) (a .height .now) (a .names .now) (a .start .now) (a .len .now) (a .count)
-    (c .before .before .widen .result) (c .before .before .widen .ensures) (c .before .have-places .ensures) (c .if1 .left)
+    (c .before .before .u16-as-usize .result) (c .before .before .u16-as-usize .ensures) (c .before .have-places .ensures) (c .if1 .left)
 
 pub is-tree-spec : {M : Type 1} → statement M
 is-tree-spec = tie.close (tie.spec (λ c κs. search needs) (λ c κs. search needs) slice-aggregate-s slice-aggregate-e

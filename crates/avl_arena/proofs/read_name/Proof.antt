@@ -10,8 +10,8 @@ part-result-end c = omega (
   arith,
   c .before .before .before .before .before .before .before .pre .0 .in-bytes (c .before .before .before .before .before .before .before .args .i)
       (c .before .before .before .before .before .before .before .pre .1),
-  c .widen-place2 .ensures,
-  c .before .before .widen-place .ensures,
+  c .u32-as-usize2 .ensures,
+  c .before .before .u32-as-usize .ensures,
 )
 
 pub read-name-spec : {M : Type 1} → statement M

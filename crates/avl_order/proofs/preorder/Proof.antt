@@ -152,8 +152,8 @@ loop-again c = (
       (c .before .before .before .before .before .before .before .before .before .before .before .args .left .now)
       (c .before .before .before .before .before .before .before .before .before .before .before .args .right .now) w
       (c .before .before .before .before .before .before .loop .inv .2 w) (omega arith) (c .before .before .before .before .before .before .loop .inv .1)
-      (c .before .before .before .before .widen .result) (c .before .before .count-node2 .result) (c .count-node3 .result)
-      (c .before .before .before .before .widen .ensures .0) (c .before .before .count-node2 .ensures .0) (c .count-node3 .ensures .0),
+      (c .before .before .before .before .u16-as-usize .result) (c .before .before .count-node2 .result) (c .count-node3 .result)
+      (c .before .before .before .before .u16-as-usize .ensures .0) (c .before .before .count-node2 .ensures .0) (c .count-node3 .ensures .0),
 )
 
 returns : tie.Need-returns Inv-loop μ-loop

@@ -11,7 +11,7 @@ slice-aggregate-preorder : tie.Need-slice-aggregate-preorder
 slice-aggregate-preorder c =
     let z = c .before .before .before .before .before .before .before .before .before .before .before .before in
     let a = z .args in
-    let w = c .before .widen in
+    let w = c .before .u16-as-usize in
     left-long (a .left .now) (a .right .now) (a .start .now) (a .len .now) (a .size .now) (a .kind .now) (a .names .now) (a .tree .root) (a .tree .count)
     (w .result) (w .ensures .0) (z .pre .0 .0) (z .pre .0 .1)
 
@@ -19,7 +19,7 @@ slice-aggregate-preorder-2 : tie.Need-slice-aggregate-preorder-2
 slice-aggregate-preorder-2 c =
     let z = c .before .before .before .before .before .before .before .before .before .before .before .before .before in
     let a = z .args in
-    let w = c .before .before .widen in
+    let w = c .before .before .u16-as-usize in
     right-long (a .left .now) (a .right .now) (a .start .now) (a .len .now) (a .size .now) (a .kind .now) (a .names .now) (a .tree .root) (a .tree .count)
     (w .result) (w .ensures .0) (z .pre .0 .0) (z .pre .0 .1)
 
@@ -27,7 +27,7 @@ preorder-requires : tie.Need-preorder-requires
 preorder-requires c κs =
     let z = c .before .before .before .before .before .before .before .before .before .before .before .before .before .before in
     let a = z .args in
-    let w = c .before .before .before .widen in
+    let w = c .before .before .before .u16-as-usize in
     listed-asks (a .left .now) (a .right .now) (a .start .now) (a .len .now) (a .size .now) (a .kind .now) (a .names .now) (a .tree .root) (a .tree .count)
     (w .result) (w .ensures .0) (z .pre .0 .0) (z .pre .0 .1) (length (a .order .now)) (z .pre .1)
 
@@ -35,7 +35,7 @@ slice-aggregate-write-listed : tie.Need-slice-aggregate-write-listed
 slice-aggregate-write-listed c =
     let z = c .before .before .before .before .before .before .before .before .before .before .before .before .before .before .before .before .before .before in
     let a = z .args in
-    let w = c .before .before .before .before .before .before .before .widen in
+    let w = c .before .before .before .before .before .before .before .u16-as-usize in
     first-long (a .left .now) (a .right .now) (a .start .now) (a .len .now) (a .size .now) (a .kind .now) (a .names .now) (a .tree .root) (a .tree .count)
     (w .result) (w .ensures .0) (z .pre .0 .0) (z .pre .0 .1) (a .order .now) _ (z .pre .1) (c .before .before .before .preorder .ensures)
 
@@ -44,7 +44,7 @@ write-listed-requires c κs =
     let z = c .before .before .before .before .before .before .before .before .before .before .before .before .before .before .before .before .before .before
     .before .before in
     let a = z .args in
-    let w = c .before .before .before .before .before .before .before .before .before .widen in (
+    let w = c .before .before .before .before .before .before .before .before .before .u16-as-usize in (
       z .pre .0 .0,
       listing (a .left .now) (a .right .now) (a .start .now) (a .len .now) (a .size .now) (a .kind .now) (a .names .now) (a .tree .root)
           (a .tree .count) (w .result) (w .ensures .0) (z .pre .0 .0) (z .pre .0 .1) (a .order .now) _ (z .pre .1)
@@ -56,7 +56,7 @@ returns c =
     let z = c .before .before .before .before .before .before .before .before .before .before .before .before .before .before .before .before .before .before
     .before .before .before .before .before .before .before in
     let a = z .args in
-    let w = c .before .before .before .before .before .before .before .before .before .before .before .before .before .before .widen in (
+    let w = c .before .before .before .before .before .before .before .before .before .before .before .before .before .before .u16-as-usize in (
       λ t h. c .before .before .before .before .write-listed .ensures .0 t
           (listing (a .left .now) (a .right .now) (a .start .now) (a .len .now) (a .size .now) (a .kind .now) (a .names .now) (a .tree .root) (a .tree .count)
           (w .result) (w .ensures .0) t h (a .order .now) _ (z .pre .1)

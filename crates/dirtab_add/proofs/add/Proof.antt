@@ -13,7 +13,7 @@ store-entry-requires c κs = let a =
     let A = arena (a .tree .root) (a .tree .count) (columns (a .left .now) (a .right .now) (a .parent .now) (a .height .now) (a .start .now) (a .len .now) (a .size .now) (a .kind .now)) (a .names .now) in
     let w = taking A (a .entry) (c .before .before .before .before .before .before .before .before .judge .ensures) (c .before .before .before .before .before .before .verdict2 .given .1) in
     let m = roomy A (a .entry) _ w in
-    let i = c .before .before .before .before .widen .ensures in
+    let i = c .before .before .before .before .u16-as-usize .ensures in
     ((omega (arith, m .start), omega (arith, m .len), omega (arith, m .size), omega (arith, m .kind)), fine A (a .entry) _ w .small)
 
 grow-requires : tie.Need-grow-requires
@@ -61,9 +61,9 @@ returns-2 c = let a =
     let s = c .before .before .before .before .before .before .before .before .before .before .before .before .before .before .before .before .before .before .before .before .before .before .store-entry .ensures in
     added-is A (a .entry) _ w
     (c .before .before .before .before .before .before .before .before .before .before .before .before .before .before .before .before .before .before
-    .before .before .before .before .before .before .before .before .before .widen .result)
+    .before .before .before .before .before .before .before .before .before .u16-as-usize .result)
     (c .before .before .before .before .before .before .before .before .before .before .before .before .before .before .before .before .before .before
-    .before .before .before .before .before .before .before .before .before .widen .ensures)
+    .before .before .before .before .before .before .before .before .before .u16-as-usize .ensures)
     (c .before .before .before .before .before .before .before .before .before .grow .ensures) (s .0) (s .1) (s .2) (s .3)
 
 pub add-spec : {M : Type 1} → statement M

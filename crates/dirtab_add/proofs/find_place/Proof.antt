@@ -11,31 +11,31 @@ use Rattle.dirtab_add.proofs.find_place.Tie as tie
 slice-aggregate-find-spot : tie.Need-slice-aggregate-find-spot
 slice-aggregate-find-spot c =
     let s = c .before .before .before .before .before .before .before .before .before in
-    sym (length-take-le (c .before .before .before .widen .result) (s .args .left .now) (omega (arith, s .pre .0, c .before .before .before .widen .ensures)))
+    sym (length-take-le (c .before .before .before .u16-as-usize .result) (s .args .left .now) (omega (arith, s .pre .0, c .before .before .before .u16-as-usize .ensures)))
 
 slice-aggregate-find-spot-2 : tie.Need-slice-aggregate-find-spot-2
 slice-aggregate-find-spot-2 c =
     let s = c .before .before .before .before .before .before .before .before .before .before in
-    sym (length-take-le (c .before .before .before .before .widen .result) (s .args .right .now)
-    (omega (arith, s .pre .0, c .before .before .before .before .widen .ensures)))
+    sym (length-take-le (c .before .before .before .before .u16-as-usize .result) (s .args .right .now)
+    (omega (arith, s .pre .0, c .before .before .before .before .u16-as-usize .ensures)))
 
 find-spot-requires : tie.Need-find-spot-requires
 find-spot-requires c κs = let s = c .before .before .before .before .before .before .before .before .before .before .before in
     let a = s .args in (
-      sought-at (a .left .now) (a .right .now) (a .tree .root) (a .tree .count) (c .before .before .before .before .before .widen .result)
-          (namesIn (a .names .now) (a .start .now) (a .len .now)) (c .before .before .before .before .before .widen .ensures) (s .pre .1),
-      name-short (a .left .now) (a .right .now) (a .tree .root) (a .tree .count) (c .before .before .before .before .before .widen .result)
-          (namesIn (a .names .now) (a .start .now) (a .len .now)) (c .before .before .before .before .before .widen .ensures) (a .names .now) (a .entry)
-          (c .before .before .before .before .widen-place .result) (c .before .before .before .widen-place2 .result)
-          (c .before .before .before .before .widen-place .ensures) (c .before .before .before .widen-place2 .ensures) (s .pre .0 .3),
+      sought-at (a .left .now) (a .right .now) (a .tree .root) (a .tree .count) (c .before .before .before .before .before .u16-as-usize .result)
+          (namesIn (a .names .now) (a .start .now) (a .len .now)) (c .before .before .before .before .before .u16-as-usize .ensures) (s .pre .1),
+      name-short (a .left .now) (a .right .now) (a .tree .root) (a .tree .count) (c .before .before .before .before .before .u16-as-usize .result)
+          (namesIn (a .names .now) (a .start .now) (a .len .now)) (c .before .before .before .before .before .u16-as-usize .ensures) (a .names .now) (a .entry)
+          (c .before .before .before .before .u32-as-usize .result) (c .before .before .before .u32-as-usize2 .result)
+          (c .before .before .before .before .u32-as-usize .ensures) (c .before .before .before .u32-as-usize2 .ensures) (s .pre .0 .3),
     )
 
 returns : tie.Need-returns
 returns c = let a = c .before .before .before .before .before .before .before .before .before .before .before .before .args in
-    found-at (a .left .now) (a .right .now) (a .tree .root) (a .tree .count) (c .before .before .before .before .before .before .widen .result)
-    (namesIn (a .names .now) (a .start .now) (a .len .now)) (c .before .before .before .before .before .before .widen .ensures) (a .names .now) (a .entry)
-    (c .before .before .before .before .before .widen-place .result) (c .before .before .before .before .widen-place2 .result)
-    (c .before .before .before .before .before .widen-place .ensures) (c .before .before .before .before .widen-place2 .ensures) (c .find-spot .ensures)
+    found-at (a .left .now) (a .right .now) (a .tree .root) (a .tree .count) (c .before .before .before .before .before .before .u16-as-usize .result)
+    (namesIn (a .names .now) (a .start .now) (a .len .now)) (c .before .before .before .before .before .before .u16-as-usize .ensures) (a .names .now) (a .entry)
+    (c .before .before .before .before .before .u32-as-usize .result) (c .before .before .before .before .u32-as-usize2 .result)
+    (c .before .before .before .before .before .u32-as-usize .ensures) (c .before .before .before .before .u32-as-usize2 .ensures) (c .find-spot .ensures)
 
 pub find-place-spec : {M : Type 1} → statement M
 find-place-spec = tie.close (tie.spec (λ c κs. search needs) (λ c κs. search needs) (λ c κs. search needs)

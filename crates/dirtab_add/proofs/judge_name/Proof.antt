@@ -21,7 +21,7 @@ find-place-requires c κs = let s = c .before .before .before .before .before .b
       sought
           (arena (a .tree .root) (a .tree .count)
           (columns (a .left .now) (a .right .now) (a .parent .now) (a .height .now) (a .start .now) (a .len .now) (a .size .now) (a .kind .now)) (a .names .now))
-          (s .pre .passes) (omega (arith, c .widen .ensures)),
+          (s .pre .passes) (omega (arith, c .u16-as-usize .ensures)),
     )
 
 returns : tie.Need-returns
@@ -29,10 +29,10 @@ returns c = let s = c .before .before .before .before .before .before .before .b
     let a = s .args in
     let A = arena (a .tree .root) (a .tree .count) (columns (a .left .now) (a .right .now) (a .parent .now) (a .height .now) (a .start .now) (a .len .now) (a .size .now) (a .kind .now)) (a .names .now) in
     with-room A (a .entry) (s .pre)
-    (spot-is A (s .pre .passes) (omega (arith, c .before .before .before .before .before .before .widen .ensures))
+    (spot-is A (s .pre .passes) (omega (arith, c .before .before .before .before .before .before .u16-as-usize .ensures))
     (toName (namesIn (a .names .now) (a .start .now) (a .len .now)) (nameIn (a .names .now) (a .entry)))
     (c .before .before .before .before .before .find-place .ensures)) (c .before .before .before .spot2 .given .1)
-    (c .before .before .before .before .before .before .widen .result) (c .before .before .before .before .before .before .widen .ensures)
+    (c .before .before .before .before .before .before .u16-as-usize .result) (c .before .before .before .before .before .before .u16-as-usize .ensures)
     (c .before .has-room .ensures) (c .if1 .taken)
 
 returns-2 : tie.Need-returns-2
@@ -40,7 +40,7 @@ returns-2 c = let s = c .before .before .before .before .before .before .before 
     let a = s .args in
     let A = arena (a .tree .root) (a .tree .count) (columns (a .left .now) (a .right .now) (a .parent .now) (a .height .now) (a .start .now) (a .len .now) (a .size .now) (a .kind .now)) (a .names .now) in
     same-name A (a .entry) (s .pre)
-    (spot-is A (s .pre .passes) (omega (arith, c .before .before .before .before .widen .ensures))
+    (spot-is A (s .pre .passes) (omega (arith, c .before .before .before .before .u16-as-usize .ensures))
     (toName (namesIn (a .names .now) (a .start .now) (a .len .now)) (nameIn (a .names .now) (a .entry))) (c .before .before .before .find-place .ensures))
     (c .before .spot .given .1)
 
@@ -49,10 +49,10 @@ returns-3 c = let s = c .before .before .before .before .before .before .before 
     let a = s .args in
     let A = arena (a .tree .root) (a .tree .count) (columns (a .left .now) (a .right .now) (a .parent .now) (a .height .now) (a .start .now) (a .len .now) (a .size .now) (a .kind .now)) (a .names .now) in
     no-room A (a .entry) (s .pre)
-    (spot-is A (s .pre .passes) (omega (arith, c .before .before .before .before .before .before .widen .ensures))
+    (spot-is A (s .pre .passes) (omega (arith, c .before .before .before .before .before .before .u16-as-usize .ensures))
     (toName (namesIn (a .names .now) (a .start .now) (a .len .now)) (nameIn (a .names .now) (a .entry)))
     (c .before .before .before .before .before .find-place .ensures)) (c .before .before .before .spot2 .given .1)
-    (c .before .before .before .before .before .before .widen .result) (c .before .before .before .before .before .before .widen .ensures)
+    (c .before .before .before .before .before .before .u16-as-usize .result) (c .before .before .before .before .before .before .u16-as-usize .ensures)
     (c .before .has-room .ensures) (c .if1 .left)
 
 pub judge-name-spec : {M : Type 1} → statement M

@@ -1,7 +1,9 @@
 -- `hand_out` meets its contract: 7 and 8 leave all as it was, else every size and sector is given back.
+use mathlib.Core.Path.{sym}
 use mathlib.Core.List.{[]}
 use borrow.Author.Needs.{needs}
-use Rattle.img.proofs.Handing.{widened, too-many-out, too-far-out, taken, all-out}
+use Rattle.img_take.proofs.Cut.{re-place}
+use Rattle.img.proofs.Handing.{too-many-out, too-far-out, taken, all-out}
 use Rattle.img.proofs.hand_out.Statement.{statement}
 use Rattle.img.proofs.hand_out.Tie as tie
 
@@ -10,7 +12,7 @@ take-tables-requires c κs =
     let k = c .before .before .before .before .before .before .before .before .before .before .before .before in
     let s = k .before .before .before .before .before .before .before .before .before .before .before .before in (
       (
-        widened (s .pre .0 .0) (search needs),
+        re-place (s .pre .0 .0) (sym (search needs)),
         taken _ _ (k .check-tables .ensures (s .pre .0 .0) (s .args .tables .now) (s .args .sectors .now)) [] _
             (c .before .before .before .before .before .before .before .before .free .given .1),
       ),
@@ -36,7 +38,7 @@ returns-3 c = λ w.
     all-out _ _ (k .check-tables .ensures w (s .args .tables .now) (s .args .sectors .now)) _ _ _ _ _ _ _ _
     (c .before .before .before .before .before .before .before .before .before .before .before .before .before .before .before .free .given .1)
     (c .before .before .before .before .before .before .before .before .before .before .before .before .copy-words .ensures)
-    (c .before .before .before .before .before .before .take-tables .ensures (widened w (search needs)))
+    (c .before .before .before .before .before .before .take-tables .ensures (re-place w (sym (search needs))))
 
 pub hand-out-spec : {M : Type 1} → statement M
 hand-out-spec = tie.close (tie.spec (λ c κs. search needs) (λ c. search needs) (λ c. search needs) (λ c. search needs)

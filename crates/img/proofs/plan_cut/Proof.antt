@@ -6,85 +6,6 @@ use Rattle.img.proofs.Cutting.{in-first, in-share, in-sizes, in-tables,
 use Rattle.img.proofs.plan_cut.Statement.{statement}
 use Rattle.img.proofs.plan_cut.Tie as tie
 
-slice-aggregate-plan-counted : tie.Need-slice-aggregate-plan-counted
-slice-aggregate-plan-counted c =
-    let s = c .before .before .before .before .before .before .before .before .before .before .before .before .before .before .before .before .before .before .before in
-    sym (length-take-le (s .args .directories) (s .args .from .now) (in-first _ _ (s .pre)))
-
-slice-aggregate-plan-counted-2 : tie.Need-slice-aggregate-plan-counted-2
-slice-aggregate-plan-counted-2 c =
-    let s = c .before .before .before .before .before .before .before .before .before .before .before .before .before .before .before .before .before .before .before .before in
-    sym (length-take-le (s .args .directories) (s .args .share .now) (in-share _ _ (s .pre)))
-
-slice-aggregate-plan-counted-3 : tie.Need-slice-aggregate-plan-counted-3
-slice-aggregate-plan-counted-3 c =
-    let s = c .before .before .before .before .before .before .before .before .before .before .before .before .before .before .before .before .before .before .before .before .before in
-    sym (length-take-le (s .args .entries) (s .args .start .now) (in-start _ _ (s .pre)))
-
-slice-aggregate-plan-counted-4 : tie.Need-slice-aggregate-plan-counted-4
-slice-aggregate-plan-counted-4 c =
-    let s = c .before .before .before .before .before .before .before .before .before .before .before .before .before .before .before .before .before .before .before .before .before .before in
-    sym (length-take-le (s .args .entries) (s .args .len .now) (in-len _ _ (s .pre)))
-
-slice-aggregate-plan-counted-5 : tie.Need-slice-aggregate-plan-counted-5
-slice-aggregate-plan-counted-5 c =
-    let s = c .before .before .before .before .before .before .before .before .before .before .before .before .before .before .before .before .before .before .before .before .before .before .before in
-    sym (length-take-le (s .args .entries) (s .args .kind .now) (in-kind _ _ (s .pre)))
-
-slice-aggregate-plan-counted-6 : tie.Need-slice-aggregate-plan-counted-6
-slice-aggregate-plan-counted-6 c =
-    let s = c .before .before .before .before .before .before .before .before .before .before .before .before .before .before .before .before .before .before .before .before .before .before .before .before in
-    sym (length-take-le (s .args .entries) (s .args .value .now) (in-value _ _ (s .pre)))
-
-slice-relend-prefix-plan-counted : tie.Need-slice-relend-prefix-plan-counted
-slice-relend-prefix-plan-counted c =
-    in-sized _ _ (c .before .before .before .before .before .before .before .before .before .before .before .before .before .before .before .before .before
-    .before .before .before .before .before .before .before .pre)
-
-slice-aggregate-plan-counted-7 : tie.Need-slice-aggregate-plan-counted-7
-slice-aggregate-plan-counted-7 c =
-    let s = c .before .before .before .before .before .before .before .before .before .before .before .before .before .before .before .before .before .before .before .before .before .before .before .before .before in
-    sym (length-take-le (s .args .directories) (s .args .sized .now) (in-sized _ _ (s .pre)))
-
-slice-relend-prefix-plan-counted-2 : tie.Need-slice-relend-prefix-plan-counted-2
-slice-relend-prefix-plan-counted-2 c =
-    in-sizes _ _ (c .before .before .before .before .before .before .before .before .before .before .before .before .before .before .before .before .before
-    .before .before .before .before .before .before .before .before .before .before .before .before .before .before .before .pre)
-
-slice-aggregate-plan-counted-8 : tie.Need-slice-aggregate-plan-counted-8
-slice-aggregate-plan-counted-8 c =
-    let s = c .before .before .before .before .before .before .before .before .before .before .before .before .before .before .before .before .before .before
-    .before .before .before .before .before .before .before .before .before .before .before .before .before .before .before in
-    sym (length-take-le (s .args .directories) (s .args .sizes .now) (in-sizes _ _ (s .pre)))
-
-slice-relend-prefix-plan-counted-3 : tie.Need-slice-relend-prefix-plan-counted-3
-slice-relend-prefix-plan-counted-3 c =
-    in-tables _ _ (c .before .before .before .before .before .before .before .before .before .before .before .before .before .before .before .before .before
-    .before .before .before .before .before .before .before .before .before .before .before .before .before .before .before .before .pre)
-
-slice-aggregate-plan-counted-9 : tie.Need-slice-aggregate-plan-counted-9
-slice-aggregate-plan-counted-9 c =
-    let s = c .before .before .before .before .before .before .before .before .before .before .before .before .before .before .before .before .before .before
-    .before .before .before .before .before .before .before .before .before .before .before .before .before .before .before .before in
-    sym (length-take-le (s .args .directories) (s .args .tables .now) (in-tables _ _ (s .pre)))
-
-slice-relend-prefix-plan-counted-4 : tie.Need-slice-relend-prefix-plan-counted-4
-slice-relend-prefix-plan-counted-4 c =
-    in-sectors _ _ (c .before .before .before .before .before .before .before .before .before .before .before .before .before .before .before .before .before
-    .before .before .before .before .before .before .before .before .before .before .before .before .before .before .before .before .before .pre)
-
-slice-aggregate-plan-counted-10 : tie.Need-slice-aggregate-plan-counted-10
-slice-aggregate-plan-counted-10 c =
-    let s = c .before .before .before .before .before .before .before .before .before .before .before .before .before .before .before .before .before .before
-    .before .before .before .before .before .before .before .before .before .before .before .before .before .before .before .before .before in
-    sym (length-take-le (s .args .entries) (s .args .sectors .now) (in-sectors _ _ (s .pre)))
-
-plan-counted-requires : tie.Need-plan-counted-requires
-plan-counted-requires c κs =
-    let s = c .before .before .before .before .before .before .before .before .before .before .before .before .before .before .before .before .before .before
-    .before .before .before .before .before .before .before .before .before .before .before .before .before .before .before .before .before in
-    (exact-cut _ _ (s .pre), wide-cut _ _ (s .pre))
-
 same-length : tie.Need-same-length
 same-length c = search needs
 
@@ -118,39 +39,67 @@ same-length-10 c = search needs
 same-length-11 : tie.Need-same-length-11
 same-length-11 c = search needs
 
-returns : tie.Need-returns
-returns c = planned-in _ _ _ _ _ _
-    (c .before .before .before .before .before .before .before .before .before .before .before .before .before .before .before .before .before .before .before
-    .before .before .before .plan-counted .ensures)
-
 pub plan-cut-spec : {M : Type 1} → statement M
-plan-cut-spec =
-    tie.close
-    (tie.spec
-    slice-aggregate-plan-counted
-    slice-aggregate-plan-counted-2
-    slice-aggregate-plan-counted-3
-    slice-aggregate-plan-counted-4
-    slice-aggregate-plan-counted-5
-    slice-aggregate-plan-counted-6
-    slice-relend-prefix-plan-counted
-    slice-aggregate-plan-counted-7
-    slice-relend-prefix-plan-counted-2
-    slice-aggregate-plan-counted-8
-    slice-relend-prefix-plan-counted-3
-    slice-aggregate-plan-counted-9
-    slice-relend-prefix-plan-counted-4
-    slice-aggregate-plan-counted-10
-    plan-counted-requires
-    same-length
-    same-length-2
-    same-length-3
-    same-length-4
-    same-length-5
-    same-length-6
-    same-length-7
-    same-length-8
-    same-length-9
-    same-length-10
-    same-length-11
-    returns)
+plan-cut-spec = tie.close (tie.spec
+    (λ c.
+    let s = c .before .before .before .before .before .before .before .before .before .before .before .before .before .before .before .before .before
+    .before .before in
+    sym (length-take-le (s .args .directories) (s .args .from .now) (in-first _ _ (s .pre))))
+    (λ c.
+    let s = c .before .before .before .before .before .before .before .before .before .before .before .before .before .before .before .before .before
+    .before .before .before in
+    sym (length-take-le (s .args .directories) (s .args .share .now) (in-share _ _ (s .pre))))
+    (λ c.
+    let s = c .before .before .before .before .before .before .before .before .before .before .before .before .before .before .before .before .before
+    .before .before .before .before in
+    sym (length-take-le (s .args .entries) (s .args .start .now) (in-start _ _ (s .pre))))
+    (λ c.
+    let s = c .before .before .before .before .before .before .before .before .before .before .before .before .before .before .before .before .before
+    .before .before .before .before .before in
+    sym (length-take-le (s .args .entries) (s .args .len .now) (in-len _ _ (s .pre))))
+    (λ c.
+    let s = c .before .before .before .before .before .before .before .before .before .before .before .before .before .before .before .before .before
+    .before .before .before .before .before .before in
+    sym (length-take-le (s .args .entries) (s .args .kind .now) (in-kind _ _ (s .pre))))
+    (λ c.
+    let s = c .before .before .before .before .before .before .before .before .before .before .before .before .before .before .before .before .before
+    .before .before .before .before .before .before .before in
+    sym (length-take-le (s .args .entries) (s .args .value .now) (in-value _ _ (s .pre))))
+    (λ c.
+    in-sized _ _ (c .before .before .before .before .before .before .before .before .before .before .before .before .before .before .before .before .before
+    .before .before .before .before .before .before .before .pre))
+    (λ c.
+    let s = c .before .before .before .before .before .before .before .before .before .before .before .before .before .before .before .before .before
+    .before .before .before .before .before .before .before .before in
+    sym (length-take-le (s .args .directories) (s .args .sized .now) (in-sized _ _ (s .pre))))
+    (λ c.
+    in-sizes _ _ (c .before .before .before .before .before .before .before .before .before .before .before .before .before .before .before .before .before
+    .before .before .before .before .before .before .before .before .before .before .before .before .before .before .before .pre))
+    (λ c.
+    let s = c .before .before .before .before .before .before .before .before .before .before .before .before .before .before .before .before .before .before
+    .before .before .before .before .before .before .before .before .before .before .before .before .before .before .before in
+    sym (length-take-le (s .args .directories) (s .args .sizes .now) (in-sizes _ _ (s .pre))))
+    (λ c.
+    in-tables _ _ (c .before .before .before .before .before .before .before .before .before .before .before .before .before .before .before .before .before
+    .before .before .before .before .before .before .before .before .before .before .before .before .before .before .before .before .pre))
+    (λ c.
+    let s = c .before .before .before .before .before .before .before .before .before .before .before .before .before .before .before .before .before .before
+    .before .before .before .before .before .before .before .before .before .before .before .before .before .before .before .before in
+    sym (length-take-le (s .args .directories) (s .args .tables .now) (in-tables _ _ (s .pre))))
+    (λ c.
+    in-sectors _ _ (c .before .before .before .before .before .before .before .before .before .before .before .before .before .before .before .before .before
+    .before .before .before .before .before .before .before .before .before .before .before .before .before .before .before .before .before .pre))
+    (λ c.
+    let s = c .before .before .before .before .before .before .before .before .before .before .before .before .before .before .before .before .before .before
+    .before .before .before .before .before .before .before .before .before .before .before .before .before .before .before .before .before in
+    sym (length-take-le (s .args .entries) (s .args .sectors .now) (in-sectors _ _ (s .pre))))
+    (λ c κs.
+    let s = c .before .before .before .before .before .before .before .before .before .before .before .before .before .before .before .before .before .before
+    .before .before .before .before .before .before .before .before .before .before .before .before .before .before .before .before .before in
+    (exact-cut _ _ (s .pre), wide-cut _ _ (s .pre)))
+    same-length same-length-2 same-length-3 same-length-4 same-length-5 same-length-6 same-length-7 same-length-8
+    same-length-9 same-length-10 same-length-11
+    (λ c.
+    planned-in _ _ _ _ _ _
+    (c .before .before .before .before .before .before .before .before .before .before .before .before .before .before .before .before .before .before .before
+    .before .before .before .plan-counted .ensures)))

@@ -8,10 +8,10 @@ use Rattle.img_take.proofs.sectors_for.Statement.{statement}
 use Rattle.img_take.proofs.sectors_for.Tie as tie
 
 cast-result : tie.Need-cast-result
-cast-result c = omega (arith, few-sectors (c .before .widen-size .result) (omega arith))
+cast-result c = omega (arith, few-sectors (c .before .u32-as-u64 .result) (omega arith))
 
 returns : tie.Need-returns
-returns c = (c .required-sectors .ensures ∙ ap sectorsFor (c .before .widen-size .ensures), omega (arith, few-sectors (c .before .widen-size .result) (omega arith)))
+returns c = (c .required-sectors .ensures ∙ ap sectorsFor (c .before .u32-as-u64 .ensures .0), omega (arith, few-sectors (c .before .u32-as-u64 .result) (omega arith)))
 
 pub sectors-for-spec : {M : Type 1} → statement M
 sectors-for-spec = tie.close (tie.spec (λ c κs. search needs) (λ c κs. search needs) cast-result returns)

@@ -1,154 +1,68 @@
 -- `take_table` meets its contract.
 use borrow.Author.Needs.{needs}
+use Prim.Native.Nat.{ℕ, _+_, _≤_}
 use native.Mathlib.Omega.{arith}
+use mathlib.Core.Path.{_≡_}
+use lib.ListN.{length, getD}
 use Rattle.img_take.proofs.Cut.{cut-order, cut-orders, cut-kind, cut-value}
 use Rattle.img_take.proofs.Turns.{turn-fillable, turn-asks, turn-low, turn-takes}
 use Rattle.img_take.proofs.take_table.Statement.{statement}
 use Rattle.img_take.proofs.take_table.Tie as tie
 
-add-fill-sizes : tie.Need-add-fill-sizes
-add-fill-sizes c = omega (arith, cut-kind (c .before .before .before .before .before .before .before .before .before .before .before .before .before .pre .0 .0) (c .before .before .widen .ensures) (c .widen2 .ensures))
+-- the directory's share lies in the columns; y is where its first entry and their count are known
+module _ (y : tie.After-u32-as-usize2) where
+  abbrev f : ℕ
+  f = y .before .before .u32-as-usize .result
 
-part-fill-sizes-end : tie.Need-part-fill-sizes-end
-part-fill-sizes-end c =
-    omega (
-      arith,
-      cut-kind (c .before .before .before .before .before .before .before .before .before .before .before .before .before .pre .0 .0)
-          (c .before .before .widen .ensures) (c .widen2 .ensures),
-    )
+  abbrev n : ℕ
+  n = y .u32-as-usize2 .result
 
-add-fill-sizes-2 : tie.Need-add-fill-sizes-2
-add-fill-sizes-2 c = omega (
-  arith,
-  cut-kind (c .before .before .before .before .before .before .before .before .before .before .before .before .before .before .pre .0 .0)
-      (c .before .before .before .widen .ensures) (c .before .widen2 .ensures),
-)
+  abbrev s : tie.Start
+  s = y .before .before .before .before .before .before .before .before .before .before .before .before .before
 
-mul-fill-sizes : tie.Need-mul-fill-sizes
-mul-fill-sizes c = omega (
-  arith,
-  cut-value (c .before .before .before .before .before .before .before .before .before .before .before .before .before .before .pre .0 .0)
-      (c .before .before .before .widen .ensures) (c .before .widen2 .ensures),
-)
+  f-is : f ≡ getD (s .args .from .now) (s .args .d) 0
+  f-is = y .before .before .u32-as-usize .ensures .0
 
-part-fill-sizes-end-2 : tie.Need-part-fill-sizes-end-2
-part-fill-sizes-end-2 c =
-    omega (
-      arith,
-      cut-value (c .before .before .before .before .before .before .before .before .before .before .before .before .before .before .pre .0 .0)
-          (c .before .before .before .widen .ensures) (c .before .widen2 .ensures),
-    )
+  n-is : n ≡ getD (s .args .share .now) (s .args .d) 0
+  n-is = y .u32-as-usize2 .ensures .0
 
-fill-sizes-requires : tie.Need-fill-sizes-requires
-fill-sizes-requires c κs =
-    let z = c .before .before .before .before .before .before .before .before .before .before .before .before .before .before .before .before in
-    turn-fillable (z .pre .0 .0) (c .before .before .before .before .before .widen .ensures) (c .before .before .before .widen2 .ensures)
-
-sub-take-entries : tie.Need-sub-take-entries
-sub-take-entries c = omega (
-  arith,
-  cut-order (c .before .before .before .before .before .before .before .before .before .before .before .before .before .before .before .before .before
-      .before .before .pre .0 .0) (c .before .before .before .before .before .before .before .before .widen .ensures)
-      (c .before .before .before .before .before .before .widen2 .ensures),
-)
-
-mul-take-entries : tie.Need-mul-take-entries
-mul-take-entries c = omega (
-  arith,
-  cut-orders (c .before .before .before .before .before .before .before .before .before .before .before .before .before .before .before .before
-      .before .before .before .pre .0 .0) (c .before .before .before .before .before .before .before .before .widen .ensures)
-      (c .before .before .before .before .before .before .widen2 .ensures),
-)
-
-part-take-entries-end : tie.Need-part-take-entries-end
-part-take-entries-end c =
-    omega (
-      arith,
-      cut-orders
-          (c .before .before .before .before .before .before .before .before .before .before .before .before .before .before .before .before .before .before .before
-          .pre .0 .0) (c .before .before .before .before .before .before .before .before .widen .ensures)
-          (c .before .before .before .before .before .before .widen2 .ensures),
-    )
-
-add-take-entries : tie.Need-add-take-entries
-add-take-entries c = omega (
-  arith,
-  cut-kind (c .before .before .before .before .before .before .before .before .before .before .before .before .before .before .before .before .before
-      .before .before .before .pre .0 .0) (c .before .before .before .before .before .before .before .before .before .widen .ensures)
-      (c .before .before .before .before .before .before .before .widen2 .ensures),
-)
-
-part-take-entries-end-2 : tie.Need-part-take-entries-end-2
-part-take-entries-end-2 c =
-    omega (
-      arith,
-      cut-kind
-          (c .before .before .before .before .before .before .before .before .before .before .before .before .before .before .before .before .before .before .before
-          .before .pre .0 .0) (c .before .before .before .before .before .before .before .before .before .widen .ensures)
-          (c .before .before .before .before .before .before .before .widen2 .ensures),
-    )
-
-add-take-entries-2 : tie.Need-add-take-entries-2
-add-take-entries-2 c =
-    omega (
-      arith,
-      cut-kind
-          (c .before .before .before .before .before .before .before .before .before .before .before .before .before .before .before .before .before .before .before
-          .before .before .pre .0 .0) (c .before .before .before .before .before .before .before .before .before .before .widen .ensures)
-          (c .before .before .before .before .before .before .before .before .widen2 .ensures),
-    )
-
-mul-take-entries-2 : tie.Need-mul-take-entries-2
-mul-take-entries-2 c =
-    omega (
-      arith,
-      cut-value
-          (c .before .before .before .before .before .before .before .before .before .before .before .before .before .before .before .before .before .before .before
-          .before .before .pre .0 .0) (c .before .before .before .before .before .before .before .before .before .before .widen .ensures)
-          (c .before .before .before .before .before .before .before .before .widen2 .ensures),
-    )
-
-part-take-entries-end-3 : tie.Need-part-take-entries-end-3
-part-take-entries-end-3 c =
-    omega (
-      arith,
-      cut-value
-          (c .before .before .before .before .before .before .before .before .before .before .before .before .before .before .before .before .before .before .before
-          .before .before .pre .0 .0) (c .before .before .before .before .before .before .before .before .before .before .widen .ensures)
-          (c .before .before .before .before .before .before .before .before .widen2 .ensures),
-    )
-
-take-entries-requires : tie.Need-take-entries-requires
-take-entries-requires c κs =
-    let z = c .before .before .before .before .before .before .before .before .before .before .before .before .before .before .before .before .before .before
-    .before .before .before .before .before .before .before in
-    let f = c .before .before .before .before .before .before .before .before .fill-sizes in (
-      turn-asks (z .pre .0 .0)
-          (c .before .before .before .before .before .before .before .before .before .before .before .before .before .before .widen .ensures)
-          (c .before .before .before .before .before .before .before .before .before .before .before .before .widen2 .ensures) _ (f .result) (f .ensures .0)
-          (f .ensures .1) _ _ (search needs) (z .pre .0 .1 .0) (z .pre .0 .1 .1),
-      turn-low (z .pre .0 .0)
-          (c .before .before .before .before .before .before .before .before .before .before .before .before .before .before .widen .ensures)
-          (c .before .before .before .before .before .before .before .before .before .before .before .before .widen2 .ensures) _ (f .result) (f .ensures .0)
-          (f .ensures .1) _ _ (z .pre .1 .0) (z .pre .1 .1 .1),
-    )
-
-returns : tie.Need-returns
-returns c =
-    let z = c .before .before .before .before .before .before .before .before .before .before .before .before .before .before .before .before .before .before
-    .before .before .before .before .before .before .before .before .before .before .before .before in
-    let f = c .before .before .before .before .before .before .before .before .before .before .before .before .before .fill-sizes in
-    λ w p e. turn-takes (z .pre .0 .0)
-    (c .before .before .before .before .before .before .before .before .before .before .before .before .before .before .before .before .before .before
-    .before .widen .ensures)
-    (c .before .before .before .before .before .before .before .before .before .before .before .before .before .before .before .before .before .widen2
-    .ensures) _ (f .result) (f .ensures .0) (f .ensures .1) _ p _ w (c .before .before .before .before .take-entries .ensures) e
+  cuts : (f + n ≤ length (s .args .kind .now)) × ((f + n ≤ length (s .args .value .now)) × ((n ≤ s .args .to) × (s .args .to ≤ length (s .args .order .now))))
+  cuts = (cut-kind (s .pre .0 .0) f-is n-is, (cut-value (s .pre .0 .0) f-is n-is, (cut-order (s .pre .0 .0) f-is n-is, cut-orders (s .pre .0 .0) f-is n-is)))
 
 pub take-table-spec : {M : Type 1} → statement M
-take-table-spec = tie.close (tie.spec (λ c. search needs) (λ c. search needs) (λ c κs. search needs) (λ c. search needs)
-    (λ c. search needs) (λ c κs. search needs) add-fill-sizes (λ c. search needs) (λ c. search needs)
-    part-fill-sizes-end add-fill-sizes-2 mul-fill-sizes (λ c. search needs) (λ c. search needs) part-fill-sizes-end-2
-    fill-sizes-requires sub-take-entries mul-take-entries (λ c. search needs) (λ c. search needs) part-take-entries-end
-    add-take-entries (λ c. search needs) (λ c. search needs) part-take-entries-end-2 add-take-entries-2
-    mul-take-entries-2 (λ c. search needs) (λ c. search needs) part-take-entries-end-3 take-entries-requires
-    (λ c. search needs) (λ c. search needs) (λ c. search needs) returns)
+take-table-spec = tie.close (tie.spec (λ c. search needs) (λ c. search needs) (λ c κs. search needs) (λ c. search needs) (λ c. search needs) (λ c κs. search
+    needs)
+    (λ c. omega (arith, cuts c)) (λ c. search needs) (λ c. search needs) (λ c. omega (arith, cuts c)) (λ c. omega (arith, cuts (c .before))) (λ c. omega
+    (arith, cuts (c .before))) (λ c. search needs) (λ c. search needs) (λ c. omega (arith, cuts (c .before)))
+    (λ c κs. let y = c .before .before .before in turn-fillable (s y .pre .0 .0) (f-is y) (n-is y))
+    (λ c. omega (arith, cuts (c .before .before .before .before .before .before))) (λ c. omega (
+      arith,
+      cuts (c .before .before .before .before .before
+          .before),
+    )) (λ c. search needs) (λ c. search needs) (λ c. omega (arith, cuts (c .before .before .before .before .before .before)))
+    (λ c. omega (arith, cuts (c .before .before .before .before .before .before .before))) (λ c. search needs) (λ c. search needs) (λ c. omega (
+      arith,
+      cuts (c
+          .before .before .before .before .before .before .before),
+    )) (λ c. omega (
+      arith,
+      cuts (c .before .before .before .before .before .before .before
+          .before),
+    ))
+    (λ c. omega (arith, cuts (c .before .before .before .before .before .before .before .before))) (λ c. search needs) (λ c. search needs) (λ c. omega (
+      arith,
+      cuts (c .before .before .before .before .before .before .before .before),
+    ))
+    (λ c κs.
+    let y = c .before .before .before .before .before .before .before .before .before .before .before .before in
+    let z = s y in
+    let g = c .before .before .before .before .before .before .before .before .fill-sizes in (
+      turn-asks (z .pre .0 .0) (f-is y) (n-is y) _ (g .result) (g .ensures .0) (g .ensures .1) _ _ (search needs) (z .pre .0 .1 .0) (z .pre .0 .1 .1),
+      turn-low (z .pre .0 .0) (f-is y) (n-is y) _ (g .result) (g .ensures .0) (g .ensures .1) _ _ (z .pre .1 .0) (z .pre .1 .1 .1),
+    ))
+    (λ c. search needs) (λ c. search needs) (λ c. search needs)
+    (λ c.
+    let y = c .before .before .before .before .before .before .before .before .before .before .before .before .before .before .before .before .before in
+    let g = c .before .before .before .before .before .before .before .before .before .before .before .before .before .fill-sizes in
+    λ w p e. turn-takes (s y .pre .0 .0) (f-is y) (n-is y) _ (g .result) (g .ensures .0) (g .ensures .1) _ p _ w (c .before .before .before .before
+    .take-entries .ensures) e))

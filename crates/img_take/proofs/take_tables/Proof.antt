@@ -34,8 +34,8 @@ take-table-requires c κs =
     let s = taken-split (v .1 .1 .1 .1) h (z .pre .0 .0) (z .pre .0 .1 .0) (z .pre .0 .1 .1) in
     ((turn-at (z .pre .0 .0) (v .1 .0) h (v .0), (v .1 .1 .0, v .1 .1 .1 .0)), (re-place (z .pre .0 .0) (sym (v .1 .0)), (s .0, s .1 .0)))
 
-shared-slice-read-widen : tie.Need-shared-slice-read-widen Inv-loop μ-loop
-shared-slice-read-widen c =
+shared-slice-read-u32-as-usize : tie.Need-shared-slice-read-u32-as-usize Inv-loop μ-loop
+shared-slice-read-u32-as-usize c =
     omega (
       arith,
       c .before .before .before .before .before .before .before .before .before .before .before .before .before .before .before .before .before
@@ -70,6 +70,6 @@ returns c = λ w p e. let q = taken-end (c .before .loop .inv .1 .1 .1 .1) (c .l
 
 pub take-tables-spec : {M : Type 1} → statement M
 take-tables-spec = tie.close (tie.spec Inv-loop μ-loop (λ c. search needs) (λ c. search needs) (λ c κs. search needs)
-    (λ c κs. search needs) loop-holds take-table-requires (λ c. search needs) shared-slice-read-widen
+    (λ c κs. search needs) loop-holds take-table-requires (λ c. search needs) shared-slice-read-u32-as-usize
     (λ c κs. search needs) sub-to (λ c. search needs) (λ c. search needs) loop-again (λ c. search needs)
     (λ c. search needs) (λ c. search needs) returns)
