@@ -6,6 +6,7 @@ use mathlib.Core.Option.{Option, some, none}
 use lib.Dec.{ltb}
 use lib.ListN.{length, take, drop}
 use Rattle.units.specs.Told.{Told, gives, refuses, pick}
+use Rattle.units.specs.Lent.{Part}
 use Rattle.units.specs.declared.Sector.{Sector}
 use Rattle.units.specs.declared.Region.{Region}
 use Rattle.units.specs.Region.{locateOf}
@@ -43,6 +44,10 @@ readAt w first t o = readFrom w first o (locateOf t (record { 0 = o }))
 -- the name of an entry: that part of the window, from byte 14 of the entry
 unfoldable pub nameOf : List ℕ → ℕ → ℕ → List ℕ
 nameOf w place n = take n (drop (place + 14) w)
+
+-- and where it stands; past the window's end it is empty, and stands at the window's start
+abbrev pub namePart : List ℕ → ℕ → ℕ → Part
+namePart w place n = record { start = pick (ltb (length w) (place + 14)) 0 (place + 14); bytes = nameOf w place n }
 
 -- what each answer stands for
 abbrev pub told : Read → Told (Option Placed)

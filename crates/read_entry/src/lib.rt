@@ -7,8 +7,8 @@ use units::Region;
 use units::Sector;
 ghost use mathlib.Core.Path.{_≡_};
 ghost use Prim.Native.Nat.{_<_, _^_};
-ghost use Rattle.units.specs.Lent.{was};
-ghost use Rattle.read_entry.specs.Entry.{told, readHere, readAt, nameOf};
+ghost use Rattle.units.specs.Lent.{was, IsPart};
+ghost use Rattle.read_entry.specs.Entry.{told, readHere, readAt, namePart};
 ghost use Rattle.read_entry.specs.inner.Part.{partOf};
 
 // What reading at an offset finds.
@@ -94,7 +94,7 @@ pub fn part_of(w: &[u8], first: Sector, table: Region) -> &[u8]
 // The name of an entry whose first byte stands at a place of the window, as that part of the window itself: what the
 // window has of n bytes from byte 14 of the entry on.
 pub fn name_part(w: &[u8], place: usize, n: u32) -> &[u8]
-    ensures { λ r. ⌜ now r ≡ nameOf (was w) place n ⌝ }
+    ensures { λ r. ⌜ IsPart r (w .entry) (namePart (was w) place n) ⌝ }
 {
     if w.len() < 14 {
         return &w[..0];
@@ -113,7 +113,7 @@ pub fn name_part(w: &[u8], place: usize, n: u32) -> &[u8]
 
 // The same for a length as a header has it.
 pub fn name_of(w: &[u8], place: usize, n: u8) -> &[u8]
-    ensures { λ r. ⌜ now r ≡ nameOf (was w) place n ⌝ }
+    ensures { λ r. ⌜ IsPart r (w .entry) (namePart (was w) place n) ⌝ }
 {
     name_part(w, place, widen_byte(n))
 }

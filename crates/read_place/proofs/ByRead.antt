@@ -6,6 +6,7 @@ use Rattle.units.specs.declared.Sector.{Sector}
 use Rattle.units.specs.declared.Offset.{Offset}
 use Rattle.units.specs.declared.Region.{Region}
 use Rattle.units.specs.declared.Link.{Link}
+use Rattle.units.proofs.Parts.{onward}
 use Rattle.layout_node.specs.declared.Header.{Header}
 use Rattle.read_entry.specs.declared.Read.{Read}
 use Rattle.read_entry.specs.Entry.{told, readAt}
@@ -21,6 +22,11 @@ module _ (w : List ℕ) (first : Sector) (t : Region) (o : Offset) (r : Read) (r
   pub by-side : (side : Header → Link) (a : Linked) → linked a ≡ linkOf side (told v) → linked a ≡ linkOf side (readAt w first t (o .0))
   by-side side a e = rw (← reading, is) e
 
-  pub by-name : (name : List ℕ) → name ≡ nameIn w (told v) → name ≡ nameAt w first t (o .0)
+  -- where the name stands, and its bytes
+  pub by-start : (p q : ℕ × ℕ) → q ≡ onward p (nameIn w (told v) .start) → q ≡ onward p (nameAt w first t (o .0) .start)
   unfolding nameAt
-  by-name name e = rw (← reading, is) e
+  by-start p q e = rw (← reading, is) e
+
+  pub by-bytes : (name : List ℕ) → name ≡ nameIn w (told v) .bytes → name ≡ nameAt w first t (o .0) .bytes
+  unfolding nameAt
+  by-bytes name e = rw (← reading, is) e

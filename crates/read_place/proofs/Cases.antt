@@ -5,6 +5,7 @@ use mathlib.Core.List.{List, [], _∷_, _++_}
 use mathlib.Core.Option.{Option, some, none}
 use lib.ListN.{replicate}
 use Rattle.units.specs.Told.{Told, gives, refuses}
+use Rattle.units.specs.Lent.{Part}
 use Rattle.units.specs.Region.{locateOf}
 use Rattle.units.specs.declared.Region.{Region}
 use Rattle.layout_bytes.specs.Bytes.{all}
@@ -31,7 +32,7 @@ left-of o = leftAt window (record { 0 = 33 }) (record { sector = record { 0 = 33
 abbrev right-of : ℕ → Told (Option ℕ)
 right-of o = rightAt window (record { 0 = 33 }) (record { sector = record { 0 = 33 }; size = 48 }) o
 
-abbrev name-of : ℕ → List ℕ
+abbrev name-of : ℕ → Part
 name-of o = nameAt window (record { 0 = 33 }) (record { sector = record { 0 = 33 }; size = 48 }) o
 
 -- a directory is gone into, a file is 27, no entry 22, an offset at the table's end 23
@@ -46,6 +47,9 @@ pub links :
 unfolding leftAt rightAt byLink isIn readAt locateOf readHere headerOf all isBlank
 links = (refl, refl, refl, refl, refl, refl)
 
-pub names : (name-of 0 ≡ 100 ∷ []) × (name-of 16 ≡ 102 ∷ []) × (name-of 32 ≡ []) × (name-of 48 ≡ [])
+-- a name stands 14 bytes into its entry; no entry, and an offset at the table's end, have the empty one at the window's start
+pub names :
+    (name-of 0 ≡ record { start = 14; bytes = 100 ∷ [] }) × (name-of 16 ≡ record { start = 30; bytes = 102 ∷ [] })
+    × (name-of 32 ≡ record { start = 0; bytes = [] }) × (name-of 48 ≡ record { start = 0; bytes = [] })
 unfolding nameAt nameOf readAt locateOf readHere headerOf all isBlank
 names = (refl, refl, refl, refl)

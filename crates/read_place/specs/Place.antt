@@ -4,12 +4,13 @@ use Prim.Native.Nat.{ℕ, _*_}
 use mathlib.Core.List.{List, [], _∷_}
 use mathlib.Core.Option.{Option, some, none}
 use Rattle.units.specs.Told.{Told, gives, refuses, pick}
+use Rattle.units.specs.Lent.{Part}
 use Rattle.units.specs.declared.Sector.{Sector}
 use Rattle.units.specs.declared.Region.{Region}
 use Rattle.units.specs.declared.Link.{Link}
 use Rattle.layout_node.specs.declared.Header.{Header}
 use Rattle.layout_node.specs.Header.{isDirectory}
-use Rattle.read_entry.specs.Entry.{Placed, readAt, nameOf}
+use Rattle.read_entry.specs.Entry.{Placed, readAt, namePart}
 use Rattle.read_entry.specs.Links.{isIn, walkAbsent}
 use Rattle.read_place.specs.declared.Entered.{Entered}
 use Rattle.read_place.specs.declared.Entered.the-variants as into
@@ -48,14 +49,14 @@ leftAt w first t o = linkOf (λ h. h .left) (readAt w first t o)
 unfoldable pub rightAt : List ℕ → Sector → Region → ℕ → Told (Option ℕ)
 rightAt w first t o = linkOf (λ h. h .right) (readAt w first t o)
 
--- the name of an entry that is read; empty where none is
-abbrev pub nameIn : List ℕ → Told (Option Placed) → List ℕ
-nameIn w (gives (some x)) = nameOf w (x .place) (x .header .«name_len»)
-nameIn w (gives none) = []
-nameIn w (refuses k vs) = []
+-- the name of an entry that is read, as a part of the window; where none is, the empty part at the window's start
+abbrev pub nameIn : List ℕ → Told (Option Placed) → Part
+nameIn w (gives (some x)) = namePart w (x .place) (x .header .«name_len»)
+nameIn w (gives none) = record { start = 0; bytes = [] }
+nameIn w (refuses k vs) = record { start = 0; bytes = [] }
 
 -- the name at an offset
-unfoldable pub nameAt : List ℕ → Sector → Region → ℕ → List ℕ
+unfoldable pub nameAt : List ℕ → Sector → Region → ℕ → Part
 nameAt w first t o = nameIn w (readAt w first t o)
 
 -- what each answer of the code stands for

@@ -7,7 +7,7 @@ use units::Offset;
 use units::Region;
 use units::Sector;
 ghost use mathlib.Core.Path.{_≡_};
-ghost use Rattle.units.specs.Lent.{was};
+ghost use Rattle.units.specs.Lent.{was, IsPart};
 ghost use Rattle.read_entry.specs.Links.{walkAbsent};
 ghost use Rattle.read_place.specs.Place.{entered, headerEntered, tableAt, linked, byLink, leftAt, rightAt};
 ghost use Rattle.read_place.specs.Place.{nameAt};
@@ -98,9 +98,10 @@ pub fn right_at(w: &[u8], first: Sector, table: Region, offset: Offset) -> Linke
     }
 }
 
-// The name of the entry at a place, as that part of the window itself; an empty part where there is none.
+// The name of the entry at a place, as that part of the window itself; where there is none, the empty
+// part at the window's start.
 pub fn name_at(w: &[u8], first: Sector, table: Region, offset: Offset) -> &[u8]
-    ensures { λ r. ⌜ now r ≡ nameAt (was w) first table (offset .0) ⌝ }
+    ensures { λ r. ⌜ IsPart r (w .entry) (nameAt (was w) first table (offset .0)) ⌝ }
 {
     match read_entry::read_at(w, first, table, offset) {
         Read::Entry(h, place) => read_entry::name_of(w, place, h.name_len),

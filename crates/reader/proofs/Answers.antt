@@ -18,6 +18,7 @@ use denote.Laws.{Is}
 use denote.Ref.{now}
 use denote.Signature.{Slot, plain, typeAt}
 use denote.Slice.{sliceTy, shr-slice-lawful}
+use Rattle.units.specs.Lent.{IsPart}
 use Rattle.units.specs.declared.Sector.{Sector}
 use Rattle.units.specs.declared.Region.{Region}
 use Rattle.read_entry.specs.Entry as reading
@@ -68,7 +69,7 @@ entry = record {
 abbrev pub name : Answer
 name = record {
   type = bytes 1 0 tt;
-  Says = λ d κs r. now r ≡ place.nameAt (now (d .window)) (d .first) (d .table) (d .at .0);
+  Says = λ d κs r. IsPart r (d .window) (place.nameAt (now (d .window)) (d .first) (d .table) (d .at .0));
   mir = sliceTy (tyRef (named 0) imm (tyInt w8));
   typed = λ 𝓤 H A W κs r u is. shr-slice-lawful 𝓤 H A W (named 0) (κs .0) u8 .typed r _ is .0;
 }

@@ -36,7 +36,7 @@ pub use units::Offset;
 pub use units::Region;
 pub use units::Sector;
 ghost use mathlib.Core.Path.{_≡_};
-ghost use Rattle.units.specs.Lent.{was};
+ghost use Rattle.units.specs.Lent.{was, IsPart};
 ghost use Rattle.read_entry.specs.Entry as reading;
 ghost use Rattle.read_lookup.specs.Lookup as lookup;
 ghost use Rattle.read_path.specs.Path as following;
@@ -112,10 +112,11 @@ impl<'a> Reader<'a> {
         xdvdfs::read_entry(self.window, self.first, self.table, self.at)
     }
 
-    // The name of the entry at the position, as that part of the window itself; an empty part where there is no entry.
+    // The name of the entry at the position, as that part of the window itself; where there is no
+    // entry, the empty part at the window's start.
     pub fn name(self) -> &'a [u8]
         ensures { λ r. let s = self .entry in
-            ⌜ now r ≡ place.nameAt (now (s .window)) (s .first) (s .table) (s .at .0) ⌝ }
+            ⌜ IsPart r (s .window) (place.nameAt (now (s .window)) (s .first) (s .table) (s .at .0)) ⌝ }
     {
         read_place::name_at(self.window, self.first, self.table, self.at)
     }

@@ -13,7 +13,7 @@ use units::Offset;
 use units::Region;
 use units::Sector;
 ghost use mathlib.Core.Path.{_≡_};
-ghost use Rattle.units.specs.Lent.{was};
+ghost use Rattle.units.specs.Lent.{was, IsPart};
 ghost use Rattle.read_entry.specs.Entry as reading;
 ghost use Rattle.read_lookup.specs.Lookup as lookup;
 ghost use Rattle.read_path.specs.Path as following;
@@ -44,7 +44,7 @@ fn entry_at(w: &[u8], first: Sector, table: Region, at: Offset) -> Read
 }
 
 fn name_at(w: &[u8], first: Sector, table: Region, at: Offset) -> &[u8]
-    ensures { λ r. ⌜ now r ≡ place.nameAt (was w) first table (at .0) ⌝ }
+    ensures { λ r. ⌜ IsPart r (w .entry) (place.nameAt (was w) first table (at .0)) ⌝ }
 {
     Reader::new(w, first, table).placed(at).name()
 }

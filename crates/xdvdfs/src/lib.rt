@@ -35,7 +35,7 @@ pub use units::Region;
 pub use units::Sector;
 ghost use mathlib.Core.Path.{_≡_};
 ghost use lib.ListN.{length};
-ghost use Rattle.units.specs.Lent.{was, is};
+ghost use Rattle.units.specs.Lent.{was, is, IsPart};
 ghost use Rattle.dirtab.specs.Serialise as serialising;
 ghost use Rattle.dirtab_add.specs.Add as adding;
 ghost use Rattle.dirtab_arena.specs.Arena.{arenaIn, lentColumns};
@@ -74,7 +74,7 @@ pub fn read_entry(w: &[u8], first: Sector, table: Region, offset: Offset) -> Rea
 
 // The name of an entry whose first byte stands at a place of the window: that part of the window itself.
 pub fn entry_name(w: &[u8], place: usize, n: u8) -> &[u8]
-    ensures name { λ r. ⌜ now r ≡ entry.nameOf (was w) place n ⌝ }
+    ensures name { λ r. ⌜ IsPart r (w .entry) (entry.namePart (was w) place n) ⌝ }
 {
     read_entry::name_of(w, place, n)
 }

@@ -11,7 +11,7 @@ use Rattle.capi_cells.proofs.store_name.Tie as tie
 returns : tie.Need-returns
 returns c =
     let a = c .before .before .before .args in
-    (c .before .name-start .ensures, (ap (λ (r : List ℕ). length r) (c .name-part .ensures), name-is (a .w .now) (a .place) (a .n) _ _ (c .name-part .ensures) (c .before .name-start .ensures)))
+    (c .before .name-start .ensures, (ap (λ (r : List ℕ). length r) (c .name-part .ensures .1), name-is (a .w .now) (a .place) (a .n) _ _ (c .name-part .ensures .1) (c .before .name-start .ensures)))
 
 pub store-name-spec : {M : Type 1} → statement M
 store-name-spec = tie.close (tie.spec (λ c κs. search needs) (λ c κs. search needs) returns)

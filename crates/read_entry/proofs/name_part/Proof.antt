@@ -1,4 +1,4 @@
--- `read_entry::name_part` meets its contract: past the window's end `take` and `drop` leave less, and so does the code. Assumes nothing.
+-- `read_entry::name_part` meets its contract: past the window's end `take` and `drop` leave less, and so does the code; and it points where it says. Assumes nothing.
 use Prim.Native.Nat.{ℕ, _+_, _-_, _≤_, _<_}
 use mathlib.Core.Path.{_≡_, sym, _∙_}
 use mathlib.Core.List.{List, []}
@@ -7,35 +7,34 @@ use native.Mathlib.Omega.{arith}
 use lib.ListN.{length, take, drop, length-drop, drop-of-length-le}
 use lib.Seq.{take-all, take-nil}
 use borrow.Author.Needs.{needs}
-use Rattle.read_entry.specs.Entry.{nameOf}
+use borrow.Author.Tests.{lt-ltb, le-ltb}
+use Rattle.units.proofs.Parts.{onward, at-start}
+use Rattle.read_entry.specs.Entry.{nameOf, namePart}
 use Rattle.read_entry.proofs.name_part.Statement.{statement}
 use Rattle.read_entry.proofs.name_part.Tie as tie
 
-module _ (w : List ℕ) (at n : ℕ) where
+module _ (p : ℕ × ℕ) (w : List ℕ) (at n : ℕ) where
+  -- it starts before the end
+  inside : at + 14 ≤ length w → onward p (at + 14) ≡ onward p (namePart w at n .start)
+  inside h = sym (rw (le-ltb _ _ h))
+
   -- it starts past the end
-  past : length w ≤ at + 14 → [] ≡ nameOf w at n
+  past : length w < at + 14 → (p ≡ onward p (namePart w at n .start)) × ([] ≡ nameOf w at n)
   unfolding nameOf
-  past h = sym (rw (drop-of-length-le w h, take-nil n))
+  past h = (at-start p ∙ sym (rw (lt-ltb _ _ h)), sym (rw (drop-of-length-le w {i = at + 14} (omega arith), take-nil n)))
 
   -- it runs past the end
-  cut : length w - (at + 14) < n → take (length w - (at + 14)) (drop (at + 14) w) ≡ nameOf w at n
+  cut : at + 14 ≤ length w → length w - (at + 14) < n →
+      (onward p (at + 14) ≡ onward p (namePart w at n .start)) × (take (length w - (at + 14)) (drop (at + 14) w) ≡ nameOf w at n)
   unfolding nameOf
-  cut h =
-      take-all (length w - (at + 14)) (drop (at + 14) w) (simp length-drop (omega arith))
-      ∙ sym (take-all n (drop (at + 14) w) (simp length-drop (omega arith)))
+  cut i h = (inside i, take-all (length w - (at + 14)) (drop (at + 14) w) (simp length-drop (omega arith)) ∙ sym (take-all n (drop (at + 14) w) (simp length-drop (omega arith))))
 
-  whole : take (at + 14 + n - (at + 14)) (drop (at + 14) w) ≡ nameOf w at n
+  whole : at + 14 ≤ length w → (onward p (at + 14) ≡ onward p (namePart w at n .start)) × (take (at + 14 + n - (at + 14)) (drop (at + 14) w) ≡ nameOf w at n)
   unfolding nameOf
-  whole = rw (add-sub-cancel-left (at + 14) n)
-
-returns : tie.Need-returns
-returns c = past _ _ _ (omega arith)
-
-returns-2 : tie.Need-returns-2
-returns-2 c = past _ _ _ (omega arith)
+  whole i = (inside i, rw (add-sub-cancel-left (at + 14) n))
 
 pub name-part-spec : {M : Type 1} → statement M
-name-part-spec = tie.close (tie.spec (λ c. search needs) returns (λ c. search needs) (λ c. search needs) returns-2
+name-part-spec = tie.close (tie.spec (λ c. search needs) (λ c. past _ _ _ _ (omega arith)) (λ c. search needs) (λ c. search needs) (λ c. past _ _ _ _ (omega arith))
     (λ c. search needs) (λ c. search needs) (λ c. search needs) (λ c. search needs)
-    (λ c. search needs) (λ c. search cut) (λ c. search needs) (λ c. search needs) (λ c. search needs) (λ c. search needs)
-    (λ c. search whole))
+    (λ c. search needs) (λ c. cut _ _ _ _ (omega arith) (omega arith)) (λ c. search needs) (λ c. search needs) (λ c. search needs) (λ c. search needs)
+    (λ c. whole _ _ _ _ (omega arith)))
