@@ -19,30 +19,25 @@ ghost use Rattle.avl_model.specs.inner.Seek.{Sought};
 ghost use Rattle.avl_model.specs.inner.Insert.{Placed};
 use avl_model::Place;
 use avl_model::Spot;
-use avl_turn::index;
 use avl_turn::put;
 use avl_turn::settle;
 use layout_name::Order;
 use layout_name::compare_raised;
 use layout_name::raise_name;
+use widths::u16_as_usize;
+use widths::u32_as_usize;
 
 // The number that stands for no node.
 pub const NONE: u16 = 65535;
-
-fn wide(x: u32) -> usize
-    ensures { λ r. ⌜ (r ≡ x) × (r < 4294967296) ⌝ }
-{
-    x as usize
-}
 
 // The name of a node.
 pub fn name_of<'a>(names: &'a [u8], start: &[u32], len: &[u32], at: u16) -> &'a [u8]
     requires { ⌜ Inside (namesIn (now names) (now start) (now len)) at ⌝ }
     ensures { λ r. ⌜ now r ≡ nameAt (namesIn (was names) (was start) (was len)) at ⌝ }
 {
-    let i = index(at);
-    let from = wide(start[i]);
-    let to = from + wide(len[i]);
+    let i = u16_as_usize(at);
+    let from = u32_as_usize(start[i]);
+    let to = from + u32_as_usize(len[i]);
     &names[from..to]
 }
 
@@ -66,7 +61,7 @@ fn descend(
     let mut place = Place::Root;
     while at < NONE {
         let other = name_of(names, start, len, at);
-        let i = index(at);
+        let i = u16_as_usize(at);
         match compare_raised(copy, name, other) {
             Order::Equal => return Spot::Same(at),
             Order::Less => {
@@ -127,7 +122,7 @@ fn attach(
     ensures { λ _. let s = lentLists root left right parent height in ⌜ s .exit ≡ attached (s .entry) place new ⌝ }
 {
     put(root, left, right, place, new);
-    let i = index(new);
+    let i = u16_as_usize(new);
     left[i] = NONE;
     right[i] = NONE;
     parent[i] = above(place);
@@ -151,10 +146,10 @@ fn rebalance(
 {
     let mut at = from;
     while at < NONE {
-        let i = index(at);
+        let i = u16_as_usize(at);
         let old = height[i];
         let t = settle(root, left, right, parent, height, at);
-        let j = index(t);
+        let j = u16_as_usize(t);
         if height[j] == old {
             return;
         }
@@ -178,7 +173,7 @@ fn rise(
         ⌜ ((w : Ready (s .entry) new) → Whole (s .exit) (length (was left))
         (climb (w .k) (bal (w .l) new (w .r)))) ⌝ }
 {
-    let i = index(new);
+    let i = u16_as_usize(new);
     height[i] = 1;
     let p = parent[i];
     if p == NONE {

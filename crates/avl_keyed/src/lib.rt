@@ -14,23 +14,18 @@ use avl_insert::NONE;
 use avl_insert::name_of;
 use avl_model::Place;
 use avl_model::Spot;
-use avl_turn::index;
 use layout_name::Order;
 use layout_name::compare;
 use layout_name::raise;
-
-fn wide(x: u8) -> u32
-    ensures { λ r. ⌜ (r ≡ x) × (r < 256) ⌝ }
-{
-    x as u32
-}
+use widths::u16_as_usize;
+use widths::u8_as_u32;
 
 // The byte of a name at a place, raised; 0 past its end.
 fn raised_at(name: &[u8], i: usize) -> u32
     ensures { λ r. ⌜ (r ≡ getD (raisedCopy (was name)) i 0) × (r < 256) ⌝ }
 {
     if i < name.len() {
-        wide(raise(name[i]))
+        u8_as_u32(raise(name[i]))
     } else {
         0
     }
@@ -110,7 +105,7 @@ pub fn seek(
     let mut above = NONE;
     let mut less = false;
     while at < NONE {
-        let i = index(at);
+        let i = u16_as_usize(at);
         let q = key[i];
         let l = left[i];
         let r = right[i];

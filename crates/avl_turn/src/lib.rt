@@ -12,19 +12,13 @@ ghost use Rattle.avl_model.specs.inner.Lists.{risen, tiltOf, placeOf, putRoot, 
 ghost use Rattle.avl_model.specs.inner.Lists.{lRotated, rlRotated, risen3, Three};
 use avl_model::Direction;
 use avl_model::Place;
-
-// The index of a node in the columns; of none, a number that is no index.
-pub fn index(x: u16) -> usize
-    ensures { λ r. ⌜ (r ≡ x) × (r < 65536) ⌝ }
-{
-    x as usize
-}
+use widths::u16_as_usize;
 
 // The height that is held for a node, and 0 for none.
 fn height_of(height: &[u8], at: u16) -> u8
     ensures { λ r. ⌜ r ≡ getD (was height) at 0 ⌝ }
 {
-    let i = index(at);
+    let i = u16_as_usize(at);
     if i < height.len() { height[i] } else { 0 }
 }
 
@@ -40,7 +34,7 @@ fn update_height(left: &[u16], right: &[u16], height: &mut [u8], at: u16)
     requires { ⌜ ((j : ℕ) → getD (now height) j 0 < 140) ⌝ }
     ensures { λ _. ⌜ is height ≡ risen (was left) (was right) (was height) at ⌝ }
 {
-    let i = index(at);
+    let i = u16_as_usize(at);
     let l = height_of(height, left[i]);
     let r = height_of(height, right[i]);
     let m = taller(l, r);
@@ -80,9 +74,9 @@ fn set_child(side: &mut [u16], parent: &mut [u16], node: u16, to: u16)
     ensures { λ _. ⌜ is side ≡ set (was side) node to ⌝ }
     ensures { λ _. ⌜ is parent ≡ set (was parent) to node ⌝ }
 {
-    let i = index(node);
+    let i = u16_as_usize(node);
     side[i] = to;
-    let j = index(to);
+    let j = u16_as_usize(to);
     if j < parent.len() {
         parent[j] = node;
     }
@@ -93,9 +87,9 @@ fn place_of(left: &[u16], parent: &[u16], at: u16) -> Place
     requires { ⌜ at < length (now parent) ⌝ }
     ensures { λ r. ⌜ r ≡ placeOf (was left) (was parent) at ⌝ }
 {
-    let i = index(at);
+    let i = u16_as_usize(at);
     let p = parent[i];
-    let j = index(p);
+    let j = u16_as_usize(p);
     if j < left.len() {
         if left[j] == at {
             Place::Left(p)
@@ -118,13 +112,13 @@ pub fn put(root: &mut u16, left: &mut [u16], right: &mut [u16], place: Place, to
             *root = to;
         }
         Place::Left(p) => {
-            let i = index(p);
+            let i = u16_as_usize(p);
             if i < left.len() {
                 left[i] = to;
             }
         }
         Place::Right(p) => {
-            let i = index(p);
+            let i = u16_as_usize(p);
             if i < right.len() {
                 right[i] = to;
             }
@@ -142,9 +136,9 @@ fn hang(root: &mut u16, left: &mut [u16], right: &mut [u16], parent: &mut [u16],
 {
     let place = place_of(left, parent, a);
     put(root, left, right, place, b);
-    let i = index(a);
+    let i = u16_as_usize(a);
     let a_parent = parent[i];
-    let j = index(b);
+    let j = u16_as_usize(b);
     parent[j] = a_parent;
 }
 
@@ -165,7 +159,7 @@ fn l_rotate(
     ensures { λ _. let s = lentLists root left right parent height in ⌜ s .exit ≡ lRotated (s .entry) a b c ⌝ }
 {
     hang(root, left, right, parent, a, b);
-    let i = index(b);
+    let i = u16_as_usize(b);
     let b_left = left[i];
     set_child(right, parent, a, b_left);
     set_child(left, parent, b, a);
@@ -189,7 +183,7 @@ fn rl_rotate(
     ensures { λ _. let s = lentLists root left right parent height in ⌜ s .exit ≡ rlRotated (s .entry) a b c ⌝ }
 {
     hang(root, left, right, parent, a, c);
-    let i = index(c);
+    let i = u16_as_usize(c);
     let c_left = left[i];
     set_child(right, parent, a, c_left);
     let c_right = right[i];
@@ -216,7 +210,7 @@ fn turn(
         ⌜ ((w : Heavy (s .entry) a b) →
         Up (s .exit) (length (was near)) t (turnLeft (w .x) a (node (w .y) b (w .z))) (w .k) (w .hh)) ⌝ }
 {
-    let i = index(b);
+    let i = u16_as_usize(b);
     let y = near[i];
     let z = far[i];
     if height_of(height, z) < height_of(height, y) {
@@ -243,7 +237,7 @@ pub fn settle(
         ⌜ ((w : Ready (s .entry) at) → Up (s .exit) (length (was left)) t (bal (w .l) at (w .r)) (w .k) (w .hh)) ⌝ }
 {
     update_height(left, right, height, at);
-    let i = index(at);
+    let i = u16_as_usize(at);
     let l = left[i];
     let r = right[i];
     let lean = tilt(height_of(height, l), height_of(height, r));

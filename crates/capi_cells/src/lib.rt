@@ -14,6 +14,8 @@ use xdvdfs::Read;
 use xdvdfs::Serialised;
 use xdvdfs::Taken;
 use xdvdfs::Walked;
+use widths::u16_as_u32;
+use widths::u8_as_u32;
 ghost use mathlib.Core.Path.{_≡_};
 ghost use Prim.Native.Nat.{min, _+_};
 ghost use lib.ListN.{length, take, drop};
@@ -36,18 +38,6 @@ ghost use Rattle.capi_cells.specs.Parts.{fieldsOf, placedFields, placedA
 ghost use Rattle.capi_cells.specs.Parts.{foundOffset, foundHeaders, rootSector, rootSize, itself, grownRoot};
 ghost use Rattle.capi_cells.specs.Parts.{grownCount, tableSize, nextFree, runStart, runFree};
 
-fn widen_byte(x: u8) -> u32
-    ensures { λ r. ⌜ r ≡ x ⌝ }
-{
-    x as u32
-}
-
-fn widen_link(x: u16) -> u32
-    ensures { λ r. ⌜ r ≡ x ⌝ }
-{
-    x as u32
-}
-
 // The six numbers of a header.
 pub fn store_fields(h: Header, fields: &mut [u32; 6])
     ensures { λ _. ⌜ is fields ≡ fieldsOf h ⌝ }
@@ -56,12 +46,12 @@ pub fn store_fields(h: Header, fields: &mut [u32; 6])
     let right = h.right;
     let sector = h.sector;
     *fields = [
-        widen_link(left.number()),
-        widen_link(right.number()),
+        u16_as_u32(left.number()),
+        u16_as_u32(right.number()),
         sector.number(),
         h.size,
-        widen_byte(h.attributes),
-        widen_byte(h.name_len),
+        u8_as_u32(h.attributes),
+        u8_as_u32(h.name_len),
     ];
 }
 

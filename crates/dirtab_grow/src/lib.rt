@@ -28,13 +28,14 @@ use avl_keyed::key_of;
 use avl_keyed::seek;
 use avl_model::Place;
 use avl_model::Spot;
-use avl_turn::index;
 use dirtab_entry::Entry;
 use dirtab_entry::EntryChecked;
 use dirtab_entry::check_entry;
 use dirtab_entry::kind_of;
 use layout_name::Order;
 use layout_name::compare;
+use widths::u16_as_usize;
+use widths::u32_as_usize;
 
 // Why an entry is refused.
 pub enum Cause {
@@ -73,7 +74,7 @@ fn check_at(names: &[u8], start: &[u32], len: &[u32], size: &[u32], kind: &[u8],
     ensures { λ r. let list = listed 0 start len size kind names in
         ⌜ ((x : Told Tree) → goOn r i x ≡ ifTaken i (checkOf (was names) (givenIn list i)) x) ⌝ }
 {
-    let at = index(i);
+    let at = u16_as_usize(i);
     let entry = Entry {
         start: start[at],
         len: len[at],
@@ -188,7 +189,7 @@ pub fn hang_entry(
     match choose_seat(left, right, key, names, start, len, *root, new, after) {
         Seat::Refused(cause) => Step::Refused(cause),
         Seat::At(place, k) => {
-            let i = index(new);
+            let i = u16_as_usize(new);
             key[i] = k;
             put_in(root, left, right, parent, height, place, new);
             Step::Taken
@@ -229,7 +230,7 @@ fn add_entry(
     match check_at(names, start, len, size, kind, i) {
         Step::Refused(cause) => Step::Refused(cause),
         Step::Taken => {
-            let end = index(i) + 1;
+            let end = u16_as_usize(i) + 1;
             hang_entry(
                 root,
                 &mut left[..end],
@@ -247,20 +248,14 @@ fn add_entry(
     }
 }
 
-fn wide(x: u32) -> usize
-    ensures { λ r. ⌜ (r ≡ x) × (r < 4294967296) ⌝ }
-{
-    x as usize
-}
-
 // The name of an entry stands inside the bytes lent for names.
 fn has_name(names: &[u8], start: &[u32], len: &[u32], at: u16) -> bool
     requires { ⌜ (at < length (now start)) × (at < length (now len)) ⌝ }
     ensures { λ r. ⌜ (r ≡ true → Inside (namesIn (was names) (was start) (was len)) at) ⌝ }
 {
-    let i = index(at);
-    let from = wide(start[i]);
-    let n = wide(len[i]);
+    let i = u16_as_usize(at);
+    let from = u32_as_usize(start[i]);
+    let n = u32_as_usize(len[i]);
     from + n <= names.len()
 }
 

@@ -6,6 +6,7 @@ use layout_sector::SectorCounter;
 use layout_sector::Taken;
 use units::Offset;
 use units::Sector;
+use widths::u16_as_usize;
 ghost use mathlib.Core.Path.{_≡_};
 ghost use Prim.Native.Nat.{_/_, _≤_, _<_};
 ghost use lib.ListN.{length};
@@ -29,12 +30,6 @@ pub enum Counted {
     Free(Sector),
     // 8: the next free sector would exceed 4,294,967,295.
     SectorOverflow,
-}
-
-fn widen(x: u16) -> usize
-    ensures { λ r. ⌜ (r ≡ x) × (r < 65536) ⌝ }
-{
-    x as usize
 }
 
 // The length of an entry whose name has so many bytes.
@@ -73,7 +68,7 @@ pub fn place_entries(order: &[u16], len: &[u32], place: &mut [u16]) -> Ends
     let mut e: u32 = 0;
     let mut k: usize = 0;
     while k < order.len() {
-        let i = widen(order[k]);
+        let i = u16_as_usize(order[k]);
         let n = length_for(len[i]);
         let o = start_after(e, n);
         if 65535 < o / 4 {
@@ -102,7 +97,7 @@ pub fn count_sectors(order: &[u16], size: &[u32], kind: &[u8], first: Sector) ->
     let mut counter = SectorCounter::starting_at(first);
     let mut k: usize = 0;
     while k < order.len() {
-        let bytes = stored_at(size, kind, widen(order[k]));
+        let bytes = stored_at(size, kind, u16_as_usize(order[k]));
         match counter.take(bytes as u64) {
             Taken::Start(_, next) => {
                 counter = next;

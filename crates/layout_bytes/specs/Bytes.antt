@@ -21,10 +21,6 @@ le16 x = x % 256 ∷ x / 256 % 256 ∷ []
 abbrev pub le32 : ℕ → List ℕ
 le32 x = x % 256 ∷ x / 256 % 256 ∷ x / 65536 % 256 ∷ x / 16777216 % 256 ∷ []
 
--- both of two tests
-abbrev pub both : Bool → Bool → Bool
-both a b = a && b
-
 -- every byte is b
 unfoldable pub all : ℕ → List ℕ → Bool
 all b [] = true

@@ -1,5 +1,7 @@
 // Little-endian numbers read from bytes and written to them, and runs of bytes written: the only stores of the
 // library into bytes.
+use widths::u16_as_u32;
+use widths::u8_as_u16;
 ghost use mathlib.Core.Path.{_≡_};
 ghost use mathlib.Core.List.{[], _∷_, _++_};
 ghost use Prim.Native.Nat.{_+_, _≤_, _<_};
@@ -8,24 +10,12 @@ ghost use Rattle.units.specs.Lent.{was, is};
 ghost use Rattle.layout_bytes.specs.Bytes.{u16At, u32At, le16, le32, all};
 ghost use Rattle.layout_bytes.specs.inner.Bytes.{putAt};
 
-fn wide16(x: u8) -> u16
-    ensures { λ r. ⌜ (r ≡ x) × (r < 256) ⌝ }
-{
-    x as u16
-}
-
-fn wide32(x: u16) -> u32
-    ensures { λ r. ⌜ (r ≡ x) × (r < 65536) ⌝ }
-{
-    x as u32
-}
-
 // The number of two bytes at a place.
 pub fn u16_at(s: &[u8], at: usize) -> u16
     requires { ⌜ at + 2 ≤ length (now s) ⌝ }
     ensures { λ r. ⌜ r ≡ u16At (was s) at ⌝ }
 {
-    wide16(s[at]) + 256 * wide16(s[at + 1])
+    u8_as_u16(s[at]) + 256 * u8_as_u16(s[at + 1])
 }
 
 // The number of four bytes at a place.
@@ -33,7 +23,7 @@ pub fn u32_at(s: &[u8], at: usize) -> u32
     requires { ⌜ at + 4 ≤ length (now s) ⌝ }
     ensures { λ r. ⌜ r ≡ u32At (was s) at ⌝ }
 {
-    wide32(u16_at(s, at)) + 65536 * wide32(u16_at(s, at + 2))
+    u16_as_u32(u16_at(s, at)) + 65536 * u16_as_u32(u16_at(s, at + 2))
 }
 
 // Every byte is b.

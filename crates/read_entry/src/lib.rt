@@ -5,6 +5,8 @@ use units::Located;
 use units::Offset;
 use units::Region;
 use units::Sector;
+use widths::u8_as_u32;
+use widths::u8_as_usize;
 ghost use mathlib.Core.Path.{_≡_};
 ghost use Prim.Native.Nat.{_<_, _^_};
 ghost use Rattle.units.specs.Lent.{was, IsPart};
@@ -23,18 +25,6 @@ pub enum Read {
     Truncated(Offset),
 }
 
-fn wide(x: u8) -> usize
-    ensures { λ r. ⌜ (r ≡ x) × (r < 256) ⌝ }
-{
-    x as usize
-}
-
-fn widen_byte(x: u8) -> u32
-    ensures { λ r. ⌜ r ≡ x ⌝ }
-{
-    x as u32
-}
-
 // The entry at place p of the window, which is the table's offset.
 fn read_here(w: &[u8], p: usize, offset: Offset) -> Read
     requires { ⌜ p < 2 ^ 45 ⌝ }
@@ -49,7 +39,7 @@ fn read_here(w: &[u8], p: usize, offset: Offset) -> Read
         return Read::Nothing;
     }
     let found = layout_node::header_of(h);
-    let n = wide(found.name_len);
+    let n = u8_as_usize(found.name_len);
     if w.len() < p + 14 + n {
         return Read::Truncated(offset);
     }
@@ -115,5 +105,5 @@ pub fn name_part(w: &[u8], place: usize, n: u32) -> &[u8]
 pub fn name_of(w: &[u8], place: usize, n: u8) -> &[u8]
     ensures { λ r. ⌜ IsPart r (w .entry) (namePart (was w) place n) ⌝ }
 {
-    name_part(w, place, widen_byte(n))
+    name_part(w, place, u8_as_u32(n))
 }

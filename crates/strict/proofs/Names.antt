@@ -1,21 +1,21 @@
 -- Names and their order, as the code has them. Assumes nothing.
 use Prim.Native.Nat.{ℕ, _*_, _/_, _%_}
-use mathlib.Core.Path.{_≡_, sym, ap, _∙_}
+use mathlib.Core.Path.{_≡_, refl, sym, ap, _∙_}
 use mathlib.Core.Bool.{Bool, true, false}
-use mathlib.Core.List.{List, []}
-use mathlib.Core.Option.{Option}
+use mathlib.Core.List.{List}
+use mathlib.Core.Option.{Option, some, none}
 use borrow.Author.Tests.{eq-eqb, ne-eqb}
-use Rattle.units.specs.Told.{Told}
+use Rattle.units.specs.Told.{Told, gives, refuses}
 use Rattle.units.specs.declared.Link.{Link}
 use Rattle.units.specs.declared.Offset.{Offset}
+use Rattle.units.specs.declared.Region.{Region}
+use Rattle.units.specs.declared.Sector.{Sector}
 use Rattle.layout_name.specs.declared.Order.{Order}
 use Rattle.layout_name.specs.declared.Order.the-variants.{Less, Equal, Greater}
 use Rattle.layout_name.specs.Order.{nameOrder}
-use Rattle.layout_node.specs.declared.Header.{Header}
-use Rattle.read_entry.specs.declared.Read.{Read}
-use Rattle.read_entry.specs.declared.Read.the-variants as read
-use Rattle.read_entry.specs.Entry.{Placed, nameOf}
-use Rattle.read_entry.specs.Entry as entry-said
+use Rattle.read_entry.specs.Entry.{Placed, readAt}
+use Rattle.read_place.specs.Place.{nameIn}
+use Rattle.read_place.specs.Place as place
 use Rattle.strict_rule.specs.Strict.{nameBy, isLess, lessThan, moreThan, nameAt, ordered}
 use Rattle.strict.specs.inner.Run.{boundOf, visitOf}
 
@@ -30,34 +30,31 @@ module _ (o r : Order) (is : r ≡ o) where
   pub greater : r ≡ Greater → false ≡ isLess o
   greater e = ap isLess (sym e ∙ is)
 
--- the name of what is read, r, where x is the definition's
-module _ (w : List ℕ) (x : Told (Option Placed)) (r : Read) (is : entry-said.told r ≡ x) where
-  pub named : (h : Header) (at : ℕ) → r ≡ read.Entry h at → (n : List ℕ) → n ≡ nameOf w at (h .«name_len») → n ≡ nameBy w x
-  named h at e n d = d ∙ ap (nameBy w) (ap entry-said.told (sym e) ∙ is)
-
-  pub nothing-named : r ≡ read.Nothing → [] ≡ nameBy w x
-  nothing-named e = ap (nameBy w) (ap entry-said.told (sym e) ∙ is)
-
-  pub outside-named : (q : Offset) → r ≡ read.OutOfBounds q → [] ≡ nameBy w x
-  outside-named q e = ap (nameBy w) (ap entry-said.told (sym e) ∙ is)
-
-  pub truncated-named : (q : Offset) → r ≡ read.Truncated q → [] ≡ nameBy w x
-  truncated-named q e = ap (nameBy w) (ap entry-said.told (sym e) ∙ is)
+-- the name of what is read at an offset is the one that stands there
+name-said : (w : List ℕ) (x : Told (Option Placed)) → nameIn w x .bytes ≡ nameBy w x
+name-said w (gives (some x)) = refl
+name-said w (gives none) = refl
+name-said w (refuses k vs) = refl
 
 -- a name against that of the entry at a link, n its number
-module _ (w : List ℕ) (f : ℕ → Told (Option Placed)) (name : List ℕ) (l : Link) (n : ℕ) (is-n : n ≡ l .0) where
+module _ (w : List ℕ) (first : Sector) (t : Region) (name : List ℕ) (l : Link) (n : ℕ) (is-n : n ≡ l .0) where
+  abbrev f : ℕ → Told (Option Placed)
+  f = readAt w first t
+
   pub no-under : n ≡ 65535 → true ≡ lessThan name (nameAt w f (boundOf (l .0)))
   no-under e = rw (← is-n, eq-eqb _ _ e)
 
   pub no-over : n ≡ 65535 → true ≡ moreThan name (nameAt w f (boundOf (l .0)))
   no-over e = rw (← is-n, eq-eqb _ _ e)
 
-  module _ (some-link : n ≡ 65535 → ⊥) (o : Offset) (is-o : o .0 ≡ 4 * l .0) (other : List ℕ) (is-other : other ≡ nameBy w (f (o .0))) (r : Bool) where
+  module _ (some-link : n ≡ 65535 → ⊥) (o : Offset) (is-o : o .0 ≡ 4 * l .0) (other : List ℕ) (is-other : other ≡ place.nameAt w first t (o .0) .bytes) (r : Bool) where
     pub under-is : r ≡ isLess (nameOrder name other) → r ≡ lessThan name (nameAt w f (boundOf (l .0)))
-    under-is e = e ∙ rw (is-other, is-o, ← is-n, ne-eqb _ _ some-link)
+    unfolding place.nameAt
+    under-is e = e ∙ rw (is-other, name-said, is-o, ← is-n, ne-eqb _ _ some-link)
 
     pub over-is : r ≡ isLess (nameOrder other name) → r ≡ moreThan name (nameAt w f (boundOf (l .0)))
-    over-is e = e ∙ rw (is-other, is-o, ← is-n, ne-eqb _ _ some-link)
+    unfolding place.nameAt
+    over-is e = e ∙ rw (is-other, name-said, is-o, ← is-n, ne-eqb _ _ some-link)
 
 -- both bounds of a visit
 module _ (w : List ℕ) (f : ℕ → Told (Option Placed)) (c : ℕ) (name : List ℕ)

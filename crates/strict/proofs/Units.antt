@@ -2,7 +2,7 @@
 -- the map true. Assumes nothing.
 use Prim.Native.Nat.{ℕ, _+_, _-_, _*_, _/_, _%_, _≤_, _<_}
 use mathlib.Core.Path.{_≡_, refl, sym, ap, ap₂, _∙_}
-use mathlib.Core.Bool.{Bool, true, false}
+use mathlib.Core.Bool.{Bool, true, false, _&&_}
 use mathlib.Core.Logic.{_⊎_, inl, inr, ⊎-elim}
 use mathlib.Core.List.{List, [], _∷_, _++_, List·Memᴰ, List·Memᴰ·head, List·Memᴰ·tail, List·Memᴰ·not-nil, List·Memᴰ·append-cases, List·Memᴰ·eq-of-singleton}
 use mathlib.Core.Option.{Option}
@@ -11,7 +11,6 @@ use borrow.Author.Tests.{eq-eqb, ne-eqb, eqb-true}
 use lib.Dec.{eqb}
 use lib.ListN.{length, getD, replicate, length-replicate, getD-replicate}
 use Rattle.units.specs.Told.{Told}
-use Rattle.layout_bytes.specs.Bytes.{both}
 use Rattle.read_entry.specs.Entry.{Placed}
 use Rattle.read_entry.specs.Links.{isIn}
 use Rattle.strict_map.specs.inner.Map.{Tested, Taken, Marked}
@@ -20,15 +19,15 @@ use Rattle.strict_rule.specs.Strict.{endBy, clear, apart}
 use Rattle.strict_rule.proofs.Clear.{not-true-is-false, true-not-false, both-first, both-second, is-in-last, is-in-other, clear-says, is-clear, not-clear}
 use Rattle.strict.specs.inner.Run.{Whole, Mapped}
 
-both-end : (a : Bool) → both a true ≡ a
+both-end : (a : Bool) → a && true ≡ a
 both-end true = refl
 both-end false = refl
 
-both-none : (a : Bool) → both a false ≡ false
+both-none : (a : Bool) → a && false ≡ false
 both-none true = refl
 both-none false = refl
 
-both-assoc : (a b c : Bool) → both a (both b c) ≡ both (both a b) c
+both-assoc : (a b c : Bool) → a && (b && c) ≡ (a && b) && c
 both-assoc true b c = refl
 both-assoc false b c = refl
 
@@ -39,12 +38,12 @@ module _ (f : ℕ → Told (Option Placed)) where
   apart-part o e p q [] a b h = refl
   apart-part o e p q (x ∷ xs) a b h =
       let c : clear f p q x ≡ true = is-clear f p q x (⊎-elim (λ (l : e ≤ x). inl (omega arith)) (λ (l : endBy (f x) x ≤ o). inr (omega arith)) (clear-says f o e x (both-first (clear f o e x) (apart f o e xs) h))) in
-      ap₂ both c (apart-part o e p q xs a b (both-second (clear f o e x) (apart f o e xs) h))
+      ap₂ _&&_ c (apart-part o e p q xs a b (both-second (clear f o e x) (apart f o e xs) h))
 
-  pub apart-snoc : (o e x : ℕ) (xs : List ℕ) → apart f o e (xs ++ (x ∷ [])) ≡ both (apart f o e xs) (clear f o e x)
+  pub apart-snoc : (o e x : ℕ) (xs : List ℕ) → apart f o e (xs ++ (x ∷ [])) ≡ apart f o e xs && clear f o e x
   unfolding apart
   apart-snoc o e x [] = both-end (clear f o e x)
-  apart-snoc o e x (y ∷ ys) = ap (both (clear f o e y)) (apart-snoc o e x ys) ∙ both-assoc (clear f o e y) (apart f o e ys) (clear f o e x)
+  apart-snoc o e x (y ∷ ys) = ap (λ b. clear f o e y && b) (apart-snoc o e x ys) ∙ both-assoc (clear f o e y) (apart f o e ys) (clear f o e x)
 
   -- the units that the test of a run looks at: every fourth from the first, and the last
   abbrev Looked : ℕ → ℕ → ℕ → Type 0
@@ -70,7 +69,7 @@ module _ (f : ℕ → Told (Option Placed)) where
     unfolding apart
     looked-apart [] whole says = refl
     looked-apart (x ∷ xs) whole says =
-        ap₂ both
+        ap₂ _&&_
         (one (whole x (List·Memᴰ·head refl)) (λ u l. clear-says f (4 * u) (4 * u + 4) x (both-first (clear f (4 * u) (4 * u + 4) x) (apart f (4 * u) (4 * u + 4) xs) (says u l))))
         (looked-apart xs (λ y m. whole y (List·Memᴰ·tail m)) (λ u l. both-second (clear f (4 * u) (4 * u + 4) x) (apart f (4 * u) (4 * u + 4) xs) (says u l)))
       where

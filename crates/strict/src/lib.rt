@@ -23,7 +23,7 @@ ghost use Rattle.units.specs.Lent.{was, is};
 ghost use Rattle.layout_name.specs.Order.{nameOrder};
 ghost use Rattle.read_entry.specs.Entry.{Placed, readAt};
 ghost use Rattle.strict_map.specs.inner.Map.{Marked};
-ghost use Rattle.strict_rule.specs.Strict.{endOf, nameBy, placed, isLess, lessThan, moreThan, nameAt, ordered};
+ghost use Rattle.strict_rule.specs.Strict.{endOf, placed, isLess, lessThan, moreThan, nameAt, ordered};
 ghost use Rattle.strict_rule.specs.Strict.{verdictAt, root, strictFrom, told, strictAnswer, listAfter};
 ghost use Rattle.strict_rule.specs.Strict.{scratchAfter};
 ghost use Rattle.strict.specs.inner.Run.{boundOf, visitOf, Pushed, Entered, Mapped, Covers, Judged, keptOf, Runs};
@@ -45,18 +45,6 @@ fn is_less(a: &[u8], b: &[u8]) -> bool
     }
 }
 
-// The name of the entry at an offset, as that part of the window; where there is none, nothing.
-fn name_at(w: &[u8], first: Sector, table: Region, o: Offset) -> &[u8]
-    ensures { λ r. ⌜ now r ≡ nameBy (was w) (readAt (was w) first table (o .0)) ⌝ }
-{
-    match read_entry::read_at(w, first, table, o) {
-        Read::Entry(h, at) => read_entry::name_of(w, at, h.name_len),
-        Read::Nothing => &w[..0],
-        Read::OutOfBounds(_) => &w[..0],
-        Read::Truncated(_) => &w[..0],
-    }
-}
-
 // The name is less than that of the entry at a link, if there is one.
 fn is_under(w: &[u8], first: Sector, table: Region, name: &[u8], l: Link) -> bool
     ensures { λ r. ⌜ r ≡ lessThan (was name) (nameAt (was w) (readAt (was w) first table) (boundOf (l .0))) ⌝ }
@@ -65,7 +53,7 @@ fn is_under(w: &[u8], first: Sector, table: Region, name: &[u8], l: Link) -> boo
     if n == 0xffff {
         return true;
     }
-    is_less(name, name_at(w, first, table, l.offset()))
+    is_less(name, read_place::name_at(w, first, table, l.offset()))
 }
 
 // The name is greater than that of the entry at a link, if there is one.
@@ -76,7 +64,7 @@ fn is_over(w: &[u8], first: Sector, table: Region, name: &[u8], l: Link) -> bool
     if n == 0xffff {
         return true;
     }
-    is_less(name_at(w, first, table, l.offset()), name)
+    is_less(read_place::name_at(w, first, table, l.offset()), name)
 }
 
 // The name stands to its parent's as the visit asks.

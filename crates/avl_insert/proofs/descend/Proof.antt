@@ -51,7 +51,7 @@ mul-at c =
       inside (a .left .now) (a .right .now) (toName N (a .name .now)) (Inside N) (s .pre .0 .linked .small)
           (c .before .before .before .before .before .before .loop .inv (s .pre .0)) (c .before .before .before .before .before .loop-test .taken),
       c .before
-          .before .before .index .ensures,
+          .before .before .u16-as-usize .ensures,
     )
 
 shared-slice-read-at : tie.Need-shared-slice-read-at Inv-loop μ-loop
@@ -64,7 +64,7 @@ shared-slice-read-at c =
       inside (a .left .now) (a .right .now) (toName N (a .name .now)) (Inside N) (s .pre .0 .linked .small)
           (c .before .before .before .before .before .before .before .loop .inv (s .pre .0))
           (c .before .before .before .before .before .before .loop-test .taken),
-      c .before .before .before .before .index .ensures,
+      c .before .before .before .before .u16-as-usize .ensures,
     )
 
 loop-less : tie.Need-loop-less Inv-loop μ-loop
@@ -74,7 +74,7 @@ loop-less c =
     let N = namesIn (a .names .now) (a .start .now) (a .len .now) in
     less-left (a .left .now) (a .right .now) (toName N (a .name .now)) (Inside N) (s .pre .0 .linked .small)
     (c .before .before .before .before .before .before .before .loop .inv (s .pre .0)) (c .before .before .before .before .before .before .loop-test .taken)
-    (c .before .before .before .before .index .ensures .0)
+    (c .before .before .before .before .u16-as-usize .ensures .0)
 
 loop-again : tie.Need-loop-again Inv-loop μ-loop
 loop-again c = λ w.
@@ -82,7 +82,7 @@ loop-again c = λ w.
     let N = namesIn (a .names .now) (a .start .now) (a .len .now) in
     go-left (a .left .now) (a .right .now) (toName N (a .name .now)) (Inside N) (w .linked .small)
     (c .before .before .before .before .before .before .before .loop .inv w) (c .before .before .before .before .before .before .loop-test .taken)
-    (c .before .before .before .before .index .ensures .0)
+    (c .before .before .before .before .u16-as-usize .ensures .0)
     (told N (a .name .now) (c .before .before .before .before .before .before .before .loop .at)
     (c .before .before .before .before .before .name-of .ensures) (c .before .before .before .compare-raised .ensures) (c .before .enum-told2 .given .1))
 
@@ -96,7 +96,7 @@ mul-at-2 c =
       inside (a .left .now) (a .right .now) (toName N (a .name .now)) (Inside N) (s .pre .0 .linked .small)
           (c .before .before .before .before .before .before .loop .inv (s .pre .0)) (c .before .before .before .before .before .loop-test .taken),
       c .before
-          .before .before .index .ensures,
+          .before .before .u16-as-usize .ensures,
     )
 
 shared-slice-read-at-2 : tie.Need-shared-slice-read-at-2 Inv-loop μ-loop
@@ -109,7 +109,7 @@ shared-slice-read-at-2 c =
       inside (a .left .now) (a .right .now) (toName N (a .name .now)) (Inside N) (s .pre .0 .linked .small)
           (c .before .before .before .before .before .before .before .loop .inv (s .pre .0))
           (c .before .before .before .before .before .before .loop-test .taken),
-      c .before .before .before .before .index .ensures,
+      c .before .before .before .before .u16-as-usize .ensures,
       s .pre .0 .linked .n-is,
     )
 
@@ -120,7 +120,7 @@ loop-less-2 c =
     let N = namesIn (a .names .now) (a .start .now) (a .len .now) in
     less-right (a .left .now) (a .right .now) (toName N (a .name .now)) (Inside N) (s .pre .0 .linked .small)
     (c .before .before .before .before .before .before .before .loop .inv (s .pre .0)) (c .before .before .before .before .before .before .loop-test .taken)
-    (c .before .before .before .before .index .ensures .0)
+    (c .before .before .before .before .u16-as-usize .ensures .0)
 
 loop-again-2 : tie.Need-loop-again-2 Inv-loop μ-loop
 loop-again-2 c = λ w.
@@ -128,7 +128,7 @@ loop-again-2 c = λ w.
     let N = namesIn (a .names .now) (a .start .now) (a .len .now) in
     go-right (a .left .now) (a .right .now) (toName N (a .name .now)) (Inside N) (w .linked .small)
     (c .before .before .before .before .before .before .before .loop .inv w) (c .before .before .before .before .before .before .loop-test .taken)
-    (c .before .before .before .before .index .ensures .0)
+    (c .before .before .before .before .u16-as-usize .ensures .0)
     (told N (a .name .now) (c .before .before .before .before .before .before .before .loop .at)
     (c .before .before .before .before .before .name-of .ensures) (c .before .before .before .compare-raised .ensures) (c .before .enum-told3 .given .1))
 

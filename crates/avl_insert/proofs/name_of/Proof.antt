@@ -9,14 +9,14 @@ part-result-end : tie.Need-part-result-end
 part-result-end c =
     let s = c .before .before .before .before .before .before .before .before in
     let a = s .args in
-    end-inside (namesIn (a .names .now) (a .start .now) (a .len .now)) (a .at) (s .pre) (c .before .before .before .before .index .ensures .0)
-    (c .before .before .wide .ensures .0) (c .wide2 .ensures .0)
+    end-inside (namesIn (a .names .now) (a .start .now) (a .len .now)) (a .at) (s .pre) (c .before .before .before .before .u16-as-usize .ensures .0)
+    (c .before .before .u32-as-usize .ensures .0) (c .u32-as-usize2 .ensures .0)
 
 returns : tie.Need-returns
 returns c =
     let a = c .before .before .before .before .before .before .before .before .before .args in
-    part-named (namesIn (a .names .now) (a .start .now) (a .len .now)) (a .at) (c .before .before .before .before .before .index .ensures .0)
-    (c .before .before .before .wide .ensures .0) (c .before .wide2 .ensures .0)
+    part-named (namesIn (a .names .now) (a .start .now) (a .len .now)) (a .at) (c .before .before .before .before .before .u16-as-usize .ensures .0)
+    (c .before .before .before .u32-as-usize .ensures .0) (c .before .u32-as-usize2 .ensures .0)
 
 pub name-of-spec : {M : Type 1} → statement M
 name-of-spec = tie.close (tie.spec (λ c κs. search needs) (λ c. search needs) (λ c. search needs) (λ c κs. search needs)

@@ -36,7 +36,7 @@ loop-holds : tie.Need-loop-holds Inv-loop μ-loop
 loop-holds c = (refl, refl, refl, refl, λ w. inl (record { n-is = refl; ready = w; goal-is = refl }))
 
 slice-read-old : tie.Need-slice-read-old Inv-loop μ-loop
-slice-read-old c = let g = turn (c .before .before) (c .before .before .before .before .before .before .before .before .pre) in omega (arith, g .ready .at .fits, g .ready .long .h, c .before .index .ensures)
+slice-read-old c = let g = turn (c .before .before) (c .before .before .before .before .before .before .before .before .pre) in omega (arith, g .ready .at .fits, g .ready .long .h, c .before .u16-as-usize .ensures)
 
 settle-requires : tie.Need-settle-requires Inv-loop μ-loop
 settle-requires c κs = turn (c .before .before .before .before .before .before .before) (c .before .before .before .before .before .before .before .before .before .before .before .before .before .pre) .ready
@@ -47,7 +47,7 @@ slice-read-if1 c = omega (
   risen (turn (c .before .before .before .before .before .before .before .before .before .before .before .before .before .before .before .before
       .before .before) (c .before .before .before .before .before .before .before .before .before .before .before .before .before .before .before .before .before
       .before .before .before .before .before .before .before .pre))
-      (c .before .before .before .before .before .before .before .before .before .before .settle .ensures) (c .before .index2 .ensures .0),
+      (c .before .before .before .before .before .before .before .before .before .before .settle .ensures) (c .before .u16-as-usize2 .ensures .0),
   c .before .before
       .before .before .before .before .before .before .before .before .settle .kept,
   c .before .before .before .before .before .before .before .before .before
@@ -78,8 +78,8 @@ returns : tie.Need-returns Inv-loop μ-loop
 returns c = λ w. stopped
     (turn (c .before .before .before .before .before .before .before .before .before .before .before .before .before .before .before .before .before .before
     .before) w) (c .before .before .before .before .before .before .before .before .before .before .before .settle .ensures)
-    (c .before .before .index2 .ensures .0)
-    (c .before .before .before .before .before .before .before .before .before .before .before .before .before .before .before .before .before .before .index
+    (c .before .before .u16-as-usize2 .ensures .0)
+    (c .before .before .before .before .before .before .before .before .before .before .before .before .before .before .before .before .before .before .u16-as-usize
     .ensures .0) (c .if1 .taken)
 
 mul-at : tie.Need-mul-at Inv-loop μ-loop
@@ -89,7 +89,7 @@ mul-at c = omega (
       (turn (c .before .before .before .before .before .before .before .before .before .before .before .before .before .before .before .before .before .before
       .before) (c .before .before .before .before .before .before .before .before .before .before .before .before .before .before .before .before .before .before
       .before .before .before .before .before .before .before .pre))
-      (c .before .before .before .before .before .before .before .before .before .before .before .settle .ensures) (c .before .before .index2 .ensures .0),
+      (c .before .before .before .before .before .before .before .before .before .before .before .settle .ensures) (c .before .before .u16-as-usize2 .ensures .0),
   c
       .before .before .before .before .before .before .before .before .before .before .before .before .before .before .before .before .before .before .before
       .before .before .before .before .before .before .good,
@@ -103,7 +103,7 @@ slice-read-at c = omega (
       (c .before .before .before .before .before .before .before .before .before .before .before .before .before .before .before .before .before .before .before
       .before .before .before .before .before .before .before .pre))
       (c .before .before .before .before .before .before .before .before .before .before .before .before .settle .ensures)
-      (c .before .before .before .index2 .ensures .0),
+      (c .before .before .before .u16-as-usize2 .ensures .0),
   c .before .before .before .before .before .before .before .before .before .before .before .before .settle
       .kept,
   c .before .before .before .before .before .before .before .before .before .before .before .before .before .before .before .before .before .before
@@ -118,7 +118,7 @@ loop-less c = nearer (turn
     .before) (c .before .before .before .before .before .before .before .before .before .before .before .before .before .before .before .before .before .before
     .before .before .before .before .before .before .before .before .pre))
     (c .before .before .before .before .before .before .before .before .before .before .before .before .settle .ensures)
-    (c .before .before .before .index2 .ensures .0)
+    (c .before .before .before .u16-as-usize2 .ensures .0)
 
 loop-again : tie.Need-loop-again Inv-loop μ-loop
 loop-again c =
@@ -131,7 +131,7 @@ loop-again c =
       λ w. again
           (turn (c .before .before .before .before .before .before .before .before .before .before .before .before .before .before .before .before .before .before
           .before .before) w) (c .before .before .before .before .before .before .before .before .before .before .before .before .settle .ensures)
-          (c .before .before .before .index2 .ensures .0),
+          (c .before .before .before .u16-as-usize2 .ensures .0),
     )
 
 same-length-5 : tie.Need-same-length-5 Inv-loop μ-loop

@@ -9,17 +9,17 @@ use Rattle.avl_insert.proofs.rise.Tie as tie
 
 returns : tie.Need-returns
 returns c = λ w. let s = c .before .before .before .before .before .before .before in let a = s .args in
-    alone (a .root .now) (a .left .now) (a .right .now) (a .parent .now) (a .height .now) (a .new) (c .before .before .index .ensures .0) refl (s .pre .1 .0) (s .pre .1 .1) w (c .if1 .taken)
+    alone (a .root .now) (a .left .now) (a .right .now) (a .parent .now) (a .height .now) (a .new) (c .before .before .u16-as-usize .ensures .0) refl (s .pre .1 .0) (s .pre .1 .1) w (c .if1 .taken)
 
 rebalance-requires : tie.Need-rebalance-requires
 rebalance-requires c κs = let s = c .before .before .before .before .before .before .before .before .before .before .before .before in let a = s .args in
     parent-ready (a .root .now) (a .left .now) (a .right .now) (a .parent .now) (a .height .now) (a .new)
-    (c .before .before .before .before .before .before .before .index .ensures .0) refl (s .pre .1 .0) (s .pre .1 .1) (s .pre .0)
+    (c .before .before .before .before .before .before .before .u16-as-usize .ensures .0) refl (s .pre .1 .0) (s .pre .1 .1) (s .pre .0)
     (omega (
       arith,
       c .before .before .before .before .before .if1 .left,
       c .before .before .before .before .before .before .before .before .before
-          .slice-known3 .given (c .before .before .before .before .before .before .before .index .result),
+          .slice-known3 .given (c .before .before .before .before .before .before .before .u16-as-usize .result),
     ))
 
 same-length-5 : tie.Need-same-length-5
@@ -28,14 +28,14 @@ same-length-5 c = c .before .before .before .before .before .before .before .bef
 returns-2 : tie.Need-returns-2
 returns-2 c = λ w. let s = c .before .before .before .before .before .before .before .before .before .before .before .before .before .before .before .before .before .before .before .before .before in let a = s .args in
     risen-whole (a .root .now) (a .left .now) (a .right .now) (a .parent .now) (a .height .now) (a .new)
-    (c .before .before .before .before .before .before .before .before .before .before .before .before .before .before .before .before .index .ensures .0)
+    (c .before .before .before .before .before .before .before .before .before .before .before .before .before .before .before .before .u16-as-usize .ensures .0)
     refl (s .pre .1 .0) (s .pre .1 .1) w
     (omega (
       arith,
       c .before .before .before .before .before .before .before .before .before .before .before .before .before .before .if1 .left,
       c .before
           .before .before .before .before .before .before .before .before .before .before .before .before .before .before .before .before .before .slice-known3
-          .given (c .before .before .before .before .before .before .before .before .before .before .before .before .before .before .before .before .index
+          .given (c .before .before .before .before .before .before .before .before .before .before .before .before .before .before .before .before .u16-as-usize
           .result),
     )) (c .before .before .before .before .before .before .before .before .rebalance .ensures)
 

@@ -9,7 +9,7 @@ use Rattle.avl_keyed.proofs.raised_at.Tie as tie
 returns : tie.Need-returns
 returns c =
     let a = c .before .before .before .before .before .args in
-    (c .wide .ensures .0 ∙ c .before .raise .ensures ∙ sym (copy-at (a .name .now) (a .i)), c .wide .ensures .1)
+    (c .u8-as-u32 .ensures .0 ∙ c .before .raise .ensures ∙ sym (copy-at (a .name .now) (a .i)), c .u8-as-u32 .ensures .1)
 
 returns-2 : tie.Need-returns-2
 returns-2 c = (sym (copy-past _ _ (c .if1 .left)), omega arith)

@@ -28,7 +28,7 @@ loop-holds : tie.Need-loop-holds Inv-loop μ-loop
 loop-holds c = λ w. record { s = w .linked .t; at-is = w .linked .root-is; links = w .linked .links; bound = w .linked .bound; spot = refl; all = w .keyed }
 
 mul-q : tie.Need-mul-q Inv-loop μ-loop
-mul-q c = omega (arith, c .index .ensures)
+mul-q c = omega (arith, c .u16-as-usize .ensures)
 
 shared-slice-read-q : tie.Need-shared-slice-read-q Inv-loop μ-loop
 shared-slice-read-q c =
@@ -38,13 +38,13 @@ shared-slice-read-q c =
     let l = c .before .before .before .loop in
     omega (
       arith,
-      c .before .index .ensures,
+      c .before .u16-as-usize .ensures,
       known (a .left .now) (a .right .now) (toName N (a .name .now)) (Keyed (a .key .now) N) ((s .pre .0) .linked .small)
           (l .inv (s .pre .0)) (c .before .before .loop-test .taken) .has,
     )
 
 mul-l : tie.Need-mul-l Inv-loop μ-loop
-mul-l c = omega (arith, c .before .index .ensures)
+mul-l c = omega (arith, c .before .u16-as-usize .ensures)
 
 shared-slice-read-l : tie.Need-shared-slice-read-l Inv-loop μ-loop
 shared-slice-read-l c =
@@ -54,13 +54,13 @@ shared-slice-read-l c =
     let l = c .before .before .before .before .loop in
     omega (
       arith,
-      c .before .before .index .ensures,
+      c .before .before .u16-as-usize .ensures,
       inside (a .left .now) (a .right .now) (toName N (a .name .now)) (Keyed (a .key .now) N)
           ((s .pre .0) .linked .small) (l .inv (s .pre .0)) (c .before .before .before .loop-test .taken),
     )
 
 mul-r : tie.Need-mul-r Inv-loop μ-loop
-mul-r c = omega (arith, c .before .before .index .ensures)
+mul-r c = omega (arith, c .before .before .u16-as-usize .ensures)
 
 shared-slice-read-r : tie.Need-shared-slice-read-r Inv-loop μ-loop
 shared-slice-read-r c =
@@ -70,7 +70,7 @@ shared-slice-read-r c =
     let l = c .before .before .before .before .before .loop in
     omega (
       arith,
-      c .before .before .before .index .ensures,
+      c .before .before .before .u16-as-usize .ensures,
       inside (a .left .now) (a .right .now) (toName N (a .name .now)) (Keyed (a .key .now) N)
           ((s .pre .0) .linked .small) (l .inv (s .pre .0)) (c .before .before .before .before .loop-test .taken),
       s .pre .0 .linked .n-is,
@@ -103,7 +103,7 @@ loop-less c =
     let l = c .before .before .before .before .before .before .before .before .before .before .loop in
     lower (a .left .now) (a .right .now) (toName N (a .name .now)) (Keyed (a .key .now) N) ((s .pre .0) .linked .small) (l .inv (s .pre .0))
     (c .before .before .before .before .before .before .before .before .before .loop-test .taken)
-    (c .before .before .before .before .before .before .before .before .index .ensures .0) true refl
+    (c .before .before .before .before .before .before .before .before .u16-as-usize .ensures .0) true refl
     (λ _. (told N (a .name .now) (l .at) (c .before .before .before .name-of .ensures) (c .before .before .compare .ensures) (c .enum-told2 .given .1)))
     (λ e. never-both e)
 
@@ -115,7 +115,7 @@ loop-again c = λ w. let s =
     let l = c .before .before .before .before .before .before .before .before .before .before .loop in
     chosen (a .left .now) (a .right .now) (toName N (a .name .now)) (Keyed (a .key .now) N) (w .linked .small) (l .inv w)
     (c .before .before .before .before .before .before .before .before .before .loop-test .taken)
-    (c .before .before .before .before .before .before .before .before .index .ensures .0) true refl
+    (c .before .before .before .before .before .before .before .before .u16-as-usize .ensures .0) true refl
     (λ _. (told N (a .name .now) (l .at) (c .before .before .before .name-of .ensures) (c .before .before .compare .ensures) (c .enum-told2 .given .1)))
     (λ e. never-both e)
 
@@ -127,7 +127,7 @@ loop-less-2 c =
     let l = c .before .before .before .before .before .before .before .before .before .before .loop in
     lower (a .left .now) (a .right .now) (toName N (a .name .now)) (Keyed (a .key .now) N) ((s .pre .0) .linked .small) (l .inv (s .pre .0))
     (c .before .before .before .before .before .before .before .before .before .loop-test .taken)
-    (c .before .before .before .before .before .before .before .before .index .ensures .0) false refl (λ e. never-both (mathlib.Core.Path.sym e))
+    (c .before .before .before .before .before .before .before .before .u16-as-usize .ensures .0) false refl (λ e. never-both (mathlib.Core.Path.sym e))
     (λ _. (told N (a .name .now) (l .at) (c .before .before .before .name-of .ensures) (c .before .before .compare .ensures) (c .enum-told3 .given .1)))
 
 loop-again-2 : tie.Need-loop-again-2 Inv-loop μ-loop
@@ -138,7 +138,7 @@ loop-again-2 c = λ w. let s =
     let l = c .before .before .before .before .before .before .before .before .before .before .loop in
     chosen (a .left .now) (a .right .now) (toName N (a .name .now)) (Keyed (a .key .now) N) (w .linked .small) (l .inv w)
     (c .before .before .before .before .before .before .before .before .before .loop-test .taken)
-    (c .before .before .before .before .before .before .before .before .index .ensures .0) false refl (λ e. never-both (mathlib.Core.Path.sym e))
+    (c .before .before .before .before .before .before .before .before .u16-as-usize .ensures .0) false refl (λ e. never-both (mathlib.Core.Path.sym e))
     (λ _. (told N (a .name .now) (l .at) (c .before .before .before .name-of .ensures) (c .before .before .compare .ensures) (c .enum-told3 .given .1)))
 
 loop-less-3 : tie.Need-loop-less-3 Inv-loop μ-loop
@@ -148,20 +148,20 @@ loop-less-3 c =
     let N = namesIn (a .names .now) (a .start .now) (a .len .now) in
     let l = c .before .before .before .before .before .before .before .loop in
     lower (a .left .now) (a .right .now) (toName N (a .name .now)) (Keyed (a .key .now) N) ((s .pre .0) .linked .small) (l .inv (s .pre .0))
-    (c .before .before .before .before .before .before .loop-test .taken) (c .before .before .before .before .before .index .ensures .0)
-    (ltb (a .k) (getD (a .key .now) (c .before .before .before .before .before .index .result) 0)) (c .choose .ensures)
+    (c .before .before .before .before .before .before .loop-test .taken) (c .before .before .before .before .before .u16-as-usize .ensures .0)
+    (ltb (a .k) (getD (a .key .now) (c .before .before .before .before .before .u16-as-usize .result) 0)) (c .choose .ensures)
     (λ e. by-less N (a .name .now) (λ j. omega (arith, c .before .before .before .before .before .before .before .before .shared-slice-known7 .given j))
     (λ j. omega (arith, c .before .before .before .before .before .before .before .before .before .before .before .shared-slice-known4 .given j)) (l .at)
-    (s .pre .1) (ap (λ (v : ℕ). getD (a .key .now) v 0) (c .before .before .before .before .before .index .ensures .0) ∙ known (a .left .now)
+    (s .pre .1) (ap (λ (v : ℕ). getD (a .key .now) v 0) (c .before .before .before .before .before .u16-as-usize .ensures .0) ∙ known (a .left .now)
     (a .right .now) (toName N (a .name .now)) (Keyed (a .key .now) N) ((s .pre .0) .linked .small) (l .inv (s .pre .0))
     (c .before .before .before .before .before .before .loop-test .taken) .key-is)
-    (ltb-true (a .k) (getD (a .key .now) (c .before .before .before .before .before .index .result) 0) e))
+    (ltb-true (a .k) (getD (a .key .now) (c .before .before .before .before .before .u16-as-usize .result) 0) e))
     (λ e. by-greater N (a .name .now) (λ j. omega (arith, c .before .before .before .before .before .before .before .before .shared-slice-known7 .given j))
     (λ j. omega (arith, c .before .before .before .before .before .before .before .before .before .before .before .shared-slice-known4 .given j)) (l .at)
-    (s .pre .1) (ap (λ (v : ℕ). getD (a .key .now) v 0) (c .before .before .before .before .before .index .ensures .0) ∙ known (a .left .now)
+    (s .pre .1) (ap (λ (v : ℕ). getD (a .key .now) v 0) (c .before .before .before .before .before .u16-as-usize .ensures .0) ∙ known (a .left .now)
     (a .right .now) (toName N (a .name .now)) (Keyed (a .key .now) N) ((s .pre .0) .linked .small) (l .inv (s .pre .0))
     (c .before .before .before .before .before .before .loop-test .taken) .key-is) (c .before .if1 .left)
-    (ltb-false (a .k) (getD (a .key .now) (c .before .before .before .before .before .index .result) 0) e))
+    (ltb-false (a .k) (getD (a .key .now) (c .before .before .before .before .before .u16-as-usize .result) 0) e))
 
 loop-again-3 : tie.Need-loop-again-3 Inv-loop μ-loop
 loop-again-3 c = λ w. let s = c .before .before .before .before .before .before .before .before .before .before .before .before .before .before .before in
@@ -169,18 +169,18 @@ loop-again-3 c = λ w. let s = c .before .before .before .before .before .before
     let N = namesIn (a .names .now) (a .start .now) (a .len .now) in
     let l = c .before .before .before .before .before .before .before .loop in
     chosen (a .left .now) (a .right .now) (toName N (a .name .now)) (Keyed (a .key .now) N) (w .linked .small) (l .inv w)
-    (c .before .before .before .before .before .before .loop-test .taken) (c .before .before .before .before .before .index .ensures .0)
-    (ltb (a .k) (getD (a .key .now) (c .before .before .before .before .before .index .result) 0)) (c .choose .ensures)
+    (c .before .before .before .before .before .before .loop-test .taken) (c .before .before .before .before .before .u16-as-usize .ensures .0)
+    (ltb (a .k) (getD (a .key .now) (c .before .before .before .before .before .u16-as-usize .result) 0)) (c .choose .ensures)
     (λ e. by-less N (a .name .now) (λ j. omega (arith, c .before .before .before .before .before .before .before .before .shared-slice-known7 .given j))
     (λ j. omega (arith, c .before .before .before .before .before .before .before .before .before .before .before .shared-slice-known4 .given j)) (l .at)
-    (s .pre .1) (ap (λ (v : ℕ). getD (a .key .now) v 0) (c .before .before .before .before .before .index .ensures .0) ∙ known (a .left .now) (a .right .now)
+    (s .pre .1) (ap (λ (v : ℕ). getD (a .key .now) v 0) (c .before .before .before .before .before .u16-as-usize .ensures .0) ∙ known (a .left .now) (a .right .now)
     (toName N (a .name .now)) (Keyed (a .key .now) N) (w .linked .small) (l .inv w) (c .before .before .before .before .before .before .loop-test .taken)
-    .key-is) (ltb-true (a .k) (getD (a .key .now) (c .before .before .before .before .before .index .result) 0) e))
+    .key-is) (ltb-true (a .k) (getD (a .key .now) (c .before .before .before .before .before .u16-as-usize .result) 0) e))
     (λ e. by-greater N (a .name .now) (λ j. omega (arith, c .before .before .before .before .before .before .before .before .shared-slice-known7 .given j))
     (λ j. omega (arith, c .before .before .before .before .before .before .before .before .before .before .before .shared-slice-known4 .given j)) (l .at)
-    (s .pre .1) (ap (λ (v : ℕ). getD (a .key .now) v 0) (c .before .before .before .before .before .index .ensures .0) ∙ known (a .left .now) (a .right .now)
+    (s .pre .1) (ap (λ (v : ℕ). getD (a .key .now) v 0) (c .before .before .before .before .before .u16-as-usize .ensures .0) ∙ known (a .left .now) (a .right .now)
     (toName N (a .name .now)) (Keyed (a .key .now) N) (w .linked .small) (l .inv w) (c .before .before .before .before .before .before .loop-test .taken)
-    .key-is) (c .before .if1 .left) (ltb-false (a .k) (getD (a .key .now) (c .before .before .before .before .before .index .result) 0) e))
+    .key-is) (c .before .if1 .left) (ltb-false (a .k) (getD (a .key .now) (c .before .before .before .before .before .u16-as-usize .result) 0) e))
 
 returns-2 : tie.Need-returns-2 Inv-loop μ-loop
 returns-2 c = λ w. let a = c .before .before .before .before .before .before .before .before .before .before .args in

@@ -12,9 +12,9 @@ returns c = (
     (
       cc,
       λ i. set (c .before .before .before .before .before .before .before .before .before .before .before .before .before .before .before .before .before
-          .args .parent .now) (c .index2 .ensures .0 i)
+          .args .parent .now) (c .u16-as-usize2 .ensures .0 i)
           (getD (c .before .before .before .before .before .before .before .before .before .before .before .before .before .before .before .before .before .args
-          .parent .now) (c .before .before .index .ensures .0 i) 0),
+          .parent .now) (c .before .before .u16-as-usize .ensures .0 i) 0),
     ),
   ),
 )

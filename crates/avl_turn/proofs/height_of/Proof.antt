@@ -8,7 +8,7 @@ use Rattle.avl_turn.proofs.height_of.Statement.{statement}
 use Rattle.avl_turn.proofs.height_of.Tie as tie
 
 returns : tie.Need-returns
-returns c = ap (λ (k : ℕ). getD (c .before .before .before .before .args .height .now) k 0) (c .before .before .index .ensures .0)
+returns c = ap (λ (k : ℕ). getD (c .before .before .before .before .args .height .now) k 0) (c .before .before .u16-as-usize .ensures .0)
 
 returns-2 : tie.Need-returns-2
 returns-2 c = sym (List·getD-eq-default (c .before .before .before .args .height .now) 0 (omega arith))

@@ -24,7 +24,7 @@ returns c =
     l-joined (lists (s .root .now) (s .left .now) (s .right .now) (s .parent .now) (s .height .now)) (s .a) (s .b) (s .c)
     (e .0) (e .1 .0) (e .1 .1 .0) (e .1 .1 .1)
     (c .before .before .before .before .before .before .before .before .before .before .before .before .before .before .before .before .before .before
-    .before .before .before .index .ensures .0) (f .0) (f .1) (g .0) (g .1) (c .before .before .update-heights .ensures)
+    .before .before .before .u16-as-usize .ensures .0) (f .0) (f .1) (g .0) (g .1) (c .before .before .update-heights .ensures)
 
 pub l-rotate-spec : {M : Type 1} → statement M
 l-rotate-spec = tie.close (tie.spec (λ c κs. search needs) (λ c κs. search needs) (λ c. search needs)

@@ -114,7 +114,7 @@ returns c =
     rl-joined (lists (s .root .now) (s .left .now) (s .right .now) (s .parent .now) (s .height .now)) (s .a) (s .b) (s .c)
     (e .0) (e .1 .0) (e .1 .1 .0) (e .1 .1 .1)
     (c .before .before .before .before .before .before .before .before .before .before .before .before .before .before .before .before .before .before
-    .before .before .before .before .before .before .before .before .before .before .before .before .before .before .before .before .before .before .index
+    .before .before .before .before .before .before .before .before .before .before .before .before .before .before .before .before .before .before .u16-as-usize
     .ensures .0) (f .0) (f .1) (g .0) (g .1) (h .0) (h .1) (k .0) (k .1) (c .before .before .update-heights .ensures)
 
 pub rl-rotate-spec : {M : Type 1} → statement M

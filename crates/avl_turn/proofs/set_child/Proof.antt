@@ -10,13 +10,13 @@ use Rattle.avl_turn.proofs.set_child.Tie as tie
 returns : tie.Need-returns
 returns c =
     let a = c .before .before .before .before .before .args in
-    (ap (λ (k : ℕ). set (a .side .now) k (a .to)) (c .before .before .index .ensures .0), ap (λ (k : ℕ). set (a .parent .now) k (a .node)) (c .before .index2 .ensures .0))
+    (ap (λ (k : ℕ). set (a .side .now) k (a .to)) (c .before .before .u16-as-usize .ensures .0), ap (λ (k : ℕ). set (a .parent .now) k (a .node)) (c .before .u16-as-usize2 .ensures .0))
 
 returns-2 : tie.Need-returns-2
 returns-2 c =
     let a = c .before .before .before .before .before .args in (
-      ap (λ (k : ℕ). set (a .side .now) k (a .to)) (c .before .before .index .ensures .0),
-      sym (set-out (a .parent .now) _ (a .node) (c .if1 .left)) ∙ ap (λ (k : ℕ). set (a .parent .now) k (a .node)) (c .before .index2 .ensures .0),
+      ap (λ (k : ℕ). set (a .side .now) k (a .to)) (c .before .before .u16-as-usize .ensures .0),
+      sym (set-out (a .parent .now) _ (a .node) (c .if1 .left)) ∙ ap (λ (k : ℕ). set (a .parent .now) k (a .node)) (c .before .u16-as-usize2 .ensures .0),
     )
 
 pub set-child-spec : {M : Type 1} → statement M

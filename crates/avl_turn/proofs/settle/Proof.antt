@@ -20,7 +20,7 @@ turn-requires c κs =
     let s = c .before .before .before .before .before .before .before .before .before .before .before .before .before .before .before .before .before .before .before .before .before .before .before .before .before in
     let a = s .args in
     let u = c .before .before .before .before .before .before .before .before .before .before .before .before .before .before .before .before .before .update-height in
-    let j = c .before .before .before .before .before .before .before .before .before .before .before .before .before .before .index in
+    let j = c .before .before .before .before .before .before .before .before .before .before .before .before .before .before .u16-as-usize in
     let l = c .before .before .before .before .before .before .before .before .before .before .height-of in
     let r = c .before .before .before .before .before .before .before .before .height-of2 in
     left-asks (lists (a .root .now) (a .left .now) (a .right .now) (a .parent .now) (a .height .now)) (a .at) (s .pre) (u .last .1 .1 .0) (u .ensures)
@@ -32,7 +32,7 @@ turn-requires-2 c κs =
     let s = c .before .before .before .before .before .before .before .before .before .before .before .before .before .before .before .before .before .before .before .before .before .before .before .before .before in
     let a = s .args in
     let u = c .before .before .before .before .before .before .before .before .before .before .before .before .before .before .before .before .before .update-height in
-    let j = c .before .before .before .before .before .before .before .before .before .before .before .before .before .before .index in
+    let j = c .before .before .before .before .before .before .before .before .before .before .before .before .before .before .u16-as-usize in
     let l = c .before .before .before .before .before .before .before .before .before .before .height-of in
     let r = c .before .before .before .before .before .before .before .before .height-of2 in
     right-asks (lists (a .root .now) (a .left .now) (a .right .now) (a .parent .now) (a .height .now)) (a .at) (s .pre) (u .last .1 .1 .0) (u .ensures)
@@ -45,7 +45,7 @@ returns c = λ w.
     .before .before .before .before .before .before .before .before .before .before .before .before .before .before .before .before .args in
     let u = c .before .before .before .before .before .before .before .before .before .before .before .before .before .before .before .before .before .before
     .before .before .before .before .before .before .before .before .update-height in
-    let j = c .before .before .before .before .before .before .before .before .before .before .before .before .before .before .before .before .before .before .before .before .before .before .before .index in
+    let j = c .before .before .before .before .before .before .before .before .before .before .before .before .before .before .before .before .before .before .before .before .before .before .before .u16-as-usize in
     let l = c .before .before .before .before .before .before .before .before .before .before .before .before .before .before .before .before .before .before .before .height-of in
     let r = c .before .before .before .before .before .before .before .before .before .before .before .before .before .before .before .before .before .height-of2 in
     left-leaves (lists (a .root .now) (a .left .now) (a .right .now) (a .parent .now) (a .height .now)) (a .at) w (u .last .1 .1 .0) (u .ensures) (j .result)
@@ -60,7 +60,7 @@ returns-2 c = λ w.
     .before .before .before .before .before .before .before .before .before .before .before .before .before .before .before .before .args in
     let u = c .before .before .before .before .before .before .before .before .before .before .before .before .before .before .before .before .before .before
     .before .before .before .before .before .before .before .before .update-height in
-    let j = c .before .before .before .before .before .before .before .before .before .before .before .before .before .before .before .before .before .before .before .before .before .before .before .index in
+    let j = c .before .before .before .before .before .before .before .before .before .before .before .before .before .before .before .before .before .before .before .before .before .before .before .u16-as-usize in
     let l = c .before .before .before .before .before .before .before .before .before .before .before .before .before .before .before .before .before .before .before .height-of in
     let r = c .before .before .before .before .before .before .before .before .before .before .before .before .before .before .before .before .before .height-of2 in
     right-leaves (lists (a .root .now) (a .left .now) (a .right .now) (a .parent .now) (a .height .now)) (a .at) w (u .last .1 .1 .0) (u .ensures) (j .result)
@@ -73,7 +73,7 @@ returns-3 : tie.Need-returns-3
 returns-3 c = λ w.
     let a = c .before .before .before .before .before .before .before .before .before .before .before .before .before .before .before .before .before .before .before .before .args in
     let u = c .before .before .before .before .before .before .before .before .before .before .before .before .update-height in
-    let j = c .before .before .before .before .before .before .before .before .before .index in
+    let j = c .before .before .before .before .before .before .before .before .before .u16-as-usize in
     let l = c .before .before .before .before .before .height-of in
     let r = c .before .before .before .height-of2 in
     leaf-leaves (lists (a .root .now) (a .left .now) (a .right .now) (a .parent .now) (a .height .now)) (a .at) w (u .last .1 .1 .0) (u .ensures) (j .result)

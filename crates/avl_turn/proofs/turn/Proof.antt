@@ -11,7 +11,7 @@ rl-rotate-requires c κs =
     let a = s .args in
     let y = c .before .before .before .before .before .before .height-of2 in
     let z = c .before .before .before .before .before .before .before .before .height-of in
-    let j = c .before .before .before .before .before .before .before .before .before .before .before .before .index in (
+    let j = c .before .before .before .before .before .before .before .before .before .before .before .before .u16-as-usize in (
       three-double (lists (a .root .now) (a .near .now) (a .far .now) (a .parent .now) (a .height .now)) (a .a) (a .b) (s .pre) (j .result) (j .ensures .0)
           (z .result) (y .result) (z .ensures) (y .ensures) (c .before .before .before .before .before .if1 .taken),
       (s .pre .long .p, s .pre .low),
@@ -23,7 +23,7 @@ l-rotate-requires c κs =
     let a = s .args in
     let y = c .before .before .before .before .before .before .height-of2 in
     let z = c .before .before .before .before .before .before .before .before .height-of in
-    let j = c .before .before .before .before .before .before .before .before .before .before .before .before .index in (
+    let j = c .before .before .before .before .before .before .before .before .before .before .before .before .u16-as-usize in (
       three-single (lists (a .root .now) (a .near .now) (a .far .now) (a .parent .now) (a .height .now)) (a .a) (a .b) (s .pre) (j .result) (j .ensures .0)
           (z .result) (y .result) (z .ensures) (y .ensures) (c .before .before .before .before .before .if1 .left),
       (s .pre .long .p, s .pre .low),
@@ -35,7 +35,7 @@ returns c = λ w.
     .before .before .before .before .before .before .before .before .args in
     let y = c .before .before .before .before .before .before .before .before .before .before .before .before .before .before .before .height-of2 in
     let z = c .before .before .before .before .before .before .before .before .before .before .before .before .before .before .before .before .before .height-of in
-    let j = c .before .before .before .before .before .before .before .before .before .before .before .before .before .before .before .before .before .before .before .before .before .index in
+    let j = c .before .before .before .before .before .before .before .before .before .before .before .before .before .before .before .before .before .before .before .before .before .u16-as-usize in
     double-up (lists (a .root .now) (a .near .now) (a .far .now) (a .parent .now) (a .height .now)) (a .a) (a .b) w (j .result) (j .ensures .0) (z .result)
     (y .result) (z .ensures) (y .ensures)
     (c .before .before .before .before .before .before .before .before .before .before .before .before .before .before .if1 .taken)
@@ -47,7 +47,7 @@ returns-2 c = λ w.
     .before .before .before .before .before .before .before .before .args in
     let y = c .before .before .before .before .before .before .before .before .before .before .before .before .before .before .before .height-of2 in
     let z = c .before .before .before .before .before .before .before .before .before .before .before .before .before .before .before .before .before .height-of in
-    let j = c .before .before .before .before .before .before .before .before .before .before .before .before .before .before .before .before .before .before .before .before .before .index in
+    let j = c .before .before .before .before .before .before .before .before .before .before .before .before .before .before .before .before .before .before .before .before .before .u16-as-usize in
     single-up (lists (a .root .now) (a .near .now) (a .far .now) (a .parent .now) (a .height .now)) (a .a) (a .b) w (j .result) (j .ensures .0) (z .result)
     (y .result) (z .ensures) (y .ensures)
     (c .before .before .before .before .before .before .before .before .before .before .before .before .before .before .if1 .left)

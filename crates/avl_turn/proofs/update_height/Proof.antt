@@ -8,7 +8,7 @@ use Rattle.avl_turn.proofs.update_height.Tie as tie
 add-height : tie.Need-add-height
 add-height c =
     let s = c .before .before .before .before .before .before .before .before .before .before .before in
-    let i = c .before .before .before .before .before .before .before .index .result in
+    let i = c .before .before .before .before .before .before .before .u16-as-usize .result in
     omega (arith, s .pre .1 (getD (s .args .left .now) i 0), s .pre .1 (getD (s .args .right .now) i 0))
 
 returns : tie.Need-returns

@@ -6,9 +6,9 @@ use Rattle.capi_cells.proofs.store_fields.Statement.{statement}
 use Rattle.capi_cells.proofs.store_fields.Tie as tie
 
 returns : tie.Need-returns
-returns c = six (c .before .before .before .before .before .before .widen-link .ensures ∙ c .before .before .before .before .before .before .before .number
-    .ensures) (c .before .before .before .before .widen-link2 .ensures ∙ c .before .before .before .before .before .number2 .ensures)
-    (c .before .before .before .number3 .ensures) refl (c .before .before .widen-byte .ensures) (c .before .widen-byte2 .ensures)
+returns c = six (c .before .before .before .before .before .before .u16-as-u32 .ensures .0 ∙ c .before .before .before .before .before .before .before .number
+    .ensures) (c .before .before .before .before .u16-as-u322 .ensures .0 ∙ c .before .before .before .before .before .number2 .ensures)
+    (c .before .before .before .number3 .ensures) refl (c .before .before .u8-as-u32 .ensures .0) (c .before .u8-as-u322 .ensures .0)
 
 pub store-fields-spec : {M : Type 1} → statement M
 store-fields-spec = tie.close (tie.spec (λ c κs. search needs) (λ c κs. search needs) (λ c κs. search needs)

@@ -19,39 +19,39 @@ use Rattle.dirtab_grow.proofs.add_entry.Tie as tie
 slice-aggregate-hang-entry : tie.Need-slice-aggregate-hang-entry
 slice-aggregate-hang-entry c =
     let s = c .before .before .before .before .before .before .before .before .before .before .before .before .before .before .before .before in
-    sym (length-take-le (c .before .before .index .result + 1) (s .args .left .now) (omega (arith, s .pre .1 .0 .l, c .before .before .index .ensures .0)))
+    sym (length-take-le (c .before .before .u16-as-usize .result + 1) (s .args .left .now) (omega (arith, s .pre .1 .0 .l, c .before .before .u16-as-usize .ensures .0)))
 
 slice-aggregate-hang-entry-2 : tie.Need-slice-aggregate-hang-entry-2
 slice-aggregate-hang-entry-2 c =
     let s = c .before .before .before .before .before .before .before .before .before .before .before .before .before .before .before .before .before in
-    sym (length-take-le (c .before .before .before .index .result + 1) (s .args .right .now)
-    (omega (arith, s .pre .1 .0 .r, c .before .before .before .index .ensures .0)))
+    sym (length-take-le (c .before .before .before .u16-as-usize .result + 1) (s .args .right .now)
+    (omega (arith, s .pre .1 .0 .r, c .before .before .before .u16-as-usize .ensures .0)))
 
 slice-aggregate-hang-entry-3 : tie.Need-slice-aggregate-hang-entry-3
 slice-aggregate-hang-entry-3 c =
     let s = c .before .before .before .before .before .before .before .before .before .before .before .before .before .before .before .before .before .before in
-    sym (length-take-le (c .before .before .before .before .index .result + 1) (s .args .parent .now)
-    (omega (arith, s .pre .1 .0 .p, c .before .before .before .before .index .ensures .0)))
+    sym (length-take-le (c .before .before .before .before .u16-as-usize .result + 1) (s .args .parent .now)
+    (omega (arith, s .pre .1 .0 .p, c .before .before .before .before .u16-as-usize .ensures .0)))
 
 slice-aggregate-hang-entry-4 : tie.Need-slice-aggregate-hang-entry-4
 slice-aggregate-hang-entry-4 c =
     let s = c .before .before .before .before .before .before .before .before .before .before .before .before .before .before .before .before .before .before
     .before in
-    sym (length-take-le (c .before .before .before .before .before .index .result + 1) (s .args .height .now)
-    (omega (arith, s .pre .1 .0 .h, c .before .before .before .before .before .index .ensures .0)))
+    sym (length-take-le (c .before .before .before .before .before .u16-as-usize .result + 1) (s .args .height .now)
+    (omega (arith, s .pre .1 .0 .h, c .before .before .before .before .before .u16-as-usize .ensures .0)))
 
 hang-entry-requires : tie.Need-hang-entry-requires
 hang-entry-requires c κs = let s = c .before .before .before .before .before .before .before .before .before .before .before .before .before .before .before .before .before .before .before .before in let a = s .args in
     let L = listing 0 (a .start .now) (a .len .now) (a .size .now) (a .kind .now) (a .names .now) in (
       hangable (lists (a .root .now) (a .left .now) (a .right .now) (a .parent .now) (a .height .now)) (a .key .now) L (a .i)
-          (c .before .before .before .before .before .before .index .result + 1)
-          (omega (arith, c .before .before .before .before .before .before .index .ensures .0)) (s .pre .1 .0) (s .pre .0)
+          (c .before .before .before .before .before .before .u16-as-usize .result + 1)
+          (omega (arith, c .before .before .before .before .before .before .u16-as-usize .ensures .0)) (s .pre .1 .0) (s .pre .0)
           (passes (a .i) (checkOf (a .names .now) (givenIn L (a .i)))
           (c .before .before .before .before .before .before .before .before .before .check-at .ensures)
           (c .before .before .before .before .before .before .before .enum-told .given .1)) (s .pre .1 .1 .0),
       after-front (lists (a .root .now) (a .left .now) (a .right .now) (a .parent .now) (a .height .now)) (a .key .now) L (a .i)
-          (c .before .before .before .before .before .before .index .result + 1)
-          (omega (arith, c .before .before .before .before .before .before .index .ensures .0)) (s .pre .1 .0) (s .pre .1 .1 .0) (s .pre .1 .1 .1),
+          (c .before .before .before .before .before .before .u16-as-usize .result + 1)
+          (omega (arith, c .before .before .before .before .before .before .u16-as-usize .ensures .0)) (s .pre .1 .0) (s .pre .1 .1 .0) (s .pre .1 .1 .1),
     )
 
 returns : tie.Need-returns
@@ -69,11 +69,11 @@ returns-2 c =
     let L = listing 0 (a .start .now) (a .len .now) (a .size .now) (a .kind .now) (a .names .now) in
     let h = c .before .before .before .before .before .before .before .before .before .before .hang-entry in
     out-hung (lists (a .root .now) (a .left .now) (a .right .now) (a .parent .now) (a .height .now)) (a .key .now) L (a .i)
-    (c .before .before .before .before .before .before .before .before .before .before .before .before .before .before .before .before .before .index
+    (c .before .before .before .before .before .before .before .before .before .before .before .before .before .before .before .before .before .u16-as-usize
     .result + 1) (omega (
       arith,
       c .before .before .before .before .before .before .before .before .before .before .before .before .before .before .before
-          .before .before .index .ensures .0,
+          .before .before .u16-as-usize .ensures .0,
     )) (s .pre .1 .0)
     (h .kept .1 .0) (h .kept .1 .1 .0) (h .kept .1 .1 .1 .0) (h .kept .1 .1 .1 .1 .0)
     (passes (a .i) (checkOf (a .names .now) (givenIn L (a .i)))

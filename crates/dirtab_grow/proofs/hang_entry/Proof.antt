@@ -43,7 +43,7 @@ returns-2 c = λ w. let s =
     (c .before .before .before .before .before .before .before .before .before .before .before .before .before .before .before .before .before .before
     .choose-seat .ensures)
     (c .before .before .before .before .before .before .before .before .before .before .before .before .before .before .before .before .place .given .1) w
-    (c .before .before .before .before .before .before .before .before .before .before .before .before .before .before .index .ensures .0)
+    (c .before .before .before .before .before .before .before .before .before .before .before .before .before .before .u16-as-usize .ensures .0)
     (s .pre .0 .inside) (s .pre .0 .has) (c .before .before .before .before .before .before .before .before .put-in .ensures)
 
 pub hang-entry-spec : {M : Type 1} → statement M

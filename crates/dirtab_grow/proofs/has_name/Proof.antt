@@ -6,9 +6,9 @@ use Rattle.dirtab_grow.proofs.has_name.Tie as tie
 
 returns : tie.Need-returns
 returns c = λ e. let s = c .before .before .before .before .before .before .before .before in
-    inside-by (s .args .names .now) (s .args .start .now) (s .args .len .now) (s .args .at) (c .before .before .before .before .index .result)
-    (c .before .before .wide .result) (c .wide2 .result) (c .before .before .before .before .index .ensures) (c .before .before .wide .ensures)
-    (c .wide2 .ensures) (s .pre .0) (s .pre .1) e
+    inside-by (s .args .names .now) (s .args .start .now) (s .args .len .now) (s .args .at) (c .before .before .before .before .u16-as-usize .result)
+    (c .before .before .u32-as-usize .result) (c .u32-as-usize2 .result) (c .before .before .before .before .u16-as-usize .ensures) (c .before .before .u32-as-usize .ensures)
+    (c .u32-as-usize2 .ensures) (s .pre .0) (s .pre .1) e
 
 pub has-name-spec : {M : Type 1} → statement M
 has-name-spec = tie.close (tie.spec (λ c κs. search needs) (λ c. search needs) (λ c. search needs)

@@ -17,7 +17,7 @@ stored-at-requires c κs =
     let z = c .before .before .before .before .before .before .before .before .before .before in
     let a = z .args in
     headed-at (cols (a .left .now) (a .right .now) (a .place .now) (a .start .now) (a .len .now) (a .size .now) (a .kind .now) (a .names .now))
-    (length (a .out .now)) (a .number) (c .widen .result) (z .pre .0) (c .widen .ensures .0) .sized
+    (length (a .out .now)) (a .number) (c .u16-as-usize .result) (z .pre .0) (c .u16-as-usize .ensures .0) .sized
 
 returns : tie.Need-returns
 returns c =
@@ -25,7 +25,7 @@ returns c =
     .before in
     let a = z .args in
     let m = c .before .before .before .before .before in
-    let w = c .before .before .before .before .before .before .before .before .before .widen in
+    let w = c .before .before .before .before .before .before .before .before .before .u16-as-usize in
     let b = c .before .before .before .before .before .before .before .before .stored-at in
     let k = c .before .before .before .before .before .before .before .take in
     let p = c .before .before in (
@@ -41,7 +41,7 @@ returns-2 : tie.Need-returns-2
 returns-2 c =
     let z = c .before .before .before .before .before .before .before .before .before .before .before .before .before .before in
     let a = z .args in
-    let w = c .before .before .before .before .widen in
+    let w = c .before .before .before .before .u16-as-usize in
     let b = c .before .before .before .stored-at in
     let k = c .before .before .take in
     absurd (never-over (a .size .now) (a .kind .now) (a .counter .next .0) (a .number) (w .result) (b .result) (k .result) (w .ensures .0) (b .ensures) (k .ensures) (z .pre .1) (c .enum-told .given .1))
