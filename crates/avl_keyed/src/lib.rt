@@ -17,8 +17,8 @@ use avl_model::Spot;
 use layout_name::Order;
 use layout_name::compare;
 use layout_name::raise;
-use widths::u16_as_usize;
 use widths::u8_as_u32;
+use widths::u16_as_usize;
 
 // The byte of a name at a place, raised; 0 past its end.
 fn raised_at(name: &[u8], i: usize) -> u32

@@ -1,6 +1,8 @@
 // An answer of `xdvdfs` as a number and cells: for each answer a function that puts its values into lent cells,
 // leaves the others unchanged, and gives the answer's number of docs/SCOPE.md, 0 for what is no refusal. Each
 // contract is over what the answer is told as (specs/Cells.antt).
+use widths::u8_as_u32;
+use widths::u16_as_u32;
 use xdvdfs::Added;
 use xdvdfs::Checked;
 use xdvdfs::DescriptorRead;
@@ -14,8 +16,6 @@ use xdvdfs::Read;
 use xdvdfs::Serialised;
 use xdvdfs::Taken;
 use xdvdfs::Walked;
-use widths::u16_as_u32;
-use widths::u8_as_u32;
 ghost use mathlib.Core.Path.{_≡_};
 ghost use Prim.Native.Nat.{min, _+_};
 ghost use lib.ListN.{length, take, drop};

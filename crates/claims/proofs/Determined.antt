@@ -1,4 +1,4 @@
--- Determined: cited. Each answer is told one-to-one, and what is lent is given by equations. Assumes nothing.
+-- Determined: cited. Each answer is told one-to-one, and a part of the window and what is lent are given by equations. Assumes nothing.
 use mathlib.Core.Path.{_≡_, sym, _∙_}
 use Rattle.units.proofs.Told as locating
 use Rattle.layout_volume.proofs.Told as volume
@@ -22,8 +22,10 @@ determined = record {
   take = λ next n r q a b. counter.told-one r q (a ∙ sym b);
   locate = λ t o r q a b. locating.told-one r q (a ∙ sym b);
   read-entry = λ w first t o r q a b. entry.told-one r q (a ∙ sym b);
+  entry-name = λ w at n r q a b. (a .0 ∙ sym (b .0), a .1 ∙ sym (b .1));
   look-up = λ w first t name r q a b. lookup.told-one r q (a ∙ sym b);
   find-path = λ w first t path r q a b. following.told-one r q (a ∙ sym b);
+  name = λ w first t o r q a b. (a .0 ∙ sym (b .0), a .1 ∙ sym (b .1));
   enter = λ w first t o r q a b. place.entered-one r q (a ∙ sym b);
   left = λ w first t o r q a b. place.linked-one r q (a ∙ sym b);
   right = λ w first t o r q a b. place.linked-one r q (a ∙ sym b);

@@ -1,10 +1,12 @@
 -- DETERMINED: no two differing answers satisfy a contract, nor do two differing contents of the lent memory. For
--- each public operation whose answer is an enum; the contract of every other reads `r ≡ D`, with D of the arguments
--- alone. Assumes nothing.
+-- each public operation whose answer is an enum, and for a name, which is a part of the window; the contract of every
+-- other reads `r ≡ D`, with D of the arguments alone. Assumes nothing.
 use Prim.Native.Nat.{ℕ}
 use mathlib.Core.Path.{_≡_}
 use mathlib.Core.List.{List}
 use lib.ListN.{length}
+use denote.Ref.{RefT, ptr, now}
+use Rattle.units.specs.Lent.{IsPart}
 use Rattle.units.specs.declared.Sector.{Sector}
 use Rattle.units.specs.declared.Region.{Region}
 use Rattle.units.specs.declared.Offset.{Offset}
@@ -33,6 +35,10 @@ One {R} allows = (r s : R) → allows r → allows s → r ≡ s
 abbrev pub OneAndMemory : {R M : Type 0} → (R → M → Type 0) → Type 0
 OneAndMemory {R} {M} allows = (r s : R) (m n : M) → allows r m → allows s n → (r ≡ s) × (m ≡ n)
 
+-- a contract allows one part of a slice: one place that it points to, and one content
+abbrev pub OnePart : (RefT (List ℕ) → Type 0) → Type 0
+OnePart allows = (r s : RefT (List ℕ)) → allows r → allows s → (ptr r ≡ ptr s) × (now r ≡ now s)
+
 pub record Determined : Type 0 where
   pub read-descriptor : (s : List ℕ) → One (λ r. volume.readTold r ≡ volume.readOf s)
   pub write-descriptor : (out : List ℕ) (d : Descriptor)
@@ -41,10 +47,13 @@ pub record Determined : Type 0 where
   pub locate : (t : Region) (o : Offset) → One (λ r. locating.told r ≡ locating.locateOf t o)
   pub read-entry : (w : List ℕ) (first : Sector) (t : Region) (o : ℕ)
       → One (λ r. entry.told r ≡ entry.readAt w first t o)
+  pub entry-name : (w : RefT (List ℕ)) (at n : ℕ) → OnePart (λ r. IsPart r w (entry.namePart (now w) at n))
   pub look-up : (w : List ℕ) (first : Sector) (t : Region) (name : List ℕ)
       → One (λ r. lookup.told r ≡ lookup.lookupOf w first t name)
   pub find-path : (w : List ℕ) (first : Sector) (t : Region) (path : List ℕ)
       → One (λ r. following.told r ≡ following.pathOf w first t path)
+  pub name : (w : RefT (List ℕ)) (first : Sector) (t : Region) (o : ℕ)
+      → OnePart (λ r. IsPart r w (place.nameAt (now w) first t o))
   pub enter : (w : List ℕ) (first : Sector) (t : Region) (o : ℕ)
       → One (λ r. place.entered r ≡ place.tableAt w first t o)
   pub left : (w : List ℕ) (first : Sector) (t : Region) (o : ℕ) → One (λ r. place.linked r ≡ place.leftAt w first t o)

@@ -1,7 +1,7 @@
 // Little-endian numbers read from bytes and written to them, and runs of bytes written: the only stores of the
 // library into bytes.
-use widths::u16_as_u32;
 use widths::u8_as_u16;
+use widths::u16_as_u32;
 ghost use mathlib.Core.Path.{_≡_};
 ghost use mathlib.Core.List.{[], _∷_, _++_};
 ghost use Prim.Native.Nat.{_+_, _≤_, _<_};

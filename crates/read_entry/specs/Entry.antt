@@ -45,7 +45,7 @@ readAt w first t o = readFrom w first o (locateOf t (record { 0 = o }))
 unfoldable pub nameOf : List ℕ → ℕ → ℕ → List ℕ
 nameOf w place n = take n (drop (place + 14) w)
 
--- and where it stands; past the window's end it is empty, and stands at the window's start
+-- and which part that is; where byte 14 of the entry is past the window's end, the empty part at the window's start
 abbrev pub namePart : List ℕ → ℕ → ℕ → Part
 namePart w place n = record { start = pick (ltb (length w) (place + 14)) 0 (place + 14); bytes = nameOf w place n }
 

@@ -82,7 +82,7 @@ pub fn part_of(w: &[u8], first: Sector, table: Region) -> &[u8]
 }
 
 // The name of an entry whose first byte stands at a place of the window, as that part of the window itself: what the
-// window has of n bytes from byte 14 of the entry on.
+// window has of n bytes from byte 14 of the entry on; past the window's end, the empty part at its start.
 pub fn name_part(w: &[u8], place: usize, n: u32) -> &[u8]
     ensures { λ r. ⌜ IsPart r (w .entry) (namePart (was w) place n) ⌝ }
 {

@@ -112,8 +112,8 @@ impl<'a> Reader<'a> {
         xdvdfs::read_entry(self.window, self.first, self.table, self.at)
     }
 
-    // The name of the entry at the position, as that part of the window itself; where there is no
-    // entry, the empty part at the window's start.
+    // The name of the entry at the position, as that part of the window itself; where there is no entry, the empty
+    // part at the window's start.
     pub fn name(self) -> &'a [u8]
         ensures { λ r. let s = self .entry in
             ⌜ IsPart r (s .window) (place.nameAt (now (s .window)) (s .first) (s .table) (s .at .0)) ⌝ }

@@ -72,7 +72,8 @@ pub fn read_entry(w: &[u8], first: Sector, table: Region, offset: Offset) -> Rea
     read_entry::read_at(w, first, table, offset)
 }
 
-// The name of an entry whose first byte stands at a place of the window: that part of the window itself.
+// The name of an entry whose first byte stands at a place of the window: that part of the window itself. Where it
+// would start past the window's end, the empty part at the window's start.
 pub fn entry_name(w: &[u8], place: usize, n: u8) -> &[u8]
     ensures name { λ r. ⌜ IsPart r (w .entry) (entry.namePart (was w) place n) ⌝ }
 {
