@@ -29,25 +29,13 @@ use avl_keyed::seek;
 use avl_model::Place;
 use avl_model::Spot;
 use avl_turn::index;
+use dirtab_entry::Cause;
 use dirtab_entry::Entry;
 use dirtab_entry::EntryChecked;
 use dirtab_entry::check_entry;
 use dirtab_entry::kind_of;
 use layout_name::Order;
 use layout_name::compare;
-
-// Why an entry is refused.
-pub enum Cause {
-    // 1, 2, 3, 5: the entry by itself.
-    EmptyName,
-    BadByte,
-    NameTooLong,
-    SizeOverflow,
-    // 4: an equal name is there.
-    DuplicateFileName,
-    // 6: 16,384 entries are there.
-    Room,
-}
 
 // What a step on an entry answers.
 pub enum Step {
@@ -82,10 +70,7 @@ fn check_at(names: &[u8], start: &[u32], len: &[u32], size: &[u32], kind: &[u8],
     };
     match check_entry(names, entry) {
         EntryChecked::Good => Step::Taken,
-        EntryChecked::EmptyName => Step::Refused(Cause::EmptyName),
-        EntryChecked::BadByte => Step::Refused(Cause::BadByte),
-        EntryChecked::NameTooLong => Step::Refused(Cause::NameTooLong),
-        EntryChecked::SizeOverflow => Step::Refused(Cause::SizeOverflow),
+        EntryChecked::Refused(cause) => Step::Refused(cause),
     }
 }
 
