@@ -1,6 +1,7 @@
 // An answer of `xdvdfs` as a number and cells: for each answer a function that puts its values into lent cells,
 // leaves the others unchanged, and gives the answer's number of docs/SCOPE.md, 0 for what is no refusal. Each
 // contract is over what the answer is told as (specs/Cells.antt).
+use dirtab_entry::number_of;
 use widths::u8_as_u32;
 use widths::u16_as_u32;
 use xdvdfs::Added;
@@ -293,12 +294,7 @@ pub fn store_added(r: Added, root: &mut u16, count: &mut u16) -> u32
             0
         }
         Added::BadArena => 12,
-        Added::EmptyName => 1,
-        Added::BadByte => 2,
-        Added::NameTooLong => 3,
-        Added::SizeOverflow => 5,
-        Added::DuplicateFileName => 4,
-        Added::Room => 6,
+        Added::Refused(cause) => number_of(cause),
     }
 }
 
@@ -336,29 +332,9 @@ pub fn store_written(r: ListWritten, table_size: &mut u32, free: &mut u32, entry
             0
         }
         ListWritten::Room => 6,
-        ListWritten::EmptyName(i) => {
+        ListWritten::Refused(cause, i) => {
             *entry = i;
-            1
-        }
-        ListWritten::BadByte(i) => {
-            *entry = i;
-            2
-        }
-        ListWritten::NameTooLong(i) => {
-            *entry = i;
-            3
-        }
-        ListWritten::SizeOverflow(i) => {
-            *entry = i;
-            5
-        }
-        ListWritten::DuplicateFileName(i) => {
-            *entry = i;
-            4
-        }
-        ListWritten::EntryRoom(i) => {
-            *entry = i;
-            6
+            number_of(cause)
         }
         ListWritten::TooManyDirectoryEntries => 7,
         ListWritten::SectorOverflow => 8,
@@ -392,29 +368,9 @@ pub fn store_planned(r: Planned, free: &mut u32, entry: &mut u32, directory: &mu
             *entry = large;
             10
         }
-        Planned::EmptyName(j) => {
+        Planned::Refused(cause, j) => {
             *entry = j;
-            1
-        }
-        Planned::BadByte(j) => {
-            *entry = j;
-            2
-        }
-        Planned::NameTooLong(j) => {
-            *entry = j;
-            3
-        }
-        Planned::SizeOverflow(j) => {
-            *entry = j;
-            5
-        }
-        Planned::DuplicateFileName(j) => {
-            *entry = j;
-            4
-        }
-        Planned::EntryRoom(j) => {
-            *entry = j;
-            6
+            number_of(cause)
         }
     }
 }

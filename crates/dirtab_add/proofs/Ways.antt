@@ -7,9 +7,12 @@ use mathlib.Core.List.{List, []}
 use lib.ListN.{length, set, take, drop, length-take}
 use Rattle.units.specs.Told.{Told, gives, refuses, pick}
 use Rattle.dirtab_entry.specs.declared.Entry as given
+use Rattle.dirtab_entry.specs.declared.Cause.{Cause}
+use Rattle.dirtab_entry.specs.declared.Cause.the-variants.{DuplicateFileName, Room}
 use Rattle.dirtab_entry.specs.declared.EntryChecked.{EntryChecked}
+use Rattle.dirtab_entry.specs.declared.EntryChecked.the-variants as checked
 use Rattle.dirtab_entry.specs.Entry as entry
-use Rattle.dirtab_entry.specs.Entry.{storedSize, nameIn, checkOf}
+use Rattle.dirtab_entry.specs.Entry.{numberOf, storedSize, nameIn, checkOf}
 use Rattle.avl_model.specs.declared.Place.{Place}
 use Rattle.avl_model.specs.declared.Place.the-variants.{Root}
 use Rattle.avl_model.specs.declared.Spot.{Spot}
@@ -55,22 +58,22 @@ module _ (A : Arena) (e : given.Entry) where
     passed-on = ap (λ (x : Bool). pick x (ifTaken (checkOf (A .bytes) e) (ifFree (spotIn (orderTo A e) (treeOf A) Root) (pick (hasRoom (A .count) (A .columns)) grownIs (refuses 6 [])))) (refuses 12 [])) p
 
     -- 1, 2, 3, 5
-    pub bad-entry : {r x : EntryChecked} → entry.told r ≡ checkOf (A .bytes) e → r ≡ x → (k : ℕ) (a : Added) → entry.told x ≡ refuses k [] → told a ≡ refuses k [] → Refusing A e a
-    bad-entry {r} {x} er ex k a ek ea = record {
-      number = k;
-      told-is = ea;
-      answer = passed-on ∙ ap (λ (z : Told (Unit {0})). ifTaken z (ifFree (spotIn (orderTo A e) (treeOf A) Root) (pick (hasRoom (A .count) (A .columns)) grownIs (refuses 6 [])))) (sym er ∙ ap entry.told ex ∙ ek);
+    pub bad-entry : {r : EntryChecked} {c : Cause} → entry.told r ≡ checkOf (A .bytes) e → r ≡ checked.Refused c → Refusing A e (added.Refused c)
+    bad-entry {r} {c} er ec = record {
+      number = numberOf c;
+      told-is = refl;
+      answer = passed-on ∙ ap (λ (z : Told (Unit {0})). ifTaken z (ifFree (spotIn (orderTo A e) (treeOf A) Root) (pick (hasRoom (A .count) (A .columns)) grownIs (refuses 6 [])))) (sym er ∙ ap entry.told ec);
     }
 
-    pub good-entry : {r x : EntryChecked} → entry.told r ≡ checkOf (A .bytes) e → r ≡ x → entry.told x ≡ gives tt → Checked A e
-    good-entry {r} {x} er ex ek = record { passes = p; taken = sym er ∙ ap entry.told ex ∙ ek }
+    pub good-entry : {r : EntryChecked} → entry.told r ≡ checkOf (A .bytes) e → r ≡ checked.Good → Checked A e
+    good-entry er ex = record { passes = p; taken = sym er ∙ ap entry.told ex }
 
   module _ (c : Checked A e) where
     checked-on : addOf A e ≡ ifFree (spotIn (orderTo A e) (treeOf A) Root) (pick (hasRoom (A .count) (A .columns)) grownIs (refuses 6 []))
     checked-on = passed-on (c .passes) ∙ ap (λ (z : Told (Unit {0})). ifTaken z (ifFree (spotIn (orderTo A e) (treeOf A) Root) (pick (hasRoom (A .count) (A .columns)) grownIs (refuses 6 [])))) (c .taken)
 
     module _ {s : Spot} (es : s ≡ spotIn (orderTo A e) (treeOf A) Root) where
-      pub same-name : {i : ℕ} → s ≡ Same i → Refusing A e added.DuplicateFileName
+      pub same-name : {i : ℕ} → s ≡ Same i → Refusing A e (added.Refused DuplicateFileName)
       same-name h = record {
         number = 4;
         told-is = refl;
@@ -81,7 +84,7 @@ module _ (A : Arena) (e : given.Entry) where
         room-is : b ≡ hasRoom (A .count) (A .columns)
         room-is = eb ∙ ap (λ (v : ℕ). hasRoom v (A .columns)) (en .0)
 
-        pub no-room : b ≡ false → Refusing A e added.Room
+        pub no-room : b ≡ false → Refusing A e (added.Refused Room)
         no-room h = record {
           number = 6;
           told-is = refl;

@@ -9,7 +9,7 @@ use Rattle.layout_name.specs.declared.Order.{Order}
 use Rattle.dirtab_entry.specs.declared.Entry as given
 use Rattle.dirtab_entry.specs.declared.Kind.{Kind}
 use Rattle.dirtab_entry.specs.declared.Kind.the-variants.{File, Directory}
-use Rattle.dirtab_entry.specs.Entry.{storedSize, nameIn, checkOf}
+use Rattle.dirtab_entry.specs.Entry.{numberOf, storedSize, nameIn, checkOf}
 use Rattle.avl_model.specs.declared.Spot.{Spot}
 use Rattle.avl_model.specs.declared.Spot.the-variants.{Same, Free}
 use Rattle.avl_model.specs.declared.Place.the-variants.{Root}
@@ -100,9 +100,4 @@ columnsAfter A e = ifGiven (addOf A e) (columnsWith A e) (A .columns)
 abbrev pub told : Added → Told Grown
 told (added.Done t) = gives (record { root = t .root; count = t .count })
 told added.BadArena = refuses 12 []
-told added.EmptyName = refuses 1 []
-told added.BadByte = refuses 2 []
-told added.NameTooLong = refuses 3 []
-told added.SizeOverflow = refuses 5 []
-told added.DuplicateFileName = refuses 4 []
-told added.Room = refuses 6 []
+told (added.Refused c) = refuses (numberOf c) []

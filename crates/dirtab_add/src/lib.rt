@@ -23,6 +23,7 @@ use avl_model::Place;
 use avl_model::Spot;
 use dirtab_arena::Held;
 use dirtab_arena::is_arena;
+use dirtab_entry::Cause;
 use dirtab_entry::Entry;
 use dirtab_entry::EntryChecked;
 use dirtab_entry::Kind;
@@ -37,15 +38,8 @@ pub enum Added {
     Done(Held),
     // 12: the held nodes are not one ordered, balanced tree of entries that adding takes.
     BadArena,
-    // 1, 2, 3, 5: the entry by itself.
-    EmptyName,
-    BadByte,
-    NameTooLong,
-    SizeOverflow,
-    // 4: an equal name is there.
-    DuplicateFileName,
-    // 6: the arena is full, or holds 16,384 entries or more.
-    Room,
+    // 1, 2, 3, 5, 4, 6: the entry. 6 where the arena is full, or holds 16,384 entries or more.
+    Refused(Cause),
 }
 
 // What adding finds before it stores anything: a refusal, or the place where the new node goes.
@@ -150,12 +144,12 @@ fn judge_name(
     let n = u16_as_usize(tree.count);
     let spot = find_place(tree, left, right, start, len, names, entry);
     match spot {
-        Spot::Same(_i) => Verdict::Refuse(Added::DuplicateFileName),
+        Spot::Same(_i) => Verdict::Refuse(Added::Refused(Cause::DuplicateFileName)),
         Spot::Free(place) => {
             if has_room(n, left, right, parent, height, start, len, size, kind) {
                 return Verdict::Take(place);
             }
-            Verdict::Refuse(Added::Room)
+            Verdict::Refuse(Added::Refused(Cause::Room))
         }
     }
 }
@@ -206,10 +200,7 @@ fn judge(
                     entry,
                 );
             }
-            EntryChecked::EmptyName => return Verdict::Refuse(Added::EmptyName),
-            EntryChecked::BadByte => return Verdict::Refuse(Added::BadByte),
-            EntryChecked::NameTooLong => return Verdict::Refuse(Added::NameTooLong),
-            EntryChecked::SizeOverflow => return Verdict::Refuse(Added::SizeOverflow),
+            EntryChecked::Refused(cause) => return Verdict::Refuse(Added::Refused(cause)),
         }
     }
     Verdict::Refuse(Added::BadArena)

@@ -39,10 +39,7 @@ fn is_taken(names: &[u8], entry: Entry) -> bool
 {
     match check_entry(names, entry) {
         EntryChecked::Good => true,
-        EntryChecked::EmptyName => false,
-        EntryChecked::BadByte => false,
-        EntryChecked::NameTooLong => false,
-        EntryChecked::SizeOverflow => false,
+        EntryChecked::Refused(_) => false,
     }
 }
 

@@ -10,12 +10,15 @@ use Rattle.dirtab_entry.specs.declared.Kind.{Kind}
 use Rattle.dirtab_entry.specs.declared.Kind.the-variants.{File, Directory}
 use Rattle.dirtab_entry.specs.declared.Entry.{Entry}
 use Rattle.dirtab_entry.specs.declared.EntryChecked.{EntryChecked}
-use Rattle.dirtab_entry.specs.declared.EntryChecked.the-variants.{
-  Good,
+use Rattle.dirtab_entry.specs.declared.EntryChecked.the-variants.{Good, Refused}
+use Rattle.dirtab_entry.specs.declared.Cause.{Cause}
+use Rattle.dirtab_entry.specs.declared.Cause.the-variants.{
   EmptyName,
   BadByte,
   NameTooLong,
   SizeOverflow,
+  DuplicateFileName,
+  Room,
 }
 
 -- the kind that a column's number says: 1 is a directory, any other a file
@@ -59,10 +62,16 @@ checkOf names e =
     (pick (pick (isDirectory (e .kind)) (ltb 4294965248 (e .size)) false) (refuses 5 [])
     (gives tt)))))
 
+-- the number of a cause
+abbrev pub numberOf : Cause → ℕ
+numberOf EmptyName = 1
+numberOf BadByte = 2
+numberOf NameTooLong = 3
+numberOf DuplicateFileName = 4
+numberOf SizeOverflow = 5
+numberOf Room = 6
+
 -- what each answer stands for
 abbrev pub told : EntryChecked → Told (Unit {0})
 told Good = gives tt
-told EmptyName = refuses 1 []
-told BadByte = refuses 2 []
-told NameTooLong = refuses 3 []
-told SizeOverflow = refuses 5 []
+told (Refused c) = refuses (numberOf c) []

@@ -3,7 +3,7 @@ ghost use mathlib.Core.Path.{_≡_};
 ghost use mathlib.Core.Bool.{true};
 ghost use Prim.Native.Nat.{_≤_};
 ghost use Rattle.units.specs.Lent.{was};
-ghost use Rattle.dirtab_entry.specs.Entry.{told, checkOf, anyBad, isDirectory, storedSize, kindFor};
+ghost use Rattle.dirtab_entry.specs.Entry.{numberOf, told, checkOf, anyBad, isDirectory, storedSize, kindFor};
 
 pub enum Kind {
     File,
@@ -18,9 +18,8 @@ pub struct Entry {
     pub size: u32,
 }
 
-// What checking an entry answers.
-pub enum EntryChecked {
-    Good,
+// Why an entry is refused.
+pub enum Cause {
     // 1: the name is empty.
     EmptyName,
     // 2: a byte is 0 or above 127, or the name's place reaches past the bytes lent.
@@ -29,6 +28,30 @@ pub enum EntryChecked {
     NameTooLong,
     // 5: a directory's size is above 4,294,965,248.
     SizeOverflow,
+    // 4: an equal name is there.
+    DuplicateFileName,
+    // 6: no place is left, or 16,384 entries are there.
+    Room,
+}
+
+// What checking an entry answers.
+pub enum EntryChecked {
+    Good,
+    Refused(Cause),
+}
+
+// The number of a cause.
+pub fn number_of(cause: Cause) -> u32
+    ensures { λ r. ⌜ r ≡ numberOf cause ⌝ }
+{
+    match cause {
+        Cause::EmptyName => 1,
+        Cause::BadByte => 2,
+        Cause::NameTooLong => 3,
+        Cause::DuplicateFileName => 4,
+        Cause::SizeOverflow => 5,
+        Cause::Room => 6,
+    }
 }
 
 // The kind that a column's number says: 1 is a directory, any other a file.
@@ -68,22 +91,22 @@ pub fn check_entry(names: &[u8], entry: Entry) -> EntryChecked
     let len = entry.len as usize;
     let start = entry.start as usize;
     if len == 0 {
-        return EntryChecked::EmptyName;
+        return EntryChecked::Refused(Cause::EmptyName);
     }
     if names.len() < start + len {
-        return EntryChecked::BadByte;
+        return EntryChecked::Refused(Cause::BadByte);
     }
     let end = start + len;
     if any_bad(&names[start..end]) {
-        return EntryChecked::BadByte;
+        return EntryChecked::Refused(Cause::BadByte);
     }
     if 255 < len {
-        return EntryChecked::NameTooLong;
+        return EntryChecked::Refused(Cause::NameTooLong);
     }
     let kind = entry.kind;
     if is_directory(kind) {
         if 4294965248 < entry.size {
-            return EntryChecked::SizeOverflow;
+            return EntryChecked::Refused(Cause::SizeOverflow);
         }
     }
     EntryChecked::Good

@@ -8,10 +8,11 @@ use lib.Dec.{ltb}
 use lib.ListN.{length, getD, drop, length-take}
 use borrow.Author.Tests.{lt-ltb, le-ltb}
 use Rattle.units.specs.Told.{Told, gives, refuses, pick}
+use Rattle.dirtab_entry.specs.declared.Cause.{Cause}
 use Rattle.dirtab_entry.specs.declared.Kind.{Kind}
 use Rattle.dirtab_entry.specs.declared.Entry as given
 use Rattle.dirtab_entry.specs.declared.EntryChecked.{EntryChecked}
-use Rattle.dirtab_entry.specs.Entry.{kindFor, checkOf, told}
+use Rattle.dirtab_entry.specs.Entry.{kindFor, checkOf, numberOf, told}
 use Rattle.avl_model.specs.declared.Place.{Place}
 use Rattle.avl_model.specs.declared.Place.the-variants.{Root}
 use Rattle.avl_model.specs.declared.Spot.{Spot}
@@ -22,10 +23,9 @@ use Rattle.avl_model.specs.Seek.{spotIn}
 use Rattle.avl_keyed.specs.inner.Key.{keyFor}
 use Rattle.dirtab_grow.specs.declared.Step.{Step}
 use Rattle.dirtab_grow.specs.declared.Step.the-variants as step
-use Rattle.dirtab_grow.specs.declared.Cause.{Cause}
 use Rattle.dirtab_grow.specs.Listing.{Listing, givenIn}
 use Rattle.dirtab_grow.specs.Grow.{ifTaken, ifFree}
-use Rattle.dirtab_grow.specs.inner.Growing.{numberOf, goOn, stepOf}
+use Rattle.dirtab_grow.specs.inner.Growing.{goOn, stepOf}
 
 -- the entry i as the code makes it of its columns; `at` is i, as it is read as an index
 module _ (L : Listing) {at i : ℕ} {k : Kind} (is : at ≡ i) (kind-is : k ≡ kindFor (getD (L .kind) at 0)) where

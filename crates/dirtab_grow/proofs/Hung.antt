@@ -5,6 +5,8 @@ use mathlib.Core.Path.{_≡_, sym, subst}
 use mathlib.Core.List.{List, [], _∷_}
 use lib.ListN.{length, set}
 use Rattle.units.specs.Told.{Told, gives, refuses}
+use Rattle.dirtab_entry.specs.declared.Cause.{Cause}
+use Rattle.dirtab_entry.specs.Entry.{numberOf}
 use Rattle.avl_model.specs.declared.Place.{Place}
 use Rattle.avl_model.specs.declared.Place.the-variants.{Root}
 use Rattle.avl_model.specs.declared.Spot.{Spot}
@@ -17,11 +19,10 @@ use Rattle.avl_model.specs.inner.Held.{Long, Whole}
 use Rattle.avl_model.specs.Seek.{spotIn}
 use Rattle.avl_keyed.specs.inner.Key.{Keyed, KeySought}
 use Rattle.avl_model.specs.inner.Insert.{Placed}
-use Rattle.dirtab_grow.specs.declared.Cause.{Cause}
 use Rattle.dirtab_grow.specs.declared.Seat.{Seat}
 use Rattle.dirtab_grow.specs.declared.Seat.the-variants as seat
 use Rattle.dirtab_grow.specs.declared.Step.the-variants as step
-use Rattle.dirtab_grow.specs.inner.Growing.{numberOf, stepOf, Growing, Seated, Stepped}
+use Rattle.dirtab_grow.specs.inner.Growing.{stepOf, Growing, Seated, Stepped}
 use Rattle.dirtab_grow.proofs.Checked.{seat-free}
 use Rattle.dirtab_grow.proofs.Columns.{sought-in, arena-in, grown-more, keyed-more}
 

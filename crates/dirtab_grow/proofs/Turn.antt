@@ -9,7 +9,8 @@ use lib.ListN.{length}
 use borrow.Author.Tests.{eqb-true}
 use Rattle.layout_name.specs.declared.Order.the-variants.{Greater}
 use Rattle.units.specs.Told.{Told, refuses}
-use Rattle.dirtab_entry.specs.Entry.{checkOf}
+use Rattle.dirtab_entry.specs.declared.Cause.{Cause}
+use Rattle.dirtab_entry.specs.Entry.{numberOf, checkOf}
 use Rattle.avl_model.specs.declared.Place.the-variants.{Root}
 use Rattle.avl_model.specs.Tree.{Tree, leaf, none, ins}
 use Rattle.avl_model.specs.Lists.{Lists, lists}
@@ -18,12 +19,11 @@ use Rattle.avl_model.specs.Names.{Names, namesIn, byName, toName, isLess}
 use Rattle.avl_model.specs.Seek.{spotIn}
 use Rattle.avl_model.specs.Laws.{All}
 use Rattle.avl_keyed.specs.inner.Key.{Keyed}
-use Rattle.dirtab_grow.specs.declared.Cause.{Cause}
 use Rattle.dirtab_grow.specs.declared.Step.{Step}
 use Rattle.dirtab_grow.specs.declared.Step.the-variants as step
 use Rattle.dirtab_grow.specs.Listing.{Listing, listing, givenIn}
 use Rattle.dirtab_grow.specs.Grow.{growFrom, orderIn, grow}
-use Rattle.dirtab_grow.specs.inner.Growing.{numberOf, goOn, stepOf, After, Grown, Growing, Lent, Wide, Roomy, Stepped, Holding}
+use Rattle.dirtab_grow.specs.inner.Growing.{goOn, stepOf, After, Grown, Growing, Lent, Wide, Roomy, Stepped, Holding}
 use Rattle.dirtab_grow.proofs.Rightmost.{Rightmost, first-in, goes-right, one-after}
 
 module _ (L : Listing) where

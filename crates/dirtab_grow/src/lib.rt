@@ -28,6 +28,7 @@ use avl_keyed::key_of;
 use avl_keyed::seek;
 use avl_model::Place;
 use avl_model::Spot;
+use dirtab_entry::Cause;
 use dirtab_entry::Entry;
 use dirtab_entry::EntryChecked;
 use dirtab_entry::check_entry;
@@ -36,19 +37,6 @@ use layout_name::Order;
 use layout_name::compare;
 use widths::u16_as_usize;
 use widths::u32_as_usize;
-
-// Why an entry is refused.
-pub enum Cause {
-    // 1, 2, 3, 5: the entry by itself.
-    EmptyName,
-    BadByte,
-    NameTooLong,
-    SizeOverflow,
-    // 4: an equal name is there.
-    DuplicateFileName,
-    // 6: 16,384 entries are there.
-    Room,
-}
 
 // What a step on an entry answers.
 pub enum Step {
@@ -83,10 +71,7 @@ fn check_at(names: &[u8], start: &[u32], len: &[u32], size: &[u32], kind: &[u8],
     };
     match check_entry(names, entry) {
         EntryChecked::Good => Step::Taken,
-        EntryChecked::EmptyName => Step::Refused(Cause::EmptyName),
-        EntryChecked::BadByte => Step::Refused(Cause::BadByte),
-        EntryChecked::NameTooLong => Step::Refused(Cause::NameTooLong),
-        EntryChecked::SizeOverflow => Step::Refused(Cause::SizeOverflow),
+        EntryChecked::Refused(cause) => Step::Refused(cause),
     }
 }
 

@@ -7,19 +7,19 @@ use mathlib.Core.List.{List, [], _∷_}
 use lib.Dec.{leb, ltb}
 use lib.ListN.{length}
 use Rattle.units.specs.Told.{Told, gives, refuses, pick}
-use Rattle.dirtab_entry.specs.Entry.{rounded}
+use Rattle.dirtab_entry.specs.declared.Cause.{Cause}
+use Rattle.dirtab_entry.specs.Entry.{rounded, numberOf}
 use Rattle.avl_model.specs.Tree.{Tree}
 use Rattle.table_model.specs.Entry.{Entry}
 use Rattle.table_model.specs.Place.{freeOf, items}
 use Rattle.table_model.specs.Table.{Placing, anyFar, sizeOf, placeOf, tableBytes}
 use Rattle.dirtab.specs.Serialise.{ifFits, ifWritten}
 use Rattle.dirtab.specs.inner.Steps.{Rooted, writingOf, writingOut}
-use Rattle.dirtab_grow.specs.declared.Cause.{Cause}
 use Rattle.dirtab_grow.specs.declared.Built.{Built}
 use Rattle.dirtab_grow.specs.declared.Built.the-variants as built
 use Rattle.dirtab_grow.specs.Listing.{Listing, givenIn}
 use Rattle.dirtab_grow.specs.Grow.{grow}
-use Rattle.dirtab_grow.specs.inner.Growing.{numberOf, Outcome, Holding}
+use Rattle.dirtab_grow.specs.inner.Growing.{Outcome, Holding}
 use Rattle.avl_model.specs.Lists.{Lists}
 use Rattle.avl_model.specs.Names.{Names}
 use Rattle.dirtab_list.specs.Whole.{entryIn, ifGrown, tableFor}

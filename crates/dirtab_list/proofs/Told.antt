@@ -1,43 +1,26 @@
 -- What an answer stands for is one-to-one: no two answers are told alike. Assumes nothing.
-use Prim.Native.Nat.{ℕ}
 use mathlib.Core.Path.{_≡_, refl, sym, ap, _∙_}
-use mathlib.Core.List.{List, [], _∷_}
+use mathlib.Core.List.{[], _∷_}
 use lib.Dec.{eqb}
-use lib.ListN.{getD}
 use Rattle.units.specs.Told.{Told, gives, refuses, pick}
+use Rattle.dirtab_entry.proofs.Told.{forNumber, for-number}
 use Rattle.table_model.specs.Table.{Placing}
 use Rattle.dirtab_list.specs.declared.ListWritten.{ListWritten}
 use Rattle.dirtab_list.specs.declared.ListWritten.the-variants as written
 use Rattle.dirtab_list.specs.Whole.{told}
 
--- 6 with the number of an entry, or without
-backRoom : List ℕ → ListWritten
-backRoom [] = written.Room
-backRoom (i ∷ vs) = written.EntryRoom i
-
 -- the answer again from what is told of it
 back : Told Placing → ListWritten
 back (gives p) = written.Done (p .size) (record { 0 = p .free })
-back (refuses k vs) =
-    pick (eqb k 1) (written.EmptyName (getD vs 0 0))
-    (pick (eqb k 2) (written.BadByte (getD vs 0 0))
-    (pick (eqb k 3) (written.NameTooLong (getD vs 0 0))
-    (pick (eqb k 4) (written.DuplicateFileName (getD vs 0 0))
-    (pick (eqb k 5) (written.SizeOverflow (getD vs 0 0))
-    (pick (eqb k 6) (backRoom vs)
-    (pick (eqb k 7) written.TooManyDirectoryEntries
-    (pick (eqb k 8) written.SectorOverflow written.BufferTooSmall)))))))
+back (refuses k (i ∷ vs)) = forNumber (λ c. written.Refused c i) written.Room k
+back (refuses k []) =
+    pick (eqb k 7) written.TooManyDirectoryEntries (pick (eqb k 8) written.SectorOverflow (pick (eqb k 9) written.BufferTooSmall written.Room))
 
 back-told : (a : ListWritten) → back (told a) ≡ a
-unfolding back backRoom
+unfolding back
 back-told (written.Done z f) = refl
 back-told written.Room = refl
-back-told (written.EmptyName i) = refl
-back-told (written.BadByte i) = refl
-back-told (written.NameTooLong i) = refl
-back-told (written.SizeOverflow i) = refl
-back-told (written.DuplicateFileName i) = refl
-back-told (written.EntryRoom i) = refl
+back-told (written.Refused c i) = for-number (λ b. written.Refused b i) written.Room c
 back-told written.TooManyDirectoryEntries = refl
 back-told written.SectorOverflow = refl
 back-told written.BufferTooSmall = refl

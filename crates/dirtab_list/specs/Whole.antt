@@ -7,7 +7,7 @@ use lib.ListN.{length, getD, replicate}
 use denote.Triple.Both.{Both}
 use Rattle.units.specs.Told.{Told, gives, refuses, pick}
 use Rattle.units.specs.Lent.{Slice, was, is}
-use Rattle.dirtab_entry.specs.Entry.{kindFor, storedSize, nameIn}
+use Rattle.dirtab_entry.specs.Entry.{kindFor, numberOf, storedSize, nameIn}
 use Rattle.avl_model.specs.Tree.{Tree}
 use Rattle.table_model.specs.Entry.{Entry}
 use Rattle.table_model.specs.Table.{Placing, placeOf, tableBytes}
@@ -119,12 +119,7 @@ lentAfter L s m = record {
 abbrev pub told : ListWritten → Told Placing
 told (written.Done z f) = gives (record { size = z; free = f .0 })
 told written.Room = refuses 6 []
-told (written.EmptyName i) = refuses 1 (i ∷ [])
-told (written.BadByte i) = refuses 2 (i ∷ [])
-told (written.NameTooLong i) = refuses 3 (i ∷ [])
-told (written.SizeOverflow i) = refuses 5 (i ∷ [])
-told (written.DuplicateFileName i) = refuses 4 (i ∷ [])
-told (written.EntryRoom i) = refuses 6 (i ∷ [])
+told (written.Refused c i) = refuses (numberOf c) (i ∷ [])
 told written.TooManyDirectoryEntries = refuses 7 []
 told written.SectorOverflow = refuses 8 []
 told written.BufferTooSmall = refuses 9 []

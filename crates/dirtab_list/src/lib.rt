@@ -2,8 +2,8 @@
 use dirtab::Serialised;
 use dirtab::write_held;
 use dirtab_arena::Held;
+use dirtab_entry::Cause;
 use dirtab_grow::Built;
-use dirtab_grow::Cause;
 use dirtab_grow::build;
 use scratch::clear_bytes;
 use scratch::clear_shorts;
@@ -12,7 +12,7 @@ use units::Sector;
 use widths::u32_as_usize;
 ghost use mathlib.Core.Path.{_≡_};
 ghost use mathlib.Core.Bool.{_&&_};
-ghost use mathlib.Core.List.{[], _∷_};
+ghost use mathlib.Core.List.{[]};
 ghost use Prim.Native.Nat.{_≤_, min};
 ghost use lib.Dec.{leb};
 ghost use lib.ListN.{length, replicate};
@@ -23,7 +23,7 @@ ghost use Rattle.avl_model.specs.Lists.{lists};
 ghost use Rattle.dirtab.specs.Serialise as serialise;
 ghost use Rattle.dirtab.specs.inner.Steps.{Rooted, RootedIn, writingOf, writingOut};
 ghost use Rattle.dirtab_grow.specs.Listing.{listing, listed};
-ghost use Rattle.dirtab_grow.specs.inner.Growing.{numberOf, Roomy};
+ghost use Rattle.dirtab_grow.specs.inner.Growing.{Roomy};
 ghost use Rattle.dirtab_list.specs.Whole.{told, entryIn, shortest, memory, answerIn, lentAfter};
 ghost use Rattle.dirtab_list.specs.inner.Steps.{answerOf, outputOf};
 
@@ -34,12 +34,7 @@ pub enum ListWritten {
     // 6: a lent column is shorter than the count.
     Room,
     // 1, 2, 3, 5, 4, 6: the first entry that adding refuses, by its number in the list.
-    EmptyName(u32),
-    BadByte(u32),
-    NameTooLong(u32),
-    SizeOverflow(u32),
-    DuplicateFileName(u32),
-    EntryRoom(u32),
+    Refused(Cause, u32),
     // 7, 8, 9: as serialising.
     TooManyDirectoryEntries,
     SectorOverflow,
@@ -91,20 +86,6 @@ fn have_places(n: usize, start: usize, len: usize, size: usize, kind: usize, scr
         return false;
     }
     n <= scratch
-}
-
-// The answer for an entry that is refused.
-fn refuse(cause: Cause, i: u32) -> ListWritten
-    ensures { λ r. ⌜ told r ≡ refuses (numberOf cause) (i ∷ []) ⌝ }
-{
-    match cause {
-        Cause::EmptyName => ListWritten::EmptyName(i),
-        Cause::BadByte => ListWritten::BadByte(i),
-        Cause::NameTooLong => ListWritten::NameTooLong(i),
-        Cause::SizeOverflow => ListWritten::SizeOverflow(i),
-        Cause::DuplicateFileName => ListWritten::DuplicateFileName(i),
-        Cause::Room => ListWritten::EntryRoom(i),
-    }
 }
 
 // What serialising answers, as an answer for a list. (12 is not met: the columns hold what was built.)
@@ -217,7 +198,7 @@ fn write_checked(
         height,
         key,
     ) {
-        Built::Refused(cause, i) => refuse(cause, i),
+        Built::Refused(cause, i) => ListWritten::Refused(cause, i),
         Built::Done => write_built(
             count,
             root,

@@ -2,7 +2,6 @@
 pub mod Adding
 pub mod Fewest
 pub mod Rooming
-pub mod Causes
 pub mod Handing
 pub mod Planning
 pub mod Cutting

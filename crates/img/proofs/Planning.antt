@@ -8,8 +8,8 @@ use borrow.Author.Tests.{lt-leb, le-leb}
 use lib.Dec.{leb}
 use lib.ListN.{length, replicate, length-replicate}
 use Rattle.units.specs.Told.{Told, gives, refuses, pick}
-use Rattle.dirtab_grow.specs.declared.Cause.{Cause}
-use Rattle.dirtab_grow.specs.inner.Growing.{numberOf}
+use Rattle.dirtab_entry.specs.declared.Cause.{Cause}
+use Rattle.dirtab_entry.specs.Entry.{numberOf}
 use Rattle.img_model.specs.Shares.{Request, columns, directoriesOf, countOf, isTree}
 use Rattle.img_model.specs.declared.Planned.{Planned}
 use Rattle.img_model.specs.declared.Planned.the-variants as planned
@@ -144,10 +144,10 @@ module _ (R : Request) (places : ℕ) (tables sectors : List ℕ) where
           ap (λ (u : Told (List ℕ)). ifSized u (λ s. takingUp R s (directoriesOf R) 0 (rooted R s tables sectors)))
           (sizes-any R (sizeable-tree R p x) (replicate (directoriesOf R) 0) old (length-replicate (directoriesOf R) 0) (even ∙ x .sized-is) ∙ sym sizes-told ∙ e)
 
-      pub entry-refused : (cause : Cause) (j : ℕ) (r : Planned) (sizes : List ℕ) → a ≡ arranged.Refused cause j → told r ≡ refuses (numberOf cause) (j ∷ []) →
-          PlannedBy r (planOf R places tables sectors) sizes sizes tables tables sectors sectors
-      entry-refused cause j r sizes e t =
-          refused-by r _ (numberOf cause) (j ∷ []) sizes tables sectors t (plan-from (refuses (numberOf cause) (j ∷ [])) (ap (λ (x : Arranged). toldSizes x zs) e))
+      pub entry-refused : (cause : Cause) (j : ℕ) (sizes : List ℕ) → a ≡ arranged.Refused cause j →
+          PlannedBy (planned.Refused cause j) (planOf R places tables sectors) sizes sizes tables tables sectors sectors
+      entry-refused cause j sizes e =
+          refused-by _ _ (numberOf cause) (j ∷ []) sizes tables sectors refl (plan-from (refuses (numberOf cause) (j ∷ [])) (ap (λ (x : Arranged). toldSizes x zs) e))
 
       pub file-refused : (j : ℕ) (sizes : List ℕ) → a ≡ arranged.FileTooLarge j →
           PlannedBy (planned.FileTooLarge j) (planOf R places tables sectors) sizes sizes tables tables sectors sectors

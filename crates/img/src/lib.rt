@@ -1,5 +1,4 @@
 // An image is planned over its directories: the size and the sector of each table, and the sector of each entry.
-use dirtab_grow::Cause;
 use img_model::Planned;
 use img_size::size_tables;
 use img_table::Arranged;
@@ -14,13 +13,10 @@ use scratch::copy_words;
 use widths::u32_as_usize;
 ghost use mathlib.Core.Path.{_≡_};
 ghost use mathlib.Core.Bool.{true, _&&_};
-ghost use mathlib.Core.List.{[], _∷_};
 ghost use Prim.Native.Nat.{_≤_, _<_, min};
 ghost use lib.Dec.{leb};
 ghost use lib.ListN.{length, take, replicate};
-ghost use Rattle.units.specs.Told.{refuses};
 ghost use Rattle.units.specs.Lent.{was, is};
-ghost use Rattle.dirtab_grow.specs.inner.Growing.{numberOf};
 ghost use Rattle.img_model.specs.Shares.{columns, isTree};
 ghost use Rattle.img_model.specs.inner.Shares.{columnsIn};
 ghost use Rattle.img_model.specs.Plan.{told, total, takingUp, rooted, planOf};
@@ -61,20 +57,6 @@ fn add_shares(share: &[u32]) -> u64
         d += 1;
     }
     sum
-}
-
-// The answer for an entry that is refused.
-fn refuse(cause: Cause, j: u32) -> Planned
-    ensures { λ r. ⌜ told r ≡ refuses (numberOf cause) (j ∷ []) ⌝ }
-{
-    match cause {
-        Cause::EmptyName => Planned::EmptyName(j),
-        Cause::BadByte => Planned::BadByte(j),
-        Cause::NameTooLong => Planned::NameTooLong(j),
-        Cause::SizeOverflow => Planned::SizeOverflow(j),
-        Cause::DuplicateFileName => Planned::DuplicateFileName(j),
-        Cause::Room => Planned::EntryRoom(j),
-    }
 }
 
 // Where all tables are sized: 7 and 8, and where neither is met every size and sector is given back.
@@ -175,7 +157,7 @@ fn plan_tree(
         size,
         order,
     ) {
-        Arranged::Refused(cause, j) => refuse(cause, j),
+        Arranged::Refused(cause, j) => Planned::Refused(cause, j),
         Arranged::FileTooLarge(j) => Planned::FileTooLarge(j),
         Arranged::Done => hand_out(
             from,

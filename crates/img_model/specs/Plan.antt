@@ -7,7 +7,7 @@ use lib.ListN.{getD, set, replicate}
 use Rattle.units.specs.Told.{Told, gives, refuses, pick}
 use Rattle.layout_sector.specs.Counter.{sectorsFor, alignedUp}
 use Rattle.dirtab_entry.specs.declared.Entry as given
-use Rattle.dirtab_entry.specs.Entry.{kindFor, storedSize, nameIn, checkOf}
+use Rattle.dirtab_entry.specs.Entry.{kindFor, numberOf, storedSize, nameIn, checkOf}
 use Rattle.avl_model.specs.Tree.{Tree, leaf}
 use Rattle.avl_model.specs.Order.{order}
 use Rattle.table_model.specs.Entry.{Entry}
@@ -144,11 +144,6 @@ told (planned.Done f) = gives (f .0)
 told planned.Room = refuses 6 []
 told planned.BadTree = refuses 11 []
 told (planned.FileTooLarge j) = refuses 10 (j ∷ [])
-told (planned.EmptyName j) = refuses 1 (j ∷ [])
-told (planned.BadByte j) = refuses 2 (j ∷ [])
-told (planned.NameTooLong j) = refuses 3 (j ∷ [])
-told (planned.SizeOverflow j) = refuses 5 (j ∷ [])
-told (planned.DuplicateFileName j) = refuses 4 (j ∷ [])
-told (planned.EntryRoom j) = refuses 6 (j ∷ [])
+told (planned.Refused c j) = refuses (numberOf c) (j ∷ [])
 told (planned.TooManyDirectoryEntries d) = refuses 7 (d ∷ [])
 told (planned.SectorOverflow d) = refuses 8 (d ∷ [])

@@ -1,5 +1,6 @@
 // The words that planning an image and its definitions share. No code: the definitions are in specs/, their laws in
 // proofs/.
+use dirtab_entry::Cause;
 use units::Sector;
 
 // What planning answers.
@@ -12,12 +13,7 @@ pub enum Planned {
     BadTree,
     // 10, 1, 2, 3, 5, 4, 6: the first entry that is refused, by its place in the list of entries.
     FileTooLarge(u32),
-    EmptyName(u32),
-    BadByte(u32),
-    NameTooLong(u32),
-    SizeOverflow(u32),
-    DuplicateFileName(u32),
-    EntryRoom(u32),
+    Refused(Cause, u32),
     // 7, 8: the first directory whose table cannot be placed.
     TooManyDirectoryEntries(u32),
     SectorOverflow(u32),

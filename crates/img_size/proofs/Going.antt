@@ -10,8 +10,8 @@ use lib.Seq.{getD-set-same}
 use Rattle.units.specs.Told.{Told, gives, refuses}
 use Rattle.avl_model.specs.Tree.{Tree}
 use Rattle.table_model.specs.Table.{sizeOf}
-use Rattle.dirtab_grow.specs.declared.Cause.{Cause}
-use Rattle.dirtab_grow.specs.inner.Growing.{numberOf}
+use Rattle.dirtab_entry.specs.declared.Cause.{Cause}
+use Rattle.dirtab_entry.specs.Entry.{numberOf}
 use Rattle.img_model.specs.Shares.{Request, Share, shareOf, directoriesOf, firstOf, countOf, entriesOf, part, isDirectory, valueOf}
 use Rattle.img_model.specs.Plan.{tableIn, entryIn, treeIn, sizesDown, total}
 use Rattle.img_model.proofs.Trees.{refused-inside, tree-same, size-same}

@@ -10,8 +10,8 @@ use Rattle.layout_node.specs.Header.{entryLength}
 use Rattle.avl_model.specs.Tree.{Tree}
 use Rattle.avl_model.specs.Order.{order}
 use Rattle.avl_model.proofs.Avl.{all-map}
-use Rattle.dirtab_grow.specs.declared.Cause.{Cause}
-use Rattle.dirtab_grow.specs.inner.Growing.{numberOf}
+use Rattle.dirtab_entry.specs.declared.Cause.{Cause}
+use Rattle.dirtab_entry.specs.Entry.{numberOf}
 use Rattle.dirtab_place.proofs.Along.{SameLength}
 use Rattle.dirtab_write.proofs.Bridge.{in-order}
 use Rattle.img_model.specs.Shares.{Share}

@@ -17,11 +17,12 @@ use Rattle.avl_model.specs.inner.Order.{Listed}
 use Rattle.avl_model.proofs.Adding.{links-of, below}
 use Rattle.avl_model.proofs.Avl.{at-most-22}
 use Rattle.avl_model.proofs.Counted.{each-size}
-use Rattle.dirtab_grow.specs.declared.Cause.{Cause}
+use Rattle.dirtab_entry.specs.declared.Cause.{Cause}
 use Rattle.dirtab_grow.specs.declared.Built.{Built}
 use Rattle.dirtab_grow.specs.declared.Built.the-variants as built
 use Rattle.dirtab_grow.specs.Listing.{listing}
-use Rattle.dirtab_grow.specs.inner.Growing.{numberOf, Grown, Holding, Outcome, Roomy}
+use Rattle.dirtab_entry.specs.Entry.{numberOf}
+use Rattle.dirtab_grow.specs.inner.Growing.{Grown, Holding, Outcome, Roomy}
 use Rattle.dirtab_grow.proofs.Prefix.{frame-grown}
 use Rattle.img_model.specs.Shares.{Share}
 use Rattle.img_model.specs.Plan.{sizeAt, treeIn}

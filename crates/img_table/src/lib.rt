@@ -1,7 +1,7 @@
 // One table of an image: its entries' sizes, their tree, its preorder, and its reported size.
 use avl_order::preorder;
+use dirtab_entry::Cause;
 use dirtab_grow::Built;
-use dirtab_grow::Cause;
 use dirtab_grow::build;
 use layout_node::entry_length;
 use widths::u16_as_usize;

@@ -22,12 +22,7 @@ fn number_of(r: Planned) -> u32
         Planned::Room => 6,
         Planned::BadTree => 11,
         Planned::FileTooLarge(_) => 10,
-        Planned::EmptyName(_) => 1,
-        Planned::BadByte(_) => 2,
-        Planned::NameTooLong(_) => 3,
-        Planned::SizeOverflow(_) => 5,
-        Planned::DuplicateFileName(_) => 4,
-        Planned::EntryRoom(_) => 6,
+        Planned::Refused(cause, _) => dirtab_entry::number_of(cause),
         Planned::TooManyDirectoryEntries(_) => 7,
         Planned::SectorOverflow(_) => 8,
     }

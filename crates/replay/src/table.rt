@@ -5,6 +5,7 @@ use crate::record::is;
 use crate::record::number_at;
 use crate::record::part;
 use crate::record::short_at;
+use dirtab_entry::number_of;
 use xdvdfs::ListWritten;
 use xdvdfs::Sector;
 ghost use Prim.Native.Nat.{_<_};
@@ -48,12 +49,7 @@ fn answer_is(s: &[u8], r: ListWritten) -> bool {
     match r {
         ListWritten::Done(size, next) => is_written(s, 0, 0, size, next.number()),
         ListWritten::Room => is_written(s, 6, 0, 0, 0),
-        ListWritten::EmptyName(i) => is_written(s, 1, i, 0, 0),
-        ListWritten::BadByte(i) => is_written(s, 2, i, 0, 0),
-        ListWritten::NameTooLong(i) => is_written(s, 3, i, 0, 0),
-        ListWritten::SizeOverflow(i) => is_written(s, 5, i, 0, 0),
-        ListWritten::DuplicateFileName(i) => is_written(s, 4, i, 0, 0),
-        ListWritten::EntryRoom(i) => is_written(s, 6, i, 0, 0),
+        ListWritten::Refused(cause, i) => is_written(s, number_of(cause), i, 0, 0),
         ListWritten::TooManyDirectoryEntries => is_written(s, 7, 0, 0, 0),
         ListWritten::SectorOverflow => is_written(s, 8, 0, 0, 0),
         ListWritten::BufferTooSmall => is_written(s, 9, 0, 0, 0),

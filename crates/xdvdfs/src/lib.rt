@@ -11,6 +11,7 @@
 pub use dirtab::Serialised;
 pub use dirtab_add::Added;
 pub use dirtab_arena::Held;
+pub use dirtab_entry::Cause;
 pub use dirtab_entry::Entry;
 pub use dirtab_entry::Kind;
 pub use dirtab_entry::kind_of;

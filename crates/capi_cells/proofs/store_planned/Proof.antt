@@ -1,10 +1,10 @@
 -- `store_planned` meets its contract: the number and the cells of each case.
-use mathlib.Core.Path.{refl, ap}
+use mathlib.Core.Path.{refl, ap, _∙_}
 use Rattle.read_entry.specs.Links.{isIn}
 use Rattle.img_model.specs.Plan as planning
 use Rattle.capi_cells.specs.Cells.{ofPlanned, ofDirectory}
 use Rattle.capi_cells.specs.Parts.{itself}
-use Rattle.capi_cells.proofs.Cells.{given-cell, given-kept, given-number, refused-bare, refused-cell, refused-number, refused-other, refused-value}
+use Rattle.capi_cells.proofs.Cells.{cause-no-directory, cause-planned, given-cell, given-kept, given-number, refused-bare, refused-cell, refused-number, refused-other, refused-value}
 use borrow.Author.Needs.{needs}
 use Rattle.capi_cells.proofs.store_planned.Statement.{statement}
 use Rattle.capi_cells.proofs.store_planned.Tie as tie
@@ -31,31 +31,11 @@ unfolding isIn
 returns-6 c = let e = ap planning.told (c .before .r4 .given .1) in (refused-number e, (refused-cell itself _ e, (refused-value ofPlanned _ e refl refl, refused-other ofDirectory _ e refl)))
 
 returns-7 : tie.Need-returns-7
-unfolding isIn
-returns-7 c = let e = ap planning.told (c .before .r5 .given .1) in (refused-number e, (refused-cell itself _ e, (refused-value ofPlanned _ e refl refl, refused-other ofDirectory _ e refl)))
-
-returns-8 : tie.Need-returns-8
-unfolding isIn
-returns-8 c = let e = ap planning.told (c .before .r6 .given .1) in (refused-number e, (refused-cell itself _ e, (refused-value ofPlanned _ e refl refl, refused-other ofDirectory _ e refl)))
-
-returns-9 : tie.Need-returns-9
-unfolding isIn
-returns-9 c = let e = ap planning.told (c .before .r7 .given .1) in (refused-number e, (refused-cell itself _ e, (refused-value ofPlanned _ e refl refl, refused-other ofDirectory _ e refl)))
-
-returns-10 : tie.Need-returns-10
-unfolding isIn
-returns-10 c = let e = ap planning.told (c .before .r8 .given .1) in (refused-number e, (refused-cell itself _ e, (refused-value ofPlanned _ e refl refl, refused-other ofDirectory _ e refl)))
-
-returns-11 : tie.Need-returns-11
-unfolding isIn
-returns-11 c = let e = ap planning.told (c .before .r9 .given .1) in (refused-number e, (refused-cell itself _ e, (refused-value ofPlanned _ e refl refl, refused-other ofDirectory _ e refl)))
-
-returns-12 : tie.Need-returns-12
-unfolding isIn
-returns-12 c = let e = ap planning.told (c .before .r10 .given .1) in (refused-number e, (refused-cell itself _ e, (refused-value ofPlanned _ e refl refl, refused-other ofDirectory _ e refl)))
+returns-7 c =
+    let e = ap planning.told (c .before .before .r5 .given .1) in
+    (c .number-of .ensures ∙ refused-number e, (refused-cell itself _ e, (refused-value ofPlanned _ e (cause-planned _) refl, refused-other ofDirectory _ e (cause-no-directory _))))
 
 pub store-planned-spec : {M : Type 1} → statement M
 store-planned-spec = tie.close (tie.spec (λ c. search needs) (λ c κs. search needs) (λ c. search needs)
     (λ c. search needs) (λ c. search needs) (λ c. search needs) (λ c. search needs) (λ c. search needs)
-    (λ c. search needs) (λ c. search needs) (λ c. search needs) (λ c. search needs) (λ c. search needs) returns
-    returns-2 returns-3 returns-4 returns-5 returns-6 returns-7 returns-8 returns-9 returns-10 returns-11 returns-12)
+    (λ c κs. search needs) returns returns-2 returns-3 returns-4 returns-5 returns-6 returns-7)

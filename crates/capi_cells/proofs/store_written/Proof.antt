@@ -1,10 +1,9 @@
 -- `store_written` meets its contract: the number and the cells of each case.
-use mathlib.Core.Path.{refl, ap}
-use Rattle.read_entry.specs.Links.{isIn}
+use mathlib.Core.Path.{refl, ap, _∙_}
 use Rattle.dirtab_list.specs.Whole as whole
 use Rattle.capi_cells.specs.Cells.{ofEntry}
 use Rattle.capi_cells.specs.Parts.{tableSize, nextFree}
-use Rattle.capi_cells.proofs.Cells.{given-cell, given-kept, given-number, refused-bare, refused-cell, refused-number, refused-value}
+use Rattle.capi_cells.proofs.Cells.{cause-listed, given-cell, given-kept, given-number, refused-bare, refused-cell, refused-number, refused-value}
 use borrow.Author.Needs.{needs}
 use Rattle.capi_cells.proofs.store_written.Statement.{statement}
 use Rattle.capi_cells.proofs.store_written.Tie as tie
@@ -16,40 +15,20 @@ returns-2 : tie.Need-returns-2
 returns-2 c = let e = ap whole.told (c .enum-told .given .1) in (refused-number e, (refused-cell tableSize _ e, (refused-cell nextFree _ e, refused-bare ofEntry _ e)))
 
 returns-3 : tie.Need-returns-3
-unfolding isIn
-returns-3 c = let e = ap whole.told (c .before .r2 .given .1) in (refused-number e, (refused-cell tableSize _ e, (refused-cell nextFree _ e, refused-value ofEntry _ e refl refl)))
+returns-3 c =
+    let e = ap whole.told (c .before .before .r2 .given .1) in
+    (c .number-of .ensures ∙ refused-number e, (refused-cell tableSize _ e, (refused-cell nextFree _ e, refused-value ofEntry _ e (cause-listed _) refl)))
 
 returns-4 : tie.Need-returns-4
-unfolding isIn
-returns-4 c = let e = ap whole.told (c .before .r3 .given .1) in (refused-number e, (refused-cell tableSize _ e, (refused-cell nextFree _ e, refused-value ofEntry _ e refl refl)))
+returns-4 c = let e = ap whole.told (c .enum-told2 .given .1) in (refused-number e, (refused-cell tableSize _ e, (refused-cell nextFree _ e, refused-bare ofEntry _ e)))
 
 returns-5 : tie.Need-returns-5
-unfolding isIn
-returns-5 c = let e = ap whole.told (c .before .r4 .given .1) in (refused-number e, (refused-cell tableSize _ e, (refused-cell nextFree _ e, refused-value ofEntry _ e refl refl)))
+returns-5 c = let e = ap whole.told (c .enum-told3 .given .1) in (refused-number e, (refused-cell tableSize _ e, (refused-cell nextFree _ e, refused-bare ofEntry _ e)))
 
 returns-6 : tie.Need-returns-6
-unfolding isIn
-returns-6 c = let e = ap whole.told (c .before .r5 .given .1) in (refused-number e, (refused-cell tableSize _ e, (refused-cell nextFree _ e, refused-value ofEntry _ e refl refl)))
-
-returns-7 : tie.Need-returns-7
-unfolding isIn
-returns-7 c = let e = ap whole.told (c .before .r6 .given .1) in (refused-number e, (refused-cell tableSize _ e, (refused-cell nextFree _ e, refused-value ofEntry _ e refl refl)))
-
-returns-8 : tie.Need-returns-8
-unfolding isIn
-returns-8 c = let e = ap whole.told (c .before .r7 .given .1) in (refused-number e, (refused-cell tableSize _ e, (refused-cell nextFree _ e, refused-value ofEntry _ e refl refl)))
-
-returns-9 : tie.Need-returns-9
-returns-9 c = let e = ap whole.told (c .enum-told2 .given .1) in (refused-number e, (refused-cell tableSize _ e, (refused-cell nextFree _ e, refused-bare ofEntry _ e)))
-
-returns-10 : tie.Need-returns-10
-returns-10 c = let e = ap whole.told (c .enum-told3 .given .1) in (refused-number e, (refused-cell tableSize _ e, (refused-cell nextFree _ e, refused-bare ofEntry _ e)))
-
-returns-11 : tie.Need-returns-11
-returns-11 c = let e = ap whole.told (c .enum-told4 .given .1) in (refused-number e, (refused-cell tableSize _ e, (refused-cell nextFree _ e, refused-bare ofEntry _ e)))
+returns-6 c = let e = ap whole.told (c .enum-told4 .given .1) in (refused-number e, (refused-cell tableSize _ e, (refused-cell nextFree _ e, refused-bare ofEntry _ e)))
 
 pub store-written-spec : {M : Type 1} → statement M
 store-written-spec = tie.close (tie.spec (λ c. search needs) (λ c κs. search needs) (λ c. search needs)
-    (λ c. search needs) (λ c. search needs) (λ c. search needs) (λ c. search needs) (λ c. search needs)
-    (λ c. search needs) (λ c. search needs) (λ c. search needs) (λ c. search needs) returns returns-2 returns-3
-    returns-4 returns-5 returns-6 returns-7 returns-8 returns-9 returns-10 returns-11)
+    (λ c. search needs) (λ c κs. search needs) (λ c. search needs) (λ c. search needs) (λ c. search needs)
+    returns returns-2 returns-3 returns-4 returns-5 returns-6)

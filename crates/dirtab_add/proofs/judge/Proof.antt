@@ -1,7 +1,6 @@
 -- `judge` meets its contract: at each return the checks that led there say which case holds.
-use mathlib.Core.Path.{refl, sym, _∙_}
+use mathlib.Core.Path.{sym, _∙_}
 use Rattle.dirtab_arena.specs.Arena.{columns, arena}
-use Rattle.dirtab_add.specs.declared.Added.the-variants as added
 use Rattle.dirtab_add.proofs.Ways.{bad-arena, bad-entry, good-entry}
 use borrow.Author.Needs.{needs}
 use Rattle.dirtab_add.proofs.judge.Statement.{statement}
@@ -12,43 +11,21 @@ judge-name-requires c κs = let a = c .before .before .before .before .before .b
     good-entry (arena (a .tree .root) (a .tree .count)
     (columns (a .left .now) (a .right .now) (a .parent .now) (a .height .now) (a .start .now) (a .len .now) (a .size .now) (a .kind .now)) (a .names .now))
     (a .entry) (sym (c .before .before .before .before .is-arena .ensures) ∙ c .before .before .before .if1 .taken)
-    (c .before .before .check-entry .ensures) (c .enum-told .given .1) refl
+    (c .before .before .check-entry .ensures) (c .enum-told .given .1)
 
 returns-2 : tie.Need-returns-2
-returns-2 c = let a = c .before .before .before .before .before .before .before .before .before .before .before .before .before .before .args in
+returns-2 c = let a = c .before .before .before .before .before .before .before .before .before .before .before .before .before .before .before .args in
     bad-entry (arena (a .tree .root) (a .tree .count)
     (columns (a .left .now) (a .right .now) (a .parent .now) (a .height .now) (a .start .now) (a .len .now) (a .size .now) (a .kind .now)) (a .names .now))
-    (a .entry) (sym (c .before .before .before .before .is-arena .ensures) ∙ c .before .before .before .if1 .taken)
-    (c .before .before .check-entry .ensures) (c .enum-told2 .given .1) 1 added.EmptyName refl refl
+    (a .entry) (sym (c .before .before .before .before .before .is-arena .ensures) ∙ c .before .before .before .before .if1 .taken)
+    (c .before .before .before .check-entry .ensures) (c .before .cause .given .1)
 
 returns-3 : tie.Need-returns-3
-returns-3 c = let a = c .before .before .before .before .before .before .before .before .before .before .before .before .before .before .args in
-    bad-entry (arena (a .tree .root) (a .tree .count)
-    (columns (a .left .now) (a .right .now) (a .parent .now) (a .height .now) (a .start .now) (a .len .now) (a .size .now) (a .kind .now)) (a .names .now))
-    (a .entry) (sym (c .before .before .before .before .is-arena .ensures) ∙ c .before .before .before .if1 .taken)
-    (c .before .before .check-entry .ensures) (c .enum-told3 .given .1) 2 added.BadByte refl refl
-
-returns-4 : tie.Need-returns-4
-returns-4 c = let a = c .before .before .before .before .before .before .before .before .before .before .before .before .before .before .args in
-    bad-entry (arena (a .tree .root) (a .tree .count)
-    (columns (a .left .now) (a .right .now) (a .parent .now) (a .height .now) (a .start .now) (a .len .now) (a .size .now) (a .kind .now)) (a .names .now))
-    (a .entry) (sym (c .before .before .before .before .is-arena .ensures) ∙ c .before .before .before .if1 .taken)
-    (c .before .before .check-entry .ensures) (c .enum-told4 .given .1) 3 added.NameTooLong refl refl
-
-returns-5 : tie.Need-returns-5
-returns-5 c = let a = c .before .before .before .before .before .before .before .before .before .before .before .before .before .before .args in
-    bad-entry (arena (a .tree .root) (a .tree .count)
-    (columns (a .left .now) (a .right .now) (a .parent .now) (a .height .now) (a .start .now) (a .len .now) (a .size .now) (a .kind .now)) (a .names .now))
-    (a .entry) (sym (c .before .before .before .before .is-arena .ensures) ∙ c .before .before .before .if1 .taken)
-    (c .before .before .check-entry .ensures) (c .enum-told5 .given .1) 5 added.SizeOverflow refl refl
-
-returns-6 : tie.Need-returns-6
-returns-6 c = let a = c .before .before .before .before .before .before .before .before .before .before .before .args in
+returns-3 c = let a = c .before .before .before .before .before .before .before .before .before .before .before .args in
     bad-arena (arena (a .tree .root) (a .tree .count)
     (columns (a .left .now) (a .right .now) (a .parent .now) (a .height .now) (a .start .now) (a .len .now) (a .size .now) (a .kind .now)) (a .names .now))
     (a .entry) (c .before .is-arena .ensures) (c .if1 .left)
 
 pub judge-spec : {M : Type 1} → statement M
 judge-spec = tie.close (tie.spec (λ c κs. search needs) (λ c κs. search needs) (λ c. search needs) judge-name-requires
-    (λ c. search needs) (λ c. search needs) returns-2 (λ c. search needs) returns-3 (λ c. search needs) returns-4
-    (λ c. search needs) returns-5 returns-6)
+    (λ c. search needs) (λ c. search needs) returns-2 returns-3)

@@ -15,34 +15,13 @@ returns c =
 
 returns-2 : tie.Need-returns-2
 returns-2 c =
-    let s = c .before .before .before .before .before .before .before .before .before .before .before .before .before .before .args in
+    let s = c .before .before .before .before .before .before .before .before .before .before .before .before .before .before .before .args in
     judged (listing 0 (s .start .now) (s .len .now) (s .size .now) (s .kind .now) (s .names .now))
-    (c .before .before .before .before .before .before .before .before .u16-as-usize .ensures .0) (c .before .before .before .before .kind-of .ensures)
-    (c .before .before .check-entry .ensures) checked.EmptyName (c .enum-told2 .given .1)
-
-returns-3 : tie.Need-returns-3
-returns-3 c =
-    let s = c .before .before .before .before .before .before .before .before .before .before .before .before .before .before .args in
-    judged (listing 0 (s .start .now) (s .len .now) (s .size .now) (s .kind .now) (s .names .now))
-    (c .before .before .before .before .before .before .before .before .u16-as-usize .ensures .0) (c .before .before .before .before .kind-of .ensures)
-    (c .before .before .check-entry .ensures) checked.BadByte (c .enum-told3 .given .1)
-
-returns-4 : tie.Need-returns-4
-returns-4 c =
-    let s = c .before .before .before .before .before .before .before .before .before .before .before .before .before .before .args in
-    judged (listing 0 (s .start .now) (s .len .now) (s .size .now) (s .kind .now) (s .names .now))
-    (c .before .before .before .before .before .before .before .before .u16-as-usize .ensures .0) (c .before .before .before .before .kind-of .ensures)
-    (c .before .before .check-entry .ensures) checked.NameTooLong (c .enum-told4 .given .1)
-
-returns-5 : tie.Need-returns-5
-returns-5 c =
-    let s = c .before .before .before .before .before .before .before .before .before .before .before .before .before .before .args in
-    judged (listing 0 (s .start .now) (s .len .now) (s .size .now) (s .kind .now) (s .names .now))
-    (c .before .before .before .before .before .before .before .before .u16-as-usize .ensures .0) (c .before .before .before .before .kind-of .ensures)
-    (c .before .before .check-entry .ensures) checked.SizeOverflow (c .enum-told5 .given .1)
+    (c .before .before .before .before .before .before .before .before .before .u16-as-usize .ensures .0)
+    (c .before .before .before .before .before .kind-of .ensures)
+    (c .before .before .before .check-entry .ensures) (checked.Refused _) (c .before .cause .given .1)
 
 pub check-at-spec : {M : Type 1} → statement M
 check-at-spec = tie.close (tie.spec (λ c κs. search needs) (λ c. search needs) (λ c. search needs) (λ c. search needs)
     (λ c. search needs) (λ c. search needs) (λ c κs. search needs) (λ c. search needs) (λ c. search needs)
-    (λ c κs. search needs) (λ c. search needs) (λ c. search needs) (λ c. search needs) (λ c. search needs)
-    (λ c. search needs) returns returns-2 returns-3 returns-4 returns-5)
+    (λ c κs. search needs) (λ c. search needs) (λ c. search needs) returns returns-2)

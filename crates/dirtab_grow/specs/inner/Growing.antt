@@ -6,6 +6,7 @@ use mathlib.Core.List.{List, [], _∷_}
 use lib.Dec.{ltb}
 use lib.ListN.{length, getD}
 use Rattle.units.specs.Told.{Told, gives, refuses, pick}
+use Rattle.dirtab_entry.specs.Entry.{numberOf}
 use Rattle.avl_model.specs.declared.Place.the-variants.{Root, Right}
 use Rattle.avl_model.specs.declared.Spot.{Spot}
 use Rattle.avl_model.specs.declared.Spot.the-variants.{Free}
@@ -19,15 +20,6 @@ use Rattle.avl_model.specs.Names.{Names, nameAt, byName}
 use Rattle.avl_model.specs.inner.Names.{Inside}
 use Rattle.avl_model.specs.Seek.{spotIn}
 use Rattle.avl_keyed.specs.inner.Key.{keyFor, Keyed}
-use Rattle.dirtab_grow.specs.declared.Cause.{Cause}
-use Rattle.dirtab_grow.specs.declared.Cause.the-variants.{
-  EmptyName,
-  BadByte,
-  NameTooLong,
-  SizeOverflow,
-  DuplicateFileName,
-  Room,
-}
 use Rattle.dirtab_grow.specs.declared.Step.{Step}
 use Rattle.dirtab_grow.specs.declared.Step.the-variants as step
 use Rattle.dirtab_grow.specs.declared.Seat.{Seat}
@@ -36,15 +28,6 @@ use Rattle.dirtab_grow.specs.declared.Built.{Built}
 use Rattle.dirtab_grow.specs.declared.Built.the-variants as built
 use Rattle.dirtab_grow.specs.Listing.{Listing}
 use Rattle.dirtab_grow.specs.Grow.{ifTaken, ifFree}
-
--- the number of a refusal
-abbrev pub numberOf : Cause → ℕ
-numberOf EmptyName = 1
-numberOf BadByte = 2
-numberOf NameTooLong = 3
-numberOf SizeOverflow = 5
-numberOf DuplicateFileName = 4
-numberOf Room = 6
 
 -- what a step on entry i makes of the rest x: it goes on, or it refuses with the entry's number
 abbrev pub goOn : Step → ℕ → Told Tree → Told Tree

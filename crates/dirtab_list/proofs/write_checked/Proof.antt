@@ -41,15 +41,15 @@ write-built-requires c κs =
 
 returns : tie.Need-returns
 returns c =
-    let s = c .before .before .before .before .before .before .before .before .before .before .before .before .before .before .before .before .before .before
+    let s = c .before .before .before .before .before .before .before .before .before .before .before .before .before .before .before .before .before
     .before .before .before .before .before .before .before .before .before .before .before .before .before .before .before .before in
     let a = s .args in
-    let k = c .before .before .before .before .before .before .before .before .before .before .before .before .before .before .build in
+    let k = c .before .before .before .before .before .before .before .before .before .before .before .before .before .build in
     let L = listing (a .count) (a .start .now) (a .len .now) (a .size .now) (a .kind .now) (a .names .now) in
     let g = grow (a .names .now) (givenIn L) (a .count) in let N = namesIn (a .names .now) (a .start .now) (a .len .now) in
     let S = (lists (k .last .1 .1 .1 .1 .1 .1 .0) (k .last .1 .1 .1 .1 .1 .1 .1 .0) (k .last .1 .1 .1 .1 .1 .1 .1 .1 .0) (k .last .1 .1 .1 .1 .1 .1 .1 .1 .1 .0) (k .last .1 .1 .1 .1 .1 .1 .1 .1 .1 .1 .0)) in
-    let e = was-refused g S N (a .count) (c .before .before .cause .given .1) (k .ensures) in
-    (c .refuse .ensures ∙ refused-answer L (a .first .0) (a .out .now) e, refused-out L (a .first .0) (a .out .now) e)
+    let e = was-refused g S N (a .count) (c .before .cause .given .1) (k .ensures) in
+    (refused-answer L (a .first .0) (a .out .now) e, refused-out L (a .first .0) (a .out .now) e)
 
 returns-2 : tie.Need-returns-2
 returns-2 c =
@@ -75,7 +75,7 @@ returns-2 c =
     (b .ensures .0 (w .t) h ∙ written-answer L (a .first .0) (a .out .now) (w .told), b .ensures .1 (w .t) h ∙ written-out L (a .first .0) (a .out .now) (w .told))
 
 pub write-checked-spec : {M : Type 1} → statement M
-write-checked-spec = tie.close (tie.spec (λ c κs. search needs) (λ c. search needs) (λ c κs. search needs)
-    (λ c. search needs) write-built-requires (λ c. search needs) (λ c. search needs) (λ c. search needs)
+write-checked-spec = tie.close (tie.spec (λ c κs. search needs) (λ c. search needs) (λ c. search needs)
+    write-built-requires (λ c. search needs) (λ c. search needs) (λ c. search needs)
     (λ c. search needs) (λ c. search needs) returns (λ c. search needs) (λ c. search needs) (λ c. search needs)
     (λ c. search needs) (λ c. search needs) (λ c. search needs) (λ c. search needs) (λ c. search needs) returns-2)

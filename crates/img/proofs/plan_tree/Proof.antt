@@ -118,7 +118,7 @@ plan-tree-spec = tie.close (tie.spec (λ c κs. search needs)
       roomy-tree _ (s .pre .0) (s .pre .1 .0) (s .pre .1 .1) _ (c .before .before .before .before .before .before
           .before .before .before .add-shares .ensures) (c .before .before .before .before .before .before .before .before .if1 .left),
     ))
-    (λ c. search needs) (λ c κs. search needs) (λ c. search needs) (λ c. search needs)
+    (λ c. search needs) (λ c. search needs) (λ c. search needs)
     (λ c κs.
     let x = c .before .before .before .before .before .before .before .before .before .before .before .before .before .before .before .before .before
     .before .before .before .before .before .before .before in
@@ -133,10 +133,10 @@ plan-tree-spec = tie.close (tie.spec (λ c κs. search needs)
     same-length same-length-2 same-length-3 same-length-4 same-length-5 same-length-6 same-length-7 same-length-8
     (λ c.
     let x = c .before .before .before .before .before .before .before .before .before .before .before .before .before .before .before .before .before
-    .before .before .before in
+    .before .before in
     entry-refused _ _ _ _ (s x .pre .0) _ (x .before .before .before .before .before .before .before .before .before .before .add-shares .ensures) (s x .pre
     .1 .0) _ _ _ (x .before .before .before .before .before .before .before .before .before .if1 .left) refl (x .size-tables .ensures .0)
-    _ _ _ _ (c .before .before .cause .given .1) (c .refuse .ensures))
+    _ _ _ (c .before .cause .given .1))
     same-length-9 same-length-10 same-length-11 same-length-12 same-length-13 same-length-14 same-length-15
     same-length-16
     (λ c.

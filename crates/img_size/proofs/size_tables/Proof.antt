@@ -8,8 +8,8 @@ use mathlib.Core.List.{List, [], _∷_}
 use lib.ListN.{length, length-set}
 use Rattle.units.specs.Told.{Told, refuses}
 use Rattle.avl_model.specs.Tree.{Tree}
-use Rattle.dirtab_grow.specs.declared.Cause.{Cause}
-use Rattle.dirtab_grow.specs.inner.Growing.{numberOf}
+use Rattle.dirtab_entry.specs.declared.Cause.{Cause}
+use Rattle.dirtab_entry.specs.Entry.{numberOf}
 use Rattle.img_model.specs.Shares.{Request, columns, shareOf, directoriesOf, firstOf, countOf, part}
 use Rattle.img_model.specs.Plan.{tableIn, treeIn, sizesDown, total}
 use Rattle.img_table.specs.declared.TableSized.the-variants as sized

@@ -8,7 +8,7 @@ use Rattle.units.specs.Told.{Told, gives, refuses}
 use Rattle.avl_model.specs.Tree.{Tree}
 use Rattle.avl_model.specs.Order.{order}
 use Rattle.table_model.specs.Table.{sizeOf}
-use Rattle.dirtab_grow.specs.inner.Growing.{numberOf}
+use Rattle.dirtab_entry.specs.Entry.{numberOf}
 use Rattle.img_model.specs.Shares.{
   Request,
   shareOf,
