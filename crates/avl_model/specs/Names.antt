@@ -5,7 +5,7 @@ use mathlib.Core.List.{List}
 use lib.ListN.{getD, take, drop}
 use Rattle.layout_name.specs.declared.Order.{Order}
 use Rattle.layout_name.specs.declared.Order.the-variants.{Less}
-use Rattle.layout_name.specs.Order.{nameOrder}
+use Rattle.name_role.specs.Roles.{givenOrder}
 pub use Rattle.layout_name.specs.Order.{isLess}
 
 -- lent bytes, and for each node where its name starts in them and how long it is
@@ -24,7 +24,7 @@ nameAt N i = take (getD (N .len) i 0) (drop (getD (N .start) i 0) (N .bytes))
 
 -- the order of a name to that of a node
 unfoldable pub toName : Names → List ℕ → ℕ → Order
-toName N a i = nameOrder a (nameAt N i)
+toName N a i = givenOrder a (nameAt N i)
 
 -- the order of the names of two nodes
 abbrev pub byName : Names → ℕ → ℕ → Order

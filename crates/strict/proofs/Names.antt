@@ -10,7 +10,8 @@ use Rattle.units.specs.declared.Link.{Link}
 use Rattle.units.specs.declared.Offset.{Offset}
 use Rattle.layout_name.specs.declared.Order.{Order}
 use Rattle.layout_name.specs.declared.Order.the-variants.{Less, Equal, Greater}
-use Rattle.layout_name.specs.Order.{nameOrder}
+use Rattle.name_role.specs.Roles.{storedOrder}
+use Rattle.name_role.proofs.Roles.{Compared, stored-compared}
 use Rattle.layout_node.specs.declared.Header.{Header}
 use Rattle.read_entry.specs.declared.Read.{Read}
 use Rattle.read_entry.specs.declared.Read.the-variants as read
@@ -19,16 +20,16 @@ use Rattle.read_entry.specs.Entry as entry-said
 use Rattle.strict_rule.specs.Strict.{nameBy, isLess, lessThan, moreThan, nameAt, ordered}
 use Rattle.strict.specs.inner.Run.{boundOf, visitOf}
 
--- the order r of two names, where o is the definition's
-module _ (o r : Order) (is : r ≡ o) where
-  pub less : r ≡ Less → true ≡ isLess o
-  less e = ap isLess (sym e ∙ is)
+-- the order r that comparing two stored names told
+module _ (a b : List ℕ) (r : Order) (compared : Compared r a b) where
+  pub less : r ≡ Less → true ≡ isLess (storedOrder a b)
+  less e = ap isLess (sym e ∙ stored-compared a b compared)
 
-  pub equal : r ≡ Equal → false ≡ isLess o
-  equal e = ap isLess (sym e ∙ is)
+  pub equal : r ≡ Equal → false ≡ isLess (storedOrder a b)
+  equal e = ap isLess (sym e ∙ stored-compared a b compared)
 
-  pub greater : r ≡ Greater → false ≡ isLess o
-  greater e = ap isLess (sym e ∙ is)
+  pub greater : r ≡ Greater → false ≡ isLess (storedOrder a b)
+  greater e = ap isLess (sym e ∙ stored-compared a b compared)
 
 -- the name of what is read, r, where x is the definition's
 module _ (w : List ℕ) (x : Told (Option Placed)) (r : Read) (is : entry-said.told r ≡ x) where
@@ -53,10 +54,10 @@ module _ (w : List ℕ) (f : ℕ → Told (Option Placed)) (name : List ℕ) (l 
   no-over e = rw (← is-n, eq-eqb _ _ e)
 
   module _ (some-link : n ≡ 65535 → ⊥) (o : Offset) (is-o : o .0 ≡ 4 * l .0) (other : List ℕ) (is-other : other ≡ nameBy w (f (o .0))) (r : Bool) where
-    pub under-is : r ≡ isLess (nameOrder name other) → r ≡ lessThan name (nameAt w f (boundOf (l .0)))
+    pub under-is : r ≡ isLess (storedOrder name other) → r ≡ lessThan name (nameAt w f (boundOf (l .0)))
     under-is e = e ∙ rw (is-other, is-o, ← is-n, ne-eqb _ _ some-link)
 
-    pub over-is : r ≡ isLess (nameOrder other name) → r ≡ moreThan name (nameAt w f (boundOf (l .0)))
+    pub over-is : r ≡ isLess (storedOrder other name) → r ≡ moreThan name (nameAt w f (boundOf (l .0)))
     over-is e = e ∙ rw (is-other, is-o, ← is-n, ne-eqb _ _ some-link)
 
 -- both bounds of a visit
