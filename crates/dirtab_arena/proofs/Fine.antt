@@ -4,13 +4,15 @@ use native.Mathlib.Omega.{arith}
 use mathlib.Core.Path.{_≡_, refl}
 use mathlib.Core.Bool.{Bool, true, false}
 use mathlib.Core.List.{List, []}
-use lib.ListN.{length}
+use lib.ListN.{length, drop, length-take}
 use lib.Dec.{ltb, eqb}
 use borrow.Author.Tests.{ltb-false, eqb-false, ne-eqb, le-ltb}
 use Rattle.units.specs.Told.{gives, pick}
+use Rattle.name_role.proofs.Roles.{stored-length}
 use Rattle.dirtab_entry.specs.declared.Entry as given
 use Rattle.dirtab_entry.specs.Entry.{isDirectory, anyBad, nameIn, checkOf}
-use Rattle.dirtab_entry.proofs.Storable.{each-passed, went-on}
+use Rattle.dirtab_entry.proofs.Storable.{each-passed, went-on, passed-storable}
+use Rattle.table_model.specs.Entry.{entryFor}
 
 -- what the check of an entry says where it takes it
 pub record Fine (B : List ℕ) (e : given.Entry) : Type 0 where
@@ -40,6 +42,12 @@ module _ (B : List ℕ) (e : given.Entry) where
         short = ltb-false 255 (e .len) (h4 .0);
         small = small-of (isDirectory (e .kind)) (h5 .0);
       }
+
+  -- what a table has of its name is at most 255 bytes
+  pub name-short : checkOf B e ≡ gives tt → length (entryFor B e .name) ≤ 255
+  name-short h =
+      let f = fine-of h .short in
+      omega (arith, stored-length (nameIn B e) (passed-storable B e h), length-take (e .len) (drop (e .start) B))
 
 not-large : (d : Bool) (n : ℕ) → (d ≡ true → n ≤ 4294965248) → pick d (ltb 4294965248 n) false ≡ false
 not-large true n h = le-ltb 4294965248 n (h refl)

@@ -43,3 +43,6 @@ taken-storable names e h =
     let h2 = went-on (ltb (length names) (e .start + e .len)) 2 _ (h1 .1) in
     let h3 = went-on (anyBad (nameIn names e)) 2 _ (h2 .1) in
     good-storable (nameIn names e) (h3 .0)
+
+pub passed-storable : (names : List ℕ) (e : Entry) → checkOf names e ≡ gives tt → isStorable (nameIn names e) ≡ true
+passed-storable names e h = taken-storable names e (each-passed names e h .0)
