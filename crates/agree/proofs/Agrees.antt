@@ -10,8 +10,8 @@ use borrow.Author.Tests.{ne-eqb}
 use Rattle.units.specs.Told.{Told, gives, refuses, pick}
 use Rattle.units.specs.declared.Sector.{Sector}
 use Rattle.units.specs.declared.Region.{Region}
-use Rattle.read_entry.specs.Links.{isIn}
 use Rattle.name_role.specs.Roles.{badSought}
+use Rattle.read_entry.specs.Links.{isIn}
 use Rattle.read_lookup.specs.Lookup.{Leads, missing, Finding, stepAt, chainFrom, lookupBy}
 use Rattle.avl_model.specs.Tree.{Tree, leaf, node, ht}
 use Rattle.avl_model.specs.Laws.{Avl, All, size, least}

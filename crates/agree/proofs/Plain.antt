@@ -13,8 +13,8 @@ use lib.ListN.{length}
 use Rattle.units.specs.Told.{Told, gives, refuses}
 use Rattle.units.specs.declared.Sector.{Sector}
 use Rattle.units.specs.declared.Region.{Region}
-use Rattle.read_entry.specs.Links.{isIn, lookupAbsent, walkAbsent}
 use Rattle.name_role.specs.Roles.{badSought}
+use Rattle.read_entry.specs.Links.{isIn, lookupAbsent, walkAbsent}
 use Rattle.read_lookup.specs.Lookup.{Finding, lookupBy, lookupOf}
 use Rattle.lookup_way.specs.Along.{Clear, Cut}
 use Rattle.lookup_way.proofs.Along.{along-clear, along-absent}

@@ -10,8 +10,8 @@ use borrow.Author.Tests.{ne-eqb}
 use Rattle.units.specs.Told.{Told, gives, refuses, pick}
 use Rattle.layout_name.specs.declared.Order.{Order}
 use Rattle.layout_name.specs.declared.Order.the-variants.{Less, Equal, Greater}
-use Rattle.name_role.specs.Roles.{storedOrder, soughtOrder, badSought}
 use Rattle.layout_name.specs.inner.Order.{opposite}
+use Rattle.name_role.specs.Roles.{storedOrder, soughtOrder, badSought}
 use Rattle.name_role.proofs.Roles.{stored-opposite, sought-then, sought-equal, sought-equal→}
 use Rattle.read_entry.specs.Entry.{Placed}
 use Rattle.read_entry.specs.Links.{isIn}

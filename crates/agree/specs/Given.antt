@@ -66,7 +66,8 @@ pub record Admitted (align s : ℕ) (gs : List Given) : Type 0 where
   pub few : length gs ≤ 16384
   pub good : (i : ℕ) → i < length gs → Good (numbered gs i)
   -- no two names are equal once raised
-  pub differ : (i j : ℕ) → i < length gs → j < length gs → givenKeys (givenName gs i) ≡ givenKeys (givenName gs j) → i ≡ j
+  pub differ : (i j : ℕ) → i < length gs → j < length gs → givenKeys (givenName gs i) ≡ givenKeys (givenName gs j)
+      → i ≡ j
   -- neither 7 nor 8 is met
   pub placing : Placing
   pub placed : placeOf (entryOf gs) align s (treeOf gs) ≡ gives placing

@@ -12,7 +12,8 @@ use Rattle.table_model.specs.Entry.{Item}
 use Rattle.table_model.specs.Place.{items}
 use Rattle.table_model.specs.Table.{sizeOf}
 use Rattle.table_model.specs.Said.{AllIn}
-use Rattle.img_model.specs.Shares.{Request, shareOf, givenName, directoriesOf, firstOf, countOf, isDirectory, valueOf, isTree}
+use Rattle.img_model.specs.Shares.{Request, directoriesOf, firstOf, countOf, shareOf, givenName, isTree}
+use Rattle.img_model.specs.Shares.{isDirectory, valueOf}
 use Rattle.img_model.specs.Plan.{tableIn, entriesAt, Plan, total}
 use Rattle.img_model.specs.Image.{Asked, Lent, hasRoom, requestIn, lentAfter}
 use Rattle.agree.specs.Given.{grown}

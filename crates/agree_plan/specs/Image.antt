@@ -9,8 +9,8 @@ use lib.ListN.{length}
 use Rattle.units.specs.Told.{Told, gives, refuses, pick}
 use Rattle.units.specs.declared.Sector.{Sector}
 use Rattle.units.specs.declared.Region.{Region}
-use Rattle.read_entry.specs.Entry.{Placed, readAt, nameOf}
 use Rattle.name_role.specs.Roles.{badSought}
+use Rattle.read_entry.specs.Entry.{Placed, readAt, nameOf}
 use Rattle.lookup_way.specs.Along.{Along, Real, Clear, Cut}
 use Rattle.table_model.specs.Entry.{Item}
 use Rattle.table_model.specs.Table.{tableBytes}

@@ -7,13 +7,13 @@ use lib.ListN.{length, getD}
 use borrow.Author.Tests.{lt-ltb, le-ltb}
 use Rattle.layout_name.specs.declared.Order.{Order}
 use Rattle.layout_name.specs.declared.Order.the-variants.{Less, Equal, Greater}
+use Rattle.name_role.specs.Roles.{givenOrder}
+use Rattle.name_role.proofs.Roles.{Compared, given-compared}
 use Rattle.avl_model.specs.declared.Place.{Place}
 use Rattle.avl_model.specs.declared.Place.the-variants.{Left, Right}
 use Rattle.avl_model.specs.declared.Spot.{Spot}
 use Rattle.avl_model.specs.declared.Spot.the-variants.{Same, Free}
 use Rattle.avl_model.specs.Tree.{Tree, leaf, node, none, top, ht}
-use Rattle.name_role.specs.Roles.{givenOrder}
-use Rattle.name_role.proofs.Roles.{Compared, given-compared}
 use Rattle.avl_model.specs.Laws.{All}
 use Rattle.avl_model.specs.Names.{Names, nameAt, toName}
 use Rattle.avl_model.specs.Seek.{spotIn, treeAt}

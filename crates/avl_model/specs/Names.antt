@@ -5,8 +5,8 @@ use mathlib.Core.List.{List}
 use lib.ListN.{getD, take, drop}
 use Rattle.layout_name.specs.declared.Order.{Order}
 use Rattle.layout_name.specs.declared.Order.the-variants.{Less}
-use Rattle.name_role.specs.Roles.{givenOrder}
 pub use Rattle.layout_name.specs.Order.{isLess}
+use Rattle.name_role.specs.Roles.{givenOrder}
 
 -- lent bytes, and for each node where its name starts in them and how long it is
 pub record Names : Type 0 where

@@ -8,11 +8,11 @@ use lib.ListN.{length, getD}
 use Rattle.units.specs.Told.{Told, gives, refuses, pick}
 use Rattle.units.specs.declared.Sector.{Sector}
 use Rattle.units.specs.declared.Region.{Region}
+use Rattle.name_role.specs.Roles.{badSought}
 use Rattle.read_entry.specs.Links.{lookupAbsent}
 use Rattle.read_lookup.specs.declared.Looked.{Looked}
 use Rattle.read_lookup.specs.declared.Looked.the-variants as looked
 use Rattle.read_lookup.specs.Lookup as lookup
-use Rattle.name_role.specs.Roles.{badSought}
 use Rattle.read_lookup.specs.Lookup.{Finding, lookupBy, lookupOf}
 use Rattle.read_lookup.specs.Chain.{countOf}
 use Rattle.read_lookup.proofs.Laws.{looped-endless, looped-again, again-endless, endless-looped, count-is-length}

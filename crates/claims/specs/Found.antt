@@ -8,8 +8,8 @@ use lib.ListN.{length, getD, take, replicate}
 use Rattle.units.specs.Told.{gives, refuses}
 use Rattle.units.specs.declared.Sector.{Sector}
 use Rattle.units.specs.declared.Region.{Region}
-use Rattle.read_entry.specs.Entry.{readAt}
 use Rattle.name_role.specs.Roles.{badSought}
+use Rattle.read_entry.specs.Entry.{readAt}
 use Rattle.read_lookup.specs.Lookup.{lookupOf}
 use Rattle.read_walk.specs.Walk as walking
 use Rattle.strict_rule.specs.Strict as checking

@@ -9,11 +9,11 @@ use lib.ListN.{length, getD, replicate}
 use Rattle.units.specs.Told.{gives}
 use Rattle.units.specs.declared.Sector.{Sector}
 use Rattle.units.specs.declared.Region.{Region}
+use Rattle.name_role.specs.Roles.{badSought}
 use Rattle.read_entry.specs.Links.{lookupAbsent}
 use Rattle.read_lookup.specs.declared.Looked.{Looked}
 use Rattle.read_lookup.specs.declared.Looked.the-variants as looked
 use Rattle.read_lookup.specs.Lookup as lookup
-use Rattle.name_role.specs.Roles.{badSought}
 use Rattle.read_lookup.specs.Lookup.{stepAt, lookupOf}
 use Rattle.read_lookup.specs.Chain.{Endless, ReadsAgain, LengthIs, countOf}
 use Rattle.strict_rule.specs.Strict as checking

@@ -15,9 +15,9 @@ use Rattle.units.specs.declared.Sector.{Sector}
 use Rattle.units.specs.declared.Region.{Region}
 use Rattle.layout_name.specs.declared.Order.{Order}
 use Rattle.layout_name.specs.declared.Order.the-variants.{Less, Equal, Greater}
+use Rattle.layout_name.specs.inner.Order.{opposite}
 use Rattle.name_role.specs.Roles.{storedOrder}
 use Rattle.name_role.proofs.Roles.{stored-opposite}
-use Rattle.layout_name.specs.inner.Order.{opposite}
 use Rattle.read_entry.specs.Entry.{Placed, readAt}
 use Rattle.read_entry.specs.Links.{isIn, walkAbsent}
 use Rattle.read_walk.specs.Walk.{walkOf}

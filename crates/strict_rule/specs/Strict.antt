@@ -8,8 +8,8 @@ use lib.ListN.{length}
 use Rattle.units.specs.Told.{Told, gives, refuses, pick}
 use Rattle.units.specs.declared.Sector.{Sector}
 use Rattle.units.specs.declared.Region.{Region}
-use Rattle.name_role.specs.Roles.{storedOrder}
 pub use Rattle.layout_name.specs.Order.{isLess}
+use Rattle.name_role.specs.Roles.{storedOrder}
 use Rattle.layout_node.specs.declared.Header.{Header}
 use Rattle.layout_node.specs.Header.{entryLength}
 use Rattle.read_entry.specs.Entry.{Placed, readAt, nameOf}

@@ -11,13 +11,13 @@ use Rattle.units.specs.Told.{refuses}
 use Rattle.units.specs.declared.Sector.{Sector}
 use Rattle.units.specs.declared.Offset.{Offset}
 use Rattle.units.specs.declared.Region.{Region}
+use Rattle.name_role.specs.Roles.{badSought}
 use Rattle.layout_node.specs.declared.Header.{Header}
 use Rattle.read_entry.specs.Links.{lookupAbsent}
 use Rattle.read_lookup.specs.declared.Step.{Step}
 use Rattle.read_lookup.specs.declared.Step.the-variants as step
 use Rattle.read_lookup.specs.declared.Looked.{Looked}
 use Rattle.read_lookup.specs.declared.Looked.the-variants as looked
-use Rattle.name_role.specs.Roles.{badSought}
 use Rattle.read_lookup.specs.Lookup.{Leads, stepAt, ending, chainFrom, lookupBy, lookupOf, told}
 use Rattle.read_lookup.specs.inner.Lookup.{leading}
 use Rattle.read_lookup.proofs.look_in.Statement.{statement}

@@ -8,8 +8,8 @@ use borrow.Author.Needs.{needs}
 use lib.ListN.{length, drop}
 use Rattle.units.specs.declared.Sector.{Sector}
 use Rattle.units.specs.declared.Region.{Region}
-use Rattle.read_entry.specs.Links.{lookupAbsent}
 use Rattle.name_role.specs.Roles.{badSought}
+use Rattle.read_entry.specs.Links.{lookupAbsent}
 use Rattle.read_path.specs.declared.PathFound.the-variants as path-found
 use Rattle.read_path.specs.Path.{trim, split, unended, partsFrom, pathBy, pathOf, told}
 use Rattle.read_path.proofs.Parts.{at-end, last, into, stop}
