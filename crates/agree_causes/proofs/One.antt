@@ -1,5 +1,5 @@
 -- A CAUSE HAS ONE ANSWER: no two of the four outcomes are there together, of a list or of a plan. Assumes nothing.
-use Prim.Native.Nat.{ℕ, zero, suc, _+_, _≤_, _<_}
+use Prim.Native.Nat.{ℕ, suc, _+_, _≤_, _<_}
 use native.Mathlib.Omega.{arith}
 use native.Mathlib.Decide.{decLt, ℕ-discrete}
 use mathlib.Core.Path.{_≡_, refl, sym, ap, subst, _∙_}
@@ -9,12 +9,12 @@ use lib.Seq.{ext-getD}
 use Rattle.units.specs.Told.{Told, gives, refuses}
 use Rattle.avl_model.specs.Tree.{Tree}
 use Rattle.table_model.specs.Entry.{Item}
-use Rattle.table_model.specs.Table.{Placing, sizeOf}
+use Rattle.table_model.specs.Table.{Placing}
 use Rattle.table_model.specs.Said.{AllIn}
 use Rattle.table_model.proofs.Geometry.{of-item}
 use Rattle.dirtab_list.specs.Whole.{Listing}
-use Rattle.img_model.specs.Shares.{Request, Share, shareOf, directoriesOf, firstOf, countOf}
-use Rattle.img_model.specs.Plan.{tableIn, entryIn, entriesAt}
+use Rattle.img_model.specs.Shares.{Request, shareOf, directoriesOf, firstOf}
+use Rattle.img_model.specs.Plan.{tableIn}
 use Rattle.img_model.proofs.Trees.{size-same}
 use Rattle.agree_causes.specs.Lists.{Near, TooLarge, farthest, lastSector, WriteOutcome}
 use Rattle.agree_causes.specs.Lists as lists

@@ -1,5 +1,5 @@
 -- A smaller key is a smaller name. Assumes nothing.
-use Prim.Native.Nat.{ℕ, zero, suc, _+_, _*_, _-_, _≤_, _<_}
+use Prim.Native.Nat.{ℕ, suc, _+_, _*_, _-_, _≤_, _<_}
 use native.Mathlib.Omega.{arith}
 use native.Mathlib.Nat.{mul-suc, mul-zero, mul-le-mul-left}
 use mathlib.Core.Path.{_≡_, refl, sym, ap, ap₂, subst, _∙_}

@@ -3,7 +3,7 @@ use Prim.Native.Nat.{ℕ, _+_, _<_}
 use native.Mathlib.Omega.{arith}
 use mathlib.Core.Path.{_≡_, refl, sym, ap, _∙_}
 use mathlib.Core.Bool.{true, false}
-use mathlib.Core.List.{List, [], _∷_, map}
+use mathlib.Core.List.{List, [], _∷_}
 use Rattle.units.specs.Told.{gives, refuses}
 use Rattle.layout_name.specs.declared.Order.the-variants.{Equal}
 use Rattle.layout_name.specs.Order.{numberOrder, listOrder, raised}
