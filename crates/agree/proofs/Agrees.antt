@@ -10,8 +10,9 @@ use borrow.Author.Tests.{ne-eqb}
 use Rattle.units.specs.Told.{Told, gives, refuses, pick}
 use Rattle.units.specs.declared.Sector.{Sector}
 use Rattle.units.specs.declared.Region.{Region}
+use Rattle.name_role.specs.Roles.{badSought}
 use Rattle.read_entry.specs.Links.{isIn}
-use Rattle.read_lookup.specs.Lookup.{Leads, missing, Finding, stepAt, chainFrom, anyHigh, lookupBy}
+use Rattle.read_lookup.specs.Lookup.{Leads, missing, Finding, stepAt, chainFrom, lookupBy}
 use Rattle.avl_model.specs.Tree.{Tree, leaf, node, ht}
 use Rattle.avl_model.specs.Laws.{Avl, All, size, least}
 use Rattle.avl_model.proofs.Avl.{avl-size, least-20, least-mono}
@@ -85,7 +86,7 @@ unfolding chainFrom
 chain-missing f k n o e = rw e
 
 module _ (absent : List ℕ) (entry : ℕ → Entry) (align s : ℕ) (w : List ℕ) (first : Sector) (t : Region)
-    (stand : Stand w first (t .sector) (tableBytes entry align s leaf)) (sized : t .size ≡ 2048) (name : List ℕ) (ascii : anyHigh name ≡ false) where
+    (stand : Stand w first (t .sector) (tableBytes entry align s leaf)) (sized : t .size ≡ 2048) (name : List ℕ) (ascii : badSought name ≡ false) where
   empty-step : stepAt absent w first t name 0 ≡ missing
   unfolding stepAt
   empty-step = rw (empty-read entry align s w first t stand sized)
@@ -120,7 +121,7 @@ agreement entry align s x w first t g = record {
         all-reached (setting entry align s (node l i r) w first t h) l i r s (ready entry align s (node l i r) w first t h)
         (omega (arith, few entry align s (node l i r) (h .writable))) (h .writable .ordered)
 
-    sounds : (absent : List ℕ) → isIn 0 absent ≡ true → (y : Tree) (h : Written entry align s y w first t) (name : List ℕ) → anyHigh name ≡ false
+    sounds : (absent : List ℕ) → isIn 0 absent ≡ true → (y : Tree) (h : Written entry align s y w first t) (name : List ℕ) → badSought name ≡ false
         → Sound (h .stand .place) (items entry align 0 s y) mostHeaders name (lookupBy absent w first t name)
     sounds absent none leaf h name a =
         rw (empty-lookup absent entry align s w first t (h .stand) (empty-size (t .size) (h .sized)) name a) (sound.missing 1 (omega arith))

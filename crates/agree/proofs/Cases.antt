@@ -1,20 +1,21 @@
 -- The starred cases hold, computed. Assumes nothing.
 use Prim.Native.Nat.{ℕ, zero, suc, _+_, _*_, _/_, _≤_, _<_}
 use mathlib.Core.Path.{_≡_, refl, sym, ap, _∙_}
-use mathlib.Core.List.{List, [], _∷_, map, append-nil}
+use mathlib.Core.List.{List, [], _∷_, append-nil}
 use mathlib.Core.Option.{Option, some}
 use native.Mathlib.Omega.{arith}
 use lib.ListN.{length}
 use Rattle.units.specs.Told.{Told, gives}
 use Rattle.units.specs.Region.{locateOf}
 use Rattle.layout_bytes.specs.Bytes.{all}
-use Rattle.layout_name.specs.Order.{raised, numberOrder, listOrder, orderBy, nameOrder}
+use Rattle.layout_name.specs.Order.{raised, numberOrder, listOrder}
+use Rattle.name_role.specs.Roles.{givenKeys, storedKeys, soughtKeys, storedOf, givenOrder, soughtOrder, badSought}
 use Rattle.layout_node.specs.Header.{headerOf, headerBytes, isBlank}
 use Rattle.layout_sector.specs.Counter.{sectorsFor}
 use Rattle.dirtab_entry.specs.Entry.{anyBad, checkOf}
 use Rattle.read_entry.specs.Entry.{Placed, readHere, readAt, nameOf}
 use Rattle.read_entry.specs.Links.{isIn}
-use Rattle.read_lookup.specs.Lookup.{byLink, stepAt, chainFrom, anyHigh, lookupBy}
+use Rattle.read_lookup.specs.Lookup.{byLink, stepAt, chainFrom, lookupBy}
 use Rattle.lookup_way.specs.Along.{Along, there, left}
 use Rattle.read_walk.specs.Walk.{push, toEntry, walkFrom, walkOf}
 use Rattle.avl_model.specs.Tree.{bal}
@@ -25,13 +26,12 @@ use Rattle.table_model.specs.Table.{anyFar, bytesFrom, sizeOf, tableBytes, plac
 use Rattle.table_model.specs.Said.{Stands}
 use Rattle.table_model.proofs.Geometry.{of-item, inside, never-262140}
 use Rattle.table_model.proofs.Placing.{place-seven}
-use Rattle.agree.specs.Agreement.{Same}
 use Rattle.agree.specs.Given.{Given, Good, numbered, grown, WrittenList}
 use Rattle.agree.specs.Cases.{a, b, c, bytesOf, regionOf, starred, Each, Starred}
 
 computed : Each starred
-unfolding grown bal items endOf freeOf startAfter sectorsFor tableBytes bytesFrom entryBytes headerBytes raised numberOrder listOrder orderBy nameOrder least
-    anyBad checkOf walkOf walkFrom toEntry push readAt locateOf readHere isBlank all headerOf nameOf isIn lookupBy anyHigh chainFrom stepAt byLink
+unfolding grown bal items endOf freeOf startAfter sectorsFor tableBytes bytesFrom entryBytes headerBytes raised numberOrder listOrder givenOrder givenKeys storedOf least
+    anyBad checkOf walkOf walkFrom toEntry push readAt locateOf readHere isBlank all headerOf nameOf isIn lookupBy badSought soughtOrder soughtKeys storedKeys chainFrom stepAt byLink
 computed = (
   (refl, refl),
   (
@@ -127,21 +127,21 @@ abc-good (suc zero) h = record { some = omega arith; short = omega arith; ascii 
 abc-good (suc (suc zero)) h = record { some = omega arith; short = omega arith; ascii = refl; small = omega arith; roundable = λ e. omega arith }
 abc-good (suc (suc (suc i))) h = absurd (omega arith)
 
-abc-raised : (i : ℕ) → i < 3 → map raised (numbered abc i .name) ≡ (65 + i) ∷ []
-unfolding raised
+abc-raised : (i : ℕ) → i < 3 → givenKeys (numbered abc i .name) ≡ (65 + i) ∷ []
+unfolding givenKeys raised
 abc-raised zero h = refl
 abc-raised (suc zero) h = refl
 abc-raised (suc (suc zero)) h = refl
 abc-raised (suc (suc (suc i))) h = absurd (omega arith)
 
-abc-differ : (i j : ℕ) → i < 3 → j < 3 → Same (numbered abc i .name) (numbered abc j .name) → i ≡ j
+abc-differ : (i j : ℕ) → i < 3 → j < 3 → givenKeys (numbered abc i .name) ≡ givenKeys (numbered abc j .name) → i ≡ j
 abc-differ i j h k e =
     let same : (65 + i) ∷ [] ≡ (65 + j) ∷ [] = sym (abc-raised i h) ∙ e ∙ abc-raised j k in
     let first : 65 + i ≡ 65 + j = cc in
     omega arith
 
 pub abc-written : WrittenList 1 34 abc (bytesOf abc 34) (record { 0 = 33 }) (regionOf abc)
-unfolding placeOf anyFar grown bal items endOf freeOf startAfter sectorsFor raised numberOrder listOrder orderBy nameOrder
+unfolding placeOf anyFar grown bal items endOf freeOf startAfter sectorsFor raised numberOrder listOrder givenOrder givenKeys storedOf
 abc-written = record {
   admitted = record {
     aligned = omega arith;
@@ -167,12 +167,12 @@ abbrev reads-abc : ℕ → Told (Option Placed)
 reads-abc = readAt (bytesOf abc 34) (record { 0 = 33 }) (regionOf abc)
 
 reads-b : reads-abc 0 ≡ gives (some at-b)
-unfolding grown bal items endOf freeOf startAfter sectorsFor tableBytes bytesFrom entryBytes headerBytes raised numberOrder listOrder orderBy nameOrder
+unfolding grown bal items endOf freeOf startAfter sectorsFor tableBytes bytesFrom entryBytes headerBytes raised numberOrder listOrder givenOrder givenKeys storedOf
     locateOf readAt readHere isBlank all headerOf
 reads-b = refl
 
 reads-a : reads-abc 16 ≡ gives (some at-a)
-unfolding grown bal items endOf freeOf startAfter sectorsFor tableBytes bytesFrom entryBytes headerBytes raised numberOrder listOrder orderBy nameOrder
+unfolding grown bal items endOf freeOf startAfter sectorsFor tableBytes bytesFrom entryBytes headerBytes raised numberOrder listOrder givenOrder givenKeys storedOf
     locateOf readAt readHere isBlank all headerOf
 reads-a = refl
 

@@ -13,8 +13,9 @@ use lib.ListN.{length}
 use Rattle.units.specs.Told.{Told, gives, refuses}
 use Rattle.units.specs.declared.Sector.{Sector}
 use Rattle.units.specs.declared.Region.{Region}
+use Rattle.name_role.specs.Roles.{badSought}
 use Rattle.read_entry.specs.Links.{isIn, lookupAbsent, walkAbsent}
-use Rattle.read_lookup.specs.Lookup.{Finding, anyHigh, lookupBy, lookupOf}
+use Rattle.read_lookup.specs.Lookup.{Finding, lookupBy, lookupOf}
 use Rattle.lookup_way.specs.Along.{Clear, Cut}
 use Rattle.lookup_way.proofs.Along.{along-clear, along-absent}
 use Rattle.lookup_way.proofs.Sets.{lookup-0, without-255, with-255, walk-clear}
@@ -55,7 +56,7 @@ module _ (place : ℕ) (xs : List Item) (name : List ℕ) where
   sound-missing a (missing c k) f = (c, k, refl)
 
 -- EVERY SET OF ABSENT LINKS: where reading agrees with the items, and for a name of ASCII bytes
-module _ (w : List ℕ) (first : Sector) (t : Region) (place : ℕ) (xs : List Item) (all : Agreement w first t place xs) (absent name : List ℕ) (ascii : anyHigh name ≡ false) where
+module _ (w : List ℕ) (first : Sector) (t : Region) (place : ℕ) (xs : List Item) (all : Agreement w first t place xs) (absent name : List ℕ) (ascii : badSought name ≡ false) where
   pub found-listed-by : isIn 0 absent ≡ true → (a : Finding) → lookupBy absent w first t name ≡ gives a → Listed xs place name a
   found-listed-by none a e = sound-found place xs name (lookupBy absent w first t name) (all .sound absent none name ascii) a e
 
@@ -75,7 +76,7 @@ module _ (w : List ℕ) (first : Sector) (t : Region) (place : ℕ) (xs : List I
   unlisted-by none f = sound-missing place xs name (lookupBy absent w first t name) (all .sound absent none name ascii) f
 
 -- THE TWO RULES, of a written table, in a window where it stands
-module _ (entry : ℕ → Entry) (align s : ℕ) (x : Tree) (w : List ℕ) (first : Sector) (t : Region) (g : Written entry align s x w first t) (name : List ℕ) (ascii : anyHigh name ≡ false) where
+module _ (entry : ℕ → Entry) (align s : ℕ) (x : Tree) (w : List ℕ) (first : Sector) (t : Region) (g : Written entry align s x w first t) (name : List ℕ) (ascii : badSought name ≡ false) where
   abbrev xs : List Item
   xs = items entry align 0 s x
 

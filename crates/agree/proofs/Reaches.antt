@@ -10,12 +10,12 @@ use borrow.Author.Tests.{ne-eqb}
 use Rattle.units.specs.Told.{Told, gives, refuses, pick}
 use Rattle.layout_name.specs.declared.Order.{Order}
 use Rattle.layout_name.specs.declared.Order.the-variants.{Less, Equal, Greater}
-use Rattle.layout_name.specs.Order.{nameOrder}
 use Rattle.layout_name.specs.inner.Order.{opposite}
-use Rattle.layout_name.proofs.Laws.{name-opposite, name-same-left, name-equal, name-equal→}
+use Rattle.name_role.specs.Roles.{storedOrder, soughtOrder, badSought}
+use Rattle.name_role.proofs.Roles.{stored-opposite, sought-then, sought-equal, sought-equal→}
 use Rattle.read_entry.specs.Entry.{Placed}
 use Rattle.read_entry.specs.Links.{isIn}
-use Rattle.read_lookup.specs.Lookup.{Leads, missing, onward, byLink, byOrder, stepAt, Finding, ending, chainFrom, anyHigh, lookupBy}
+use Rattle.read_lookup.specs.Lookup.{Leads, missing, onward, byLink, byOrder, stepAt, Finding, ending, chainFrom, lookupBy}
 use Rattle.lookup_way.specs.Along.{Along, there, left, right, Real, answerAlong}
 use Rattle.avl_model.specs.Tree.{Tree, leaf, node, ht}
 use Rattle.avl_model.specs.Laws.{All, Ordered, size}
@@ -78,11 +78,11 @@ module _ (F : Setting) (absent : List ℕ) where
   follow-is name m n o k = by-link (isIn k absent) o n (4 * k) (λ p. chain name m n p)
 
   -- what it answers at an item that is read back, by the order of the names
-  step-item : (name : List ℕ) (y : Item) → Back F y → stepAt absent (F .w) (F .first) (F .t) name (y .offset) ≡ byOrder absent (placedAt (F .place) y) (nameOrder name (y .entry .name))
+  step-item : (name : List ℕ) (y : Item) → Back F y → stepAt absent (F .w) (F .first) (F .t) name (y .offset) ≡ byOrder absent (placedAt (F .place) y) (soughtOrder name (y .entry .name))
   unfolding stepAt
   step-item name y b = rw (b .reads, b .named)
 
-  chain-item : (name : List ℕ) (y : Item) (m n : ℕ) (c : Order) → Back F y → nameOrder name (y .entry .name) ≡ c
+  chain-item : (name : List ℕ) (y : Item) (m n : ℕ) (c : Order) → Back F y → soughtOrder name (y .entry .name) ≡ c
       → chain name (suc m) n (y .offset) ≡ ending (byOrder absent (placedAt (F .place) y) c) (y .offset) (n + 1) (λ p. chain name m (n + 1) p)
   unfolding chainFrom
   chain-item name y m n c b q = rw (step-item name y b, q)
@@ -98,7 +98,7 @@ module _ (F : Setting) where
     way : Along (λ o. reads F o) (start F e i) (y .offset) links
     real : Real links
     written : Writes (its F e s (node l i r)) links
-    answers : (absent name : List ℕ) (m n : ℕ) → size l + size r ≤ m → nameOrder name (y .entry .name) ≡ Equal
+    answers : (absent name : List ℕ) (m n : ℕ) → size l + size r ≤ m → soughtOrder name (y .entry .name) ≡ Equal
         → chain F absent name (suc m) n (start F e i) ≡ along F absent y (n + 1) links
 
   record Below (x : Tree) (e s : ℕ) (y : Item) : Type 0 where
@@ -106,7 +106,7 @@ module _ (F : Setting) where
     way : Along (λ o. reads F o) (4 * link F e x) (y .offset) links
     real : Real (link F e x ∷ links)
     written : Writes (its F e s x) links
-    answers : (absent name : List ℕ) (m n o : ℕ) → size x ≤ m → nameOrder name (y .entry .name) ≡ Equal
+    answers : (absent name : List ℕ) (m n o : ℕ) → size x ≤ m → soughtOrder name (y .entry .name) ≡ Equal
         → follow F absent name m n o (link F e x) ≡ along F absent y n (link F e x ∷ links)
 
   below-from : (l : Tree) (i : ℕ) (r : Tree) (e s : ℕ) (y : Item) → (start F e i / 4 ≡ 0 → ⊥) × (start F e i / 4 ≡ 65535 → ⊥) × (start F e i ≡ 4 * (start F e i / 4))
@@ -119,7 +119,7 @@ module _ (F : Setting) where
     answers = λ absent name m n o h q. go absent name m n o h q;
   }
     where
-      go : (absent name : List ℕ) (m n o : ℕ) → size (node l i r) ≤ m → nameOrder name (y .entry .name) ≡ Equal
+      go : (absent name : List ℕ) (m n o : ℕ) → size (node l i r) ≤ m → soughtOrder name (y .entry .name) ≡ Equal
           → follow F absent name m n o (start F e i / 4) ≡ along F absent y n (start F e i / 4 ∷ g .links)
       go absent name zero n o h q = absurd (omega arith)
       go absent name (suc m) n o h q =
@@ -141,26 +141,26 @@ module _ (F : Setting) where
   mem-right l i r e s z m = List·Memᴰ·tail (Memᴰ·append-right (its F (stop F e i) (next F s i) l) m)
 
   from-left : (l : Tree) (i : ℕ) (r : Tree) (e s : ℕ) (y : Item) → Back F (item F e s l i r) → Below l (stop F e i) (next F s i) y
-      → nameOrder (y .entry .name) (F .entry i .name) ≡ Less → From l i r e s y
+      → storedOrder (y .entry .name) (F .entry i .name) ≡ Less → From l i r e s y
   from-left l i r e s y has b q = record {
     links = link F (stop F e i) l ∷ b .links;
     way = left (has .reads) (b .way);
     real = b .real;
     written = writes-cons _ _ (link F (stop F e i) l) (b .links) (item F e s l i r) (mem-here l i r e s) (inl refl) (mem-left l i r e s) (b .written);
     answers = λ absent name m n h p.
-        chain-item F absent name (item F e s l i r) m n Less has (name-same-left name (y .entry .name) (F .entry i .name) p ∙ q)
+        chain-item F absent name (item F e s l i r) m n Less has (sought-then name (y .entry .name) (F .entry i .name) p ∙ q)
         ∙ b .answers absent name m (n + 1) (start F e i) (omega arith) p;
   }
 
   from-right : (l : Tree) (i : ℕ) (r : Tree) (e s : ℕ) (y : Item) → Back F (item F e s l i r) → Below r (end F (stop F e i) l) (free F (next F s i) l) y
-      → nameOrder (y .entry .name) (F .entry i .name) ≡ Greater → From l i r e s y
+      → storedOrder (y .entry .name) (F .entry i .name) ≡ Greater → From l i r e s y
   from-right l i r e s y has b q = record {
     links = link F (end F (stop F e i) l) r ∷ b .links;
     way = right (has .reads) (b .way);
     real = b .real;
     written = writes-cons _ _ (link F (end F (stop F e i) l) r) (b .links) (item F e s l i r) (mem-here l i r e s) (inr refl) (mem-right l i r e s) (b .written);
     answers = λ absent name m n h p.
-        chain-item F absent name (item F e s l i r) m n Greater has (name-same-left name (y .entry .name) (F .entry i .name) p ∙ q)
+        chain-item F absent name (item F e s l i r) m n Greater has (sought-then name (y .entry .name) (F .entry i .name) p ∙ q)
         ∙ b .answers absent name m (n + 1) (start F e i) (omega arith) p;
   }
 
@@ -187,9 +187,9 @@ module _ (F : Setting) where
       let has = has-node F l i r e s g in (
         from-here l i r e s has,
         all-append _ (its F e₁ s₁ l) (its F e₂ s₂ r)
-            (all-both _ _ _ (its F e₁ s₁ l) (λ y p q. from-left l i r e s y has p q) a (all-items F (λ z. nameOrder (z .name) (F .entry i .name) ≡ Less) l e₁ s₁ (ord .0)))
-            (all-both _ _ _ (its F e₂ s₂ r) (λ y p q. from-right l i r e s y has p (name-opposite (F .entry i .name) (y .entry .name) ∙ ap opposite q)) b
-            (all-items F (λ z. nameOrder (F .entry i .name) (z .name) ≡ Less) r e₂ s₂ (ord .1))),
+            (all-both _ _ _ (its F e₁ s₁ l) (λ y p q. from-left l i r e s y has p q) a (all-items F (λ z. storedOrder (z .name) (F .entry i .name) ≡ Less) l e₁ s₁ (ord .0)))
+            (all-both _ _ _ (its F e₂ s₂ r) (λ y p q. from-right l i r e s y has p (stored-opposite (F .entry i .name) (y .entry .name) ∙ ap opposite q)) b
+            (all-items F (λ z. storedOrder (F .entry i .name) (z .name) ≡ Less) r e₂ s₂ (ord .1))),
       )
 
   below-all : (x : Tree) (e s : ℕ) → 0 < e → Ready F x e s → Ordered (Before (F .entry)) x → AllIn (Below x e s) (its F e s x)
@@ -218,7 +218,7 @@ module _ (F : Setting) (absent : List ℕ) (none : isIn 0 absent ≡ true) where
   sound-link xs h name n false a f = f refl
 
   -- at a node, by the order of the names
-  sound-node : (name : List ℕ) (l : Tree) (i : ℕ) (r : Tree) (e s m n : ℕ) (c : Order) → nameOrder name (F .entry i .name) ≡ c → Back F (item F e s l i r)
+  sound-node : (name : List ℕ) (l : Tree) (i : ℕ) (r : Tree) (e s m n : ℕ) (c : Order) → soughtOrder name (F .entry i .name) ≡ c → Back F (item F e s l i r)
       → Good (its F (stop F e i) (next F s i) l) (n + 1 + ht l) name (follow F absent name m (n + 1) (start F e i) (link F (stop F e i) l))
       → Good (its F (end F (stop F e i) l) (free F (next F s i) l) r) (n + 1 + ht r) name (follow F absent name m (n + 1) (start F e i) (link F (end F (stop F e i) l) r))
       → Good (its F e s (node l i r)) (n + ht (node l i r)) name (chain F absent name (suc m) n (start F e i))
@@ -228,7 +228,7 @@ module _ (F : Setting) (absent : List ℕ) (none : isIn 0 absent ≡ true) where
       (wider (F .place) (its F (stop F e i) (next F s i) l) _ (n + 1 + ht l) _ name (mem-left F l i r e s) (omega arith) _ a)
   sound-node name l i r e s m n Equal q has a b =
       rw (chain-item F absent name (item F e s l i r) m n Equal has q)
-      (sound.found (item F e s l i r) (n + 1) (List·Memᴰ·head refl) (name-equal→ name (F .entry i .name) q) (omega arith))
+      (sound.found (item F e s l i r) (n + 1) (List·Memᴰ·head refl) (sought-equal→ name (F .entry i .name) q) (omega arith))
   sound-node name l i r e s m n Greater q has a b =
       rw (chain-item F absent name (item F e s l i r) m n Greater has q)
       (wider (F .place) (its F (end F (stop F e i) l) (free F (next F s i) l) r) _ (n + 1 + ht r) _ name (mem-right F l i r e s) (omega arith) _ b)
@@ -240,13 +240,13 @@ module _ (F : Setting) (absent : List ℕ) (none : isIn 0 absent ≡ true) where
       let at : 4 * (start F e i / 4) ≡ start F e i = sym (linked F l i r e s g h .2) in
       rw (follow-is F absent name (suc m) n o (start F e i / 4), at)
       (sound-link (its F e s (node l i r)) (ht (node l i r)) name n (isIn (start F e i / 4) absent) (chain F absent name (suc m) n (start F e i))
-      (λ z. sound-node name l i r e s m n (nameOrder name (F .entry i .name)) refl (has-node F l i r e s g)
+      (λ z. sound-node name l i r e s m n (soughtOrder name (F .entry i .name)) refl (has-node F l i r e s g)
       (sound-below name l (stop F e i) (next F s i) (omega arith) (left-ready F l i r e s g) m (n + 1) (start F e i) (omega arith))
       (sound-below name r (end F (stop F e i) l) (free F (next F s i) l) (omega (arith, ends F l i r e s g .0)) (right-ready F l i r e s g) m (n + 1) (start F e i) (omega arith))))
 
 -- THE WHOLE TABLE, from offset 0, with room for 65,536 headers
 module _ (F : Setting) (l : Tree) (i : ℕ) (r : Tree) (s : ℕ) (g : Ready F (node l i r) 0 s) (few : size l + size r ≤ 65535) where
-  lookup-is : (absent name : List ℕ) → anyHigh name ≡ false → lookupBy absent (F .w) (F .first) (F .t) name ≡ chain F absent name 65536 0 (start F 0 i)
+  lookup-is : (absent name : List ℕ) → badSought name ≡ false → lookupBy absent (F .w) (F .first) (F .t) name ≡ chain F absent name 65536 0 (start F 0 i)
   unfolding lookupBy
   lookup-is absent name a =
       let some : F .t .size ≡ 0 → ⊥ = λ z. omega (arith, g .inside, ends F l i r 0 s g) in
@@ -259,17 +259,17 @@ module _ (F : Setting) (l : Tree) (i : ℕ) (r : Tree) (s : ℕ) (g : Ready F (n
         way = subst (λ (o : ℕ). Along (λ p. reads F p) o (y .offset) (z .links)) (at-zero F l i r s g) (z .way);
         real = z .real;
         written = z .written;
-        answers = λ absent name a q. lookup-is absent name a ∙ z .answers absent name 65535 0 few (name-equal name (y .entry .name) q);
+        answers = λ absent name a q. lookup-is absent name a ∙ z .answers absent name 65535 0 few (sought-equal name (y .entry .name) q);
       })
       (from-node F l i r 0 s g ord
       (below-all F l (stop F 0 i) (next F s i) (omega arith) (left-ready F l i r 0 s g) (ord .2))
       (below-all F r (end F (stop F 0 i) l) (free F (next F s i) l) (omega (arith, ends F l i r 0 s g .0)) (right-ready F l i r 0 s g) (ord .3)))
 
-  pub all-sound : (absent : List ℕ) → isIn 0 absent ≡ true → (m : ℕ) → ht (node l i r) ≤ m → (name : List ℕ) → anyHigh name ≡ false
+  pub all-sound : (absent : List ℕ) → isIn 0 absent ≡ true → (m : ℕ) → ht (node l i r) ≤ m → (name : List ℕ) → badSought name ≡ false
       → Sound (F .place) (its F 0 s (node l i r)) m name (lookupBy absent (F .w) (F .first) (F .t) name)
   all-sound absent none m low name a =
       rw (lookup-is absent name a)
       (wider (F .place) (its F 0 s (node l i r)) _ (0 + ht (node l i r)) m name (λ y k. k) (omega arith) _
-      (sound-node F absent none name l i r 0 s 65535 0 (nameOrder name (F .entry i .name)) refl (has-node F l i r 0 s g)
+      (sound-node F absent none name l i r 0 s 65535 0 (soughtOrder name (F .entry i .name)) refl (has-node F l i r 0 s g)
       (sound-below F absent none name l (stop F 0 i) (next F s i) (omega arith) (left-ready F l i r 0 s g) 65535 1 (start F 0 i) (omega arith))
       (sound-below F absent none name r (end F (stop F 0 i) l) (free F (next F s i) l) (omega (arith, ends F l i r 0 s g .0)) (right-ready F l i r 0 s g) 65535 1 (start F 0 i) (omega arith))))

@@ -12,10 +12,10 @@ use lib.ListN.{length, getD}
 use Rattle.units.specs.Told.{Told, gives, refuses}
 use Rattle.units.specs.declared.Sector.{Sector}
 use Rattle.units.specs.declared.Region.{Region}
-use Rattle.layout_name.specs.Order.{raised}
+use Rattle.name_role.specs.Roles.{soughtKeys, storedKeys, badSought}
 use Rattle.read_entry.specs.Entry.{Placed, readAt, nameOf}
 use Rattle.read_entry.specs.Links.{isIn}
-use Rattle.read_lookup.specs.Lookup.{Finding, anyHigh, lookupBy}
+use Rattle.read_lookup.specs.Lookup.{Finding, lookupBy}
 use Rattle.lookup_way.specs.Along.{Along, Real, answerAlong}
 use Rattle.read_walk.specs.Walk.{walkOf}
 use Rattle.table_model.specs.Entry.{Item, headerFor}
@@ -29,9 +29,9 @@ offsets = map (λ (y : Item). y .offset)
 abbrev pub placedAt : ℕ → Item → Placed
 placedAt place y = record { header = headerFor y; place = place + y .offset }
 
--- two names are the same, raised
+-- a name that is sought is a stored one, raised
 abbrev pub Same : List ℕ → List ℕ → Type 0
-Same a b = map raised a ≡ map raised b
+Same name b = soughtKeys name ≡ storedKeys b
 
 -- as many headers as a lookup in a written table reads at most
 abbrev pub mostHeaders : ℕ
@@ -53,7 +53,7 @@ module _ (w : List ℕ) (first : Sector) (t : Region) (place : ℕ) where
     pub real : Real links
     -- each is a link that an item has
     pub written : (k : ℕ) → List·Memᴰ k links → (z : Item) × List·Memᴰ z xs × ((k ≡ z .left) ⊎ (k ≡ z .right))
-    pub answers : (absent name : List ℕ) → anyHigh name ≡ false → Same name (y .entry .name)
+    pub answers : (absent name : List ℕ) → badSought name ≡ false → Same name (y .entry .name)
         → lookupBy absent w first t name ≡ answerAlong absent (placedAt place y) (y .offset) 1 links
 
 -- an answer to a name: one of the items, whose name is the name sought, raised; or 22; after at most m headers
@@ -81,5 +81,5 @@ module _ (w : List ℕ) (first : Sector) (t : Region) (place : ℕ) where
     pub one-way : (o : ℕ) (ks ls : List ℕ) → Along (readAt w first t) 0 o ks → Real ks
         → Along (readAt w first t) 0 o ls → Real ls → ks ≡ ls
     -- nothing else is found, and no lookup reads more than so many headers, where 0 is taken for absent
-    pub sound : (absent : List ℕ) → isIn 0 absent ≡ true → (name : List ℕ) → anyHigh name ≡ false
+    pub sound : (absent : List ℕ) → isIn 0 absent ≡ true → (name : List ℕ) → badSought name ≡ false
         → Sound place xs mostHeaders name (lookupBy absent w first t name)

@@ -8,7 +8,7 @@ use Rattle.units.specs.Told.{Told, gives, refuses}
 use Rattle.units.specs.declared.Region.{Region}
 use Rattle.layout_name.specs.declared.Order.{Order}
 use Rattle.layout_name.specs.declared.Order.the-variants.{Less}
-use Rattle.layout_name.specs.Order.{nameOrder}
+use Rattle.name_role.specs.Roles.{givenOrder}
 use Rattle.layout_node.specs.Header.{entryLength}
 use Rattle.dirtab_entry.specs.declared.Kind.{Kind}
 use Rattle.dirtab_entry.specs.declared.Kind.the-variants.{File, Directory}
@@ -24,7 +24,7 @@ use Rattle.table_model.specs.Entry.{Entry, Item}
 use Rattle.table_model.specs.Place.{startAfter, items}
 use Rattle.table_model.specs.Table.{sizeOf, tableBytes, placeOf}
 use Rattle.table_model.specs.Said.{Fits, LinkFits}
-use Rattle.agree.specs.Given.{Given, entryOf, treeOf}
+use Rattle.agree.specs.Given.{Given, givenName, entryOf, treeOf}
 
 -- what a row says of an item: its name, offset, links and sector
 pub record Row : Type 0 where
@@ -89,8 +89,8 @@ Holds (written gs s xs n) = (rows (itemsOf gs s) ≡ xs) × (sizeOf (entryOf gs)
 Holds (bytes gs s b) = bytesOf gs s ≡ b
 Holds (walked gs s os) = walkOf (bytesOf gs s) (record { 0 = 33 }) (regionOf gs) (length gs) ≡ gives os
 Holds (looked gs s name a) = hit (lookupOf (bytesOf gs s) (record { 0 = 33 }) (regionOf gs) name) ≡ a
-Holds (duplicate gs name i) = spotIn (λ j. nameOrder name (entryOf gs j .name)) (treeOf gs) Root ≡ Same i
-Holds (ordered a b o) = nameOrder a b ≡ o
+Holds (duplicate gs name i) = spotIn (λ j. givenOrder name (givenName gs j)) (treeOf gs) Root ≡ Same i
+Holds (ordered a b o) = givenOrder a b ≡ o
 Holds (long n m) = entryLength n ≡ m
 Holds (checked name kind size a) = checkOf name (record { start = 0; len = length name; kind = kind; size = size }) ≡ a
 Holds (stored kind n m) = storedSize kind n ≡ m

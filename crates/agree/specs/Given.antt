@@ -8,16 +8,15 @@ use lib.ListN.{length, getD}
 use Rattle.units.specs.Told.{gives}
 use Rattle.units.specs.declared.Sector.{Sector}
 use Rattle.units.specs.declared.Region.{Region}
-use Rattle.layout_name.specs.Order.{nameOrder}
+use Rattle.name_role.specs.Roles.{givenKeys, givenOrder}
 use Rattle.dirtab_entry.specs.declared.Kind.{Kind}
 use Rattle.dirtab_entry.specs.declared.Kind.the-variants.{File}
-use Rattle.dirtab_entry.specs.Entry.{isDirectory, storedSize, anyBad}
+use Rattle.dirtab_entry.specs.Entry.{isDirectory, anyBad}
 use Rattle.avl_model.specs.Tree.{Tree, leaf, δ, ins}
 use Rattle.avl_model.specs.Names.{isLess}
-use Rattle.table_model.specs.Entry.{Entry, Item}
+use Rattle.table_model.specs.Entry.{Entry, Item, entryWith}
 use Rattle.table_model.specs.Table.{Placing, sizeOf, tableBytes, placeOf}
 use Rattle.agree.specs.Written.{Stand}
-use Rattle.agree.specs.Agreement.{Same}
 
 -- an entry as it is given: its name, its kind and its size
 pub record Given : Type 0 where
@@ -38,9 +37,9 @@ pub record Good (g : Given) : Type 0 where
   pub small : g .size ≤ 4294967295
   pub roundable : isDirectory (g .kind) ≡ true → g .size ≤ largestDirectory
 
--- as it is stored: a directory's size is rounded
+-- as a table has it
 abbrev pub stored : Given → Entry
-stored g = record { name = g .name; kind = g .kind; size = storedSize (g .kind) (g .size) }
+stored g = entryWith (g .name) (g .kind) (g .size)
 
 -- the entry with number i of a list
 abbrev pub numbered : List Given → ℕ → Given
@@ -49,13 +48,17 @@ numbered gs i = getD gs i (record { name = []; kind = File; size = 0 })
 abbrev pub entryOf : List Given → ℕ → Entry
 entryOf gs i = stored (numbered gs i)
 
--- the tree of the first n entries, put in one after the other
-unfoldable pub grown : (ℕ → Entry) → ℕ → Tree
-grown entry zero = leaf
-grown entry (suc n) = ins (λ i. isLess (nameOrder (entry n .name) (entry i .name))) n (grown entry n)
+-- the tree of the first n entries, put in one after the other by their given names
+unfoldable pub grown : (ℕ → List ℕ) → ℕ → Tree
+grown name zero = leaf
+grown name (suc n) = ins (λ i. isLess (givenOrder (name n) (name i))) n (grown name n)
+
+-- the given name of the entry with number i
+abbrev pub givenName : List Given → ℕ → List ℕ
+givenName gs i = numbered gs i .name
 
 abbrev pub treeOf : List Given → Tree
-treeOf gs = grown (entryOf gs) (length gs)
+treeOf gs = grown (givenName gs) (length gs)
 
 -- a list that can be written from sector s on
 pub record Admitted (align s : ℕ) (gs : List Given) : Type 0 where
@@ -63,7 +66,8 @@ pub record Admitted (align s : ℕ) (gs : List Given) : Type 0 where
   pub few : length gs ≤ 16384
   pub good : (i : ℕ) → i < length gs → Good (numbered gs i)
   -- no two names are equal once raised
-  pub differ : (i j : ℕ) → i < length gs → j < length gs → Same (numbered gs i .name) (numbered gs j .name) → i ≡ j
+  pub differ : (i j : ℕ) → i < length gs → j < length gs → givenKeys (givenName gs i) ≡ givenKeys (givenName gs j)
+      → i ≡ j
   -- neither 7 nor 8 is met
   pub placing : Placing
   pub placed : placeOf (entryOf gs) align s (treeOf gs) ≡ gives placing

@@ -7,7 +7,7 @@ use Rattle.units.specs.Told.{gives}
 use Rattle.units.specs.declared.Sector.{Sector}
 use Rattle.units.specs.declared.Region.{Region}
 use Rattle.layout_name.specs.declared.Order.the-variants.{Less}
-use Rattle.layout_name.specs.Order.{nameOrder}
+use Rattle.name_role.specs.Roles.{storedOrder}
 use Rattle.dirtab_entry.specs.Entry.{rounded}
 use Rattle.avl_model.specs.Tree.{Tree}
 use Rattle.avl_model.specs.Laws.{Avl, All, Ordered}
@@ -17,7 +17,7 @@ use Rattle.table_model.specs.Said.{Fits}
 
 -- the name of entry i is before that of entry j, raised
 abbrev pub Before : (ℕ → Entry) → ℕ → ℕ → Type 0
-Before entry i j = nameOrder (entry i .name) (entry j .name) ≡ Less
+Before entry i j = storedOrder (entry i .name) (entry j .name) ≡ Less
 
 -- a tree of entries that can be written from sector s on, with sectors at multiples of an alignment
 pub record Writable (entry : ℕ → Entry) (align s : ℕ) (x : Tree) : Type 0 where

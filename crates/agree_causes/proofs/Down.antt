@@ -14,9 +14,8 @@ use Rattle.dirtab_entry.specs.declared.Kind.the-variants.{File, Directory}
 use Rattle.dirtab_entry.specs.Entry as entries
 use Rattle.dirtab_entry.specs.Entry.{kindFor, checkOf}
 use Rattle.avl_model.specs.Tree.{Tree}
-use Rattle.table_model.specs.Entry.{Entry}
 use Rattle.table_model.specs.Table.{sizeOf}
-use Rattle.img_model.specs.Shares.{Request, shareOf, directoriesOf, firstOf, countOf, isDirectory, valueOf}
+use Rattle.img_model.specs.Shares.{Request, shareOf, givenName, directoriesOf, firstOf, countOf, isDirectory, valueOf}
 use Rattle.img_model.specs.Plan.{tableIn, sizeAt, givenAt, entryIn, checkIn, treeIn, ifGrown, sizesDown}
 use Rattle.agree.specs.Given.{grown}
 use Rattle.agree_plan.proofs.Grew.{table-small}
@@ -52,8 +51,8 @@ pub data Downs (R : Request) : Told (List ℕ) → Type 0 where
 
 module _ (R : Request) (f : FairImage R) where
   module _ (sizes : List ℕ) (low : Low sizes) (d : ℕ) (hd : d < directoriesOf R) where
-    abbrev E : ℕ → Entry
-    E = entryIn (shareOf R d) (tableIn sizes)
+    abbrev name : ℕ → List ℕ
+    name = givenName (shareOf R d)
 
     abbrev check : ℕ → Told (Unit {0})
     check = checkIn (shareOf R d) (tableIn sizes)
@@ -71,15 +70,15 @@ module _ (R : Request) (f : FairImage R) where
         go (inl a) = inl (left ∙ a .0, λ t. a .1 (t .file) (t .long))
         go (inr b) = inr (left ∙ b .0, record { directory = hd; entry = h; file = b .1 .0; long = b .1 .1 })
 
-    pub tree-grows : Grows (entryIn (shareOf R d) (tableIn sizes)) (countOf R d) 10 (TooLong R d) (treeIn (shareOf R d) (tableIn sizes))
+    pub tree-grows : Grows (givenName (shareOf R d)) (countOf R d) 10 (TooLong R d) (treeIn (shareOf R d) (tableIn sizes))
     unfolding treeIn
-    tree-grows = grows E check (countOf R d) (f .named d hd .few) (f .named d hd .differ) 10 (TooLong R d) judged
+    tree-grows = grows name check (countOf R d) (f .named d hd .few) (f .named d hd .differ) 10 (TooLong R d) judged
 
     -- the tree, where no file is too long
-    pub tree-given : ((e i : ℕ) → TooLong R e i → ⊥) → treeIn (shareOf R d) (tableIn sizes) ≡ gives (grown (entryIn (shareOf R d) (tableIn sizes)) (countOf R d))
+    pub tree-given : ((e i : ℕ) → TooLong R e i → ⊥) → treeIn (shareOf R d) (tableIn sizes) ≡ gives (grown (givenName (shareOf R d)) (countOf R d))
     tree-given none = go tree-grows
       where
-        go : {x : Told Tree} → Grows E (countOf R d) 10 (TooLong R d) x → x ≡ gives (grown E (countOf R d))
+        go : {x : Told Tree} → Grows name (countOf R d) 10 (TooLong R d) x → x ≡ gives (grown name (countOf R d))
         go (all fine) = refl
         go (stops j h b fine) = absurd (none d j b)
 
@@ -88,11 +87,11 @@ module _ (R : Request) (f : FairImage R) where
   down zero sizes l long low fine = sized sizes (λ d i t. fine d i (omega arith) t) low long
   down (suc n) sizes l long low fine =
       go (tree-grows sizes low n (omega arith)) refl
-      (λ h g. down n (set sizes n (sizeOf (entryIn (shareOf R n) (tableIn sizes)) (grown (entryIn (shareOf R n) (tableIn sizes)) (countOf R n)))) (omega arith) (length-set sizes n _ ∙ long) h g)
+      (λ h g. down n (set sizes n (sizeOf (entryIn (shareOf R n) (tableIn sizes)) (grown (givenName (shareOf R n)) (countOf R n)))) (omega arith) (length-set sizes n _ ∙ long) h g)
     where
-      go : {x : Told Tree} → Grows (entryIn (shareOf R n) (tableIn sizes)) (countOf R n) 10 (TooLong R n) x → treeIn (shareOf R n) (tableIn sizes) ≡ x
-          → (Low (set sizes n (sizeOf (entryIn (shareOf R n) (tableIn sizes)) (grown (entryIn (shareOf R n) (tableIn sizes)) (countOf R n)))) → ((d i : ℕ) → n ≤ d → TooLong R d i → ⊥)
-          → Downs R (sizesDown R n (set sizes n (sizeOf (entryIn (shareOf R n) (tableIn sizes)) (grown (entryIn (shareOf R n) (tableIn sizes)) (countOf R n))))))
+      go : {x : Told Tree} → Grows (givenName (shareOf R n)) (countOf R n) 10 (TooLong R n) x → treeIn (shareOf R n) (tableIn sizes) ≡ x
+          → (Low (set sizes n (sizeOf (entryIn (shareOf R n) (tableIn sizes)) (grown (givenName (shareOf R n)) (countOf R n)))) → ((d i : ℕ) → n ≤ d → TooLong R d i → ⊥)
+          → Downs R (sizesDown R n (set sizes n (sizeOf (entryIn (shareOf R n) (tableIn sizes)) (grown (givenName (shareOf R n)) (countOf R n))))))
           → Downs R (ifGrown R n x (λ t. sizesDown R n (set sizes n (sizeOf (entryIn (shareOf R n) (tableIn sizes)) t))))
       go (all none) q next =
           next (λ x. set-low sizes n _ x (table-small (shareOf R n) (tableIn sizes) _ q) (low x))

@@ -26,14 +26,14 @@ use Rattle.img_take.proofs.Far.{far-is}
 use Rattle.dirtab_arena.specs.Arena.{Columns}
 use Rattle.dirtab.specs.Serialise as serialise
 use Rattle.dirtab_grow.specs.Grow.{grow}
-use Rattle.dirtab_list.specs.Whole.{Listing, givenIn, entryIn, hasPlaces, ifFits, ifGrown, wholeOf, Lent, placesIn, answerIn}
+use Rattle.dirtab_list.specs.Whole.{Listing, givenIn, givenName, entryIn, hasPlaces, ifFits, ifGrown, wholeOf, Lent, placesIn, answerIn}
 use Rattle.agree.specs.Given.{grown}
 use Rattle.dirtab_entry.proofs.Stored.{stored-low}
 use Rattle.agree.proofs.FromList.{grown-below}
 use Rattle.agree_list.specs.InTurn.{addAll, emptyIn, thenAnswer}
 use Rattle.agree_list.proofs.Same.{same-answer}
 use Rattle.agree_causes.specs.Lists.{FairList, Roomy, Enough, EnoughInTurn, treeFor, itemsFor, TooLarge, Near, WriteOutcome, written, five, seven, eight}
-use Rattle.agree_causes.proofs.Checks.{name-long, size-left}
+use Rattle.agree_causes.proofs.Checks.{name-short, size-left}
 use Rattle.agree_causes.proofs.Sectors.{free-is}
 use Rattle.agree_causes.proofs.Growing.{Grows, all, stops, grows}
 
@@ -77,8 +77,8 @@ module _ (L : Listing) (f : FairList L) where
       go (inl a) = inl (left ∙ a .0, λ t. a .1 (t .directory) (t .large))
       go (inr b) = inr (left ∙ b .0, record { directory = b .1 .0; large = b .1 .1 })
 
-  grown-is : Grows (entryIn L) (L .count) 5 (TooLarge L) (grow (L .bytes) (givenIn L) (L .count))
-  grown-is = grows (entryIn L) check (L .count) (f .named .few) (f .named .differ) 5 (TooLarge L) judged
+  grown-is : Grows (givenName L) (L .count) 5 (TooLarge L) (grow (L .bytes) (givenIn L) (L .count))
+  grown-is = grows (givenName L) check (L .count) (f .named .few) (f .named .differ) 5 (TooLarge L) judged
 
   module _ (s : ℕ) where
     module _ (none : (i : ℕ) → i < L .count → TooLarge L i → ⊥) where
@@ -86,12 +86,12 @@ module _ (L : Listing) (f : FairList L) where
       fits =
           all-map (λ i. i < L .count) (FitsAt (entryIn L)) (treeFor L)
           (λ i h. record {
-            short = omega (arith, name-long (L .count) (L .start) (L .len) (L .bytes) (f .named) i h, f .named .short i h);
+            short = name-short (L .count) (L .start) (L .len) (L .bytes) (f .named) i h (givenIn L i .kind) (givenIn L i .size);
             small = stored-low (kindFor (getD (L .kind) i 0)) (getD (L .size) i 0) (f .sizes i)
                 (low-size (getD (L .kind) i 0) (getD (L .size) i 0) (eqb (getD (L .kind) i 0) 1) (ltb 4294965248 (getD (L .size) i 0)) refl refl
                 (λ k l. none i h (record { directory = k; large = l })));
           })
-          (grown-below (entryIn L) (L .count))
+          (grown-below (givenName L) (L .count))
 
       -- the table of items that all start low enough has at most 262,144 bytes
       size-low : AllIn LinkFits (itemsFor L s) → sizeOf (entryIn L) (treeFor L) ≤ 262144
@@ -109,14 +109,14 @@ module _ (L : Listing) (f : FairList L) where
           subst (WriteOutcome L s)
           (sym (ap (ifFits (length out)) e
           ∙ ap (λ (b : Bool). pick b (given (freeOf (entryIn L) 1 s (treeFor L))) (refuses 9 [])) (le-leb _ _ (roomy out h a))
-          ∙ ap given (free-is (entryIn L) s (L .count))))
-          (written none (near (itemsFor L s) a) (subst (λ (f : ℕ). f ≤ 4294967295) (free-is (entryIn L) s (L .count)) l))
+          ∙ ap given (free-is (givenName L) (entryIn L) s (L .count))))
+          (written none (near (itemsFor L s) a) (subst (λ (f : ℕ). f ≤ 4294967295) (free-is (givenName L) (entryIn L) s (L .count)) l))
       placed out h (placing.seven y m far e) = subst (WriteOutcome L s) (sym (ap (ifFits (length out)) e)) (seven none y m (omega arith))
       placed out h (placing.eight a over e) =
           subst (WriteOutcome L s) (sym (ap (ifFits (length out)) e))
-          (eight none (near (itemsFor L s) a) (subst (λ (f : ℕ). 4294967295 < f) (free-is (entryIn L) s (L .count)) over))
+          (eight none (near (itemsFor L s) a) (subst (λ (f : ℕ). 4294967295 < f) (free-is (givenName L) (entryIn L) s (L .count)) over))
 
-    after : (out : List ℕ) → Roomy L out → {x : Told Tree} → Grows (entryIn L) (L .count) 5 (TooLarge L) x → WriteOutcome L s (ifGrown x (λ t. ifFits (length out) (placeOf (entryIn L) 1 s t)))
+    after : (out : List ℕ) → Roomy L out → {x : Told Tree} → Grows (givenName L) (L .count) 5 (TooLarge L) x → WriteOutcome L s (ifGrown x (λ t. ifFits (length out) (placeOf (entryIn L) 1 s t)))
     after out h (all none) = placed none out h (outcome (entryIn L) 1 s (treeFor L))
     after out h (stops j k b none) = five j k b none
 

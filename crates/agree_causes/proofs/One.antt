@@ -1,5 +1,5 @@
 -- A CAUSE HAS ONE ANSWER: no two of the four outcomes are there together, of a list or of a plan. Assumes nothing.
-use Prim.Native.Nat.{ℕ, zero, suc, _+_, _≤_, _<_}
+use Prim.Native.Nat.{ℕ, suc, _+_, _≤_, _<_}
 use native.Mathlib.Omega.{arith}
 use native.Mathlib.Decide.{decLt, ℕ-discrete}
 use mathlib.Core.Path.{_≡_, refl, sym, ap, subst, _∙_}
@@ -7,18 +7,15 @@ use mathlib.Core.List.{List, [], _∷_, List·Memᴰ}
 use lib.ListN.{length, getD}
 use lib.Seq.{ext-getD}
 use Rattle.units.specs.Told.{Told, gives, refuses}
-use Rattle.layout_name.specs.Order.{nameOrder}
-use Rattle.avl_model.specs.Names.{isLess}
-use Rattle.avl_model.specs.Tree.{Tree, ins}
+use Rattle.avl_model.specs.Tree.{Tree}
 use Rattle.table_model.specs.Entry.{Item}
-use Rattle.table_model.specs.Table.{Placing, sizeOf}
+use Rattle.table_model.specs.Table.{Placing}
 use Rattle.table_model.specs.Said.{AllIn}
 use Rattle.table_model.proofs.Geometry.{of-item}
 use Rattle.dirtab_list.specs.Whole.{Listing}
-use Rattle.img_model.specs.Shares.{Request, Share, shareOf, directoriesOf, firstOf, countOf}
-use Rattle.img_model.specs.Plan.{tableIn, entryIn, entriesAt}
+use Rattle.img_model.specs.Shares.{Request, shareOf, directoriesOf, firstOf}
+use Rattle.img_model.specs.Plan.{tableIn}
 use Rattle.img_model.proofs.Trees.{size-same}
-use Rattle.agree.specs.Given.{grown}
 use Rattle.agree_causes.specs.Lists.{Near, TooLarge, farthest, lastSector, WriteOutcome}
 use Rattle.agree_causes.specs.Lists as lists
 use Rattle.agree_causes.specs.Plans.{TooLong, treeFor, SizesOf, freeBefore, itemsFor, Placeable, PlanOutcome}
@@ -54,12 +51,6 @@ module _ (L : Listing) (s : ℕ) where
   one-outcome (lists.eight n a h) (lists.seven n₂ y m g) = absurd (clash _ y a m g)
   one-outcome (lists.eight n a h) (lists.eight n₂ a₂ h₂) = refl
 
--- the tree of a share depends on the names alone
-tree-same : (S : Share) (f g : ℕ → ℕ) (n : ℕ) → grown (entryIn S f) n ≡ grown (entryIn S g) n
-unfolding grown
-tree-same S f g zero = refl
-tree-same S f g (suc n) = ap (ins (λ i. isLess (nameOrder (entryIn S g n .name) (entryIn S g i .name))) n) (tree-same S f g n)
-
 module _ (R : Request) where
   -- THE SIZES of the tables are one list
   pub one-sizes : (s z : List ℕ) → SizesOf R s → SizesOf R z → s ≡ z
@@ -68,7 +59,6 @@ module _ (R : Request) where
       let k : d < directoriesOf R = omega (arith, a .long) in
       a .each d k
       ∙ size-same (shareOf R d) (tableIn s) (tableIn z) (treeFor R s d)
-      ∙ ap (sizeOf (entriesAt R z d)) (tree-same (shareOf R d) (tableIn s) (tableIn z) (countOf R d))
       ∙ sym (b .each d k))
 
   -- directory d is the first that cannot be placed, by 7 or by 8

@@ -3,6 +3,7 @@ use Prim.Native.Nat.{ℕ, zero, suc, _+_}
 use native.Mathlib.Omega.{arith}
 use mathlib.Core.Path.{_≡_, refl, sym, ap, _∙_}
 use mathlib.Core.Bool.{Bool, true, false}
+use mathlib.Core.List.{List}
 use Rattle.layout_sector.specs.Counter.{sectorsFor}
 use Rattle.avl_model.specs.Tree.{Tree, leaf, node, bal, ins, insBy}
 use Rattle.avl_model.proofs.Bal.{bal-ind}
@@ -13,7 +14,7 @@ use Rattle.table_model.proofs.Places.{free-sum}
 use Rattle.agree.specs.Given.{grown}
 use Rattle.agree_causes.specs.Lists.{sectorsOf}
 
-module _ (entry : ℕ → Entry) where
+module _ (name : ℕ → List ℕ) (entry : ℕ → Entry) where
   abbrev own : ℕ → ℕ
   own i = sectorsFor (entry i .size)
 
@@ -40,10 +41,10 @@ module _ (entry : ℕ → Entry) where
     | false ↦ omega (arith, at-node l i r, bal-sum l i (ins less new r), ins-sum less new r)
   ]
 
-  grown-sum : (n : ℕ) → sectorsIn entry (grown entry n) ≡ sectorsOf entry n
+  grown-sum : (n : ℕ) → sectorsIn entry (grown name n) ≡ sectorsOf entry n
   unfolding grown sectorsOf
   grown-sum zero = at-leaf
-  grown-sum (suc n) = ins-sum _ n (grown entry n) ∙ ap (λ (m : ℕ). m + own n) (grown-sum n)
+  grown-sum (suc n) = ins-sum _ n (grown name n) ∙ ap (λ (m : ℕ). m + own n) (grown-sum n)
 
-  pub free-is : (s n : ℕ) → freeOf entry 1 s (grown entry n) ≡ s + sectorsOf entry n
-  free-is s n = free-sum entry (grown entry n) s ∙ ap (λ (m : ℕ). s + m) (grown-sum n)
+  pub free-is : (s n : ℕ) → freeOf entry 1 s (grown name n) ≡ s + sectorsOf entry n
+  free-is s n = free-sum entry (grown name n) s ∙ ap (λ (m : ℕ). s + m) (grown-sum n)

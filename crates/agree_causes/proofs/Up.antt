@@ -12,7 +12,7 @@ use Rattle.table_model.specs.Place.{freeOf, items}
 use Rattle.table_model.specs.Table.{Placing, placeOf}
 use Rattle.table_model.proofs.Placing as placing
 use Rattle.table_model.proofs.Placing.{outcome}
-use Rattle.img_model.specs.Shares.{Request, shareOf, directoriesOf, countOf}
+use Rattle.img_model.specs.Shares.{Request, shareOf, givenName, directoriesOf, countOf}
 use Rattle.img_model.specs.Plan.{tableIn, treeIn, ifGrown, Taking, entriesAt, takingAll, ifPlaced, takingUp, withSizes}
 use Rattle.img_model.proofs.Takings.{free-taken}
 use Rattle.img_model.specs.Image.{answerOf}
@@ -28,7 +28,7 @@ module _ (R : Request) (f : FairImage R) (s : List ℕ) (none : (d i : ℕ) → 
   free-step d = refl
 
   free-next : (d : ℕ) → freeBefore R s (suc d) ≡ freeOf (entriesAt R s d) 1 (freeBefore R s d) (treeFor R s d)
-  free-next d = free-step d ∙ sym (free-is (entriesAt R s d) (freeBefore R s d) (countOf R d))
+  free-next d = free-step d ∙ sym (free-is (givenName (shareOf R d)) (entriesAt R s d) (freeBefore R s d) (countOf R d))
 
   abbrev Answers : Told Taking → Type 0
   Answers x = PlanOutcome R (answerOf (withSizes s x))

@@ -7,6 +7,7 @@ use mathlib.Core.Logic.{_⊎_}
 use mathlib.Core.List.{List, [], _∷_, List·Memᴰ}
 use lib.ListN.{length, getD}
 use Rattle.units.specs.Told.{Told, gives, refuses}
+use Rattle.name_role.specs.Roles.{givenKeys}
 use Rattle.layout_sector.specs.Counter.{sectorsFor}
 use Rattle.dirtab_entry.specs.Entry.{rounded}
 use Rattle.avl_model.specs.Tree.{Tree}
@@ -17,8 +18,7 @@ use Rattle.table_model.specs.Table.{Placing, sizeOf}
 use Rattle.table_model.specs.Said.{AllIn}
 use Rattle.dirtab_arena.specs.Arena.{Columns}
 use Rattle.dirtab.specs.Serialise as serialise
-use Rattle.dirtab_list.specs.Whole.{Listing, entryIn, hasPlaces, Lent, placesIn}
-use Rattle.agree.specs.Agreement.{Same}
+use Rattle.dirtab_list.specs.Whole.{Listing, givenName, entryIn, hasPlaces, Lent, placesIn}
 use Rattle.agree.specs.Given.{grown}
 use Rattle.agree_list.specs.InTurn.{Wide}
 
@@ -32,7 +32,7 @@ pub record Fair (n : ℕ) (start len bytes : List ℕ) : Type 0 where
   pub ascii : (i k : ℕ) → i < n → k < getD len i 0
       → (1 ≤ getD bytes (getD start i 0 + k) 0) × (getD bytes (getD start i 0 + k) 0 ≤ 127)
   pub differ : (i j : ℕ) → i < n → j < n
-      → Same (nameAt (namesIn bytes start len) i) (nameAt (namesIn bytes start len) j) → i ≡ j
+      → givenKeys (nameAt (namesIn bytes start len) i) ≡ givenKeys (nameAt (namesIn bytes start len) j) → i ≡ j
 
 -- A LIST with such names; each size is a number of four bytes, as the column's type says
 pub record FairList (L : Listing) : Type 0 where
@@ -41,7 +41,7 @@ pub record FairList (L : Listing) : Type 0 where
 
 -- the tree of the list's entries, put in one after another, and its items, with sectors from s on
 abbrev pub treeFor : Listing → Tree
-treeFor L = grown (entryIn L) (L .count)
+treeFor L = grown (givenName L) (L .count)
 
 abbrev pub itemsFor : Listing → ℕ → List Item
 itemsFor L s = items (entryIn L) 1 0 s (treeFor L)

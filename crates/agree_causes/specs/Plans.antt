@@ -12,7 +12,8 @@ use Rattle.table_model.specs.Entry.{Item}
 use Rattle.table_model.specs.Place.{items}
 use Rattle.table_model.specs.Table.{sizeOf}
 use Rattle.table_model.specs.Said.{AllIn}
-use Rattle.img_model.specs.Shares.{Request, shareOf, directoriesOf, firstOf, countOf, isDirectory, valueOf, isTree}
+use Rattle.img_model.specs.Shares.{Request, directoriesOf, firstOf, countOf, shareOf, givenName, isTree}
+use Rattle.img_model.specs.Shares.{isDirectory, valueOf}
 use Rattle.img_model.specs.Plan.{tableIn, entriesAt, Plan, total}
 use Rattle.img_model.specs.Image.{Asked, Lent, hasRoom, requestIn, lentAfter}
 use Rattle.agree.specs.Given.{grown}
@@ -41,7 +42,7 @@ pub record TooLong (R : Request) (d i : ℕ) : Type 0 where
 module _ (R : Request) (sizes : List ℕ) where
   -- the tree of directory d's entries, put in one after another
   abbrev pub treeFor : ℕ → Tree
-  treeFor d = grown (entriesAt R sizes d) (countOf R d)
+  treeFor d = grown (givenName (shareOf R d)) (countOf R d)
 
   pub record SizesOf : Type 0 where
     pub long : length sizes ≡ directoriesOf R

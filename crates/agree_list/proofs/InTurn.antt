@@ -10,7 +10,7 @@ use lib.ListN.{length, length-set}
 use borrow.Author.Tests.{le-leb, lt-ltb}
 use Rattle.units.specs.Told.{Told, gives, refuses, pick}
 use Rattle.layout_name.specs.declared.Order.{Order}
-use Rattle.layout_name.specs.Order.{nameOrder}
+use Rattle.name_role.specs.Roles.{givenOrder}
 use Rattle.dirtab_entry.specs.declared.Entry as given
 use Rattle.dirtab_entry.specs.Entry.{nameIn, checkOf}
 use Rattle.avl_model.specs.declared.Place.the-variants.{Root}
@@ -19,7 +19,7 @@ use Rattle.avl_model.specs.declared.Spot.the-variants.{Same, Free}
 use Rattle.avl_model.specs.Columns.{written}
 use Rattle.avl_model.specs.Rep.{arrOf}
 use Rattle.avl_model.specs.Laws.{All}
-use Rattle.avl_model.specs.Names.{toName, isLess}
+use Rattle.avl_model.specs.Names.{nameAt, toName, isLess}
 use Rattle.avl_model.specs.Seek.{spotIn}
 use Rattle.avl_model.specs.Tree.{Tree, leaf, none, top, ins}
 use Rattle.avl_model.proofs.Alike.{ins-alike, spot-alike}
@@ -29,12 +29,11 @@ use Rattle.avl_model.proofs.Written.{write-length}
 use Rattle.avl_arena.specs.HeldTree.{HeldTree}
 use Rattle.avl_arena.proofs.Tested.{and-both}
 use Rattle.avl_arena.proofs.Complete.{complete, decoded-is}
-use Rattle.table_model.specs.Entry.{Entry}
 use Rattle.dirtab_arena.specs.Arena.{Columns, Arena, arena, listsOf, namesOf, entryAt, isArena, treeOf}
 use Rattle.dirtab_arena.proofs.Passed.{held}
 use Rattle.dirtab_add.specs.Add as add
 use Rattle.dirtab_add.specs.Add.{Grown, orderTo, grownTree, hasRoom, addOf, columnsWith, ifGiven, columnsAfter}
-use Rattle.dirtab_add.proofs.Again.{next-arena, next-count, next-tree, next-other, next-new}
+use Rattle.dirtab_add.proofs.Again.{next-arena, next-count, next-tree, next-other, next-other-name, next-new, next-new-name}
 use Rattle.dirtab_grow.specs.Listing.{Listing, givenIn}
 use Rattle.dirtab_grow.specs.Grow.{ifTaken, ifFree, growFrom, orderIn, grow}
 use Rattle.dirtab_list.specs.Whole.{entryIn}
@@ -113,6 +112,7 @@ module _ (L : Listing) where
     pub passes : isArena A ≡ true
     pub count-is : A .count ≡ i
     pub entries : (j : ℕ) → j < i → entryAt A j ≡ entryIn L j
+    pub names : (j : ℕ) → j < i → nameAt (namesOf A) j ≡ nameIn (L .bytes) (givenIn L j)
     pub wide : Wide (L .count) (A .columns)
 
   -- what adding and growing end in
@@ -149,7 +149,7 @@ module _ (L : Listing) where
 
     order-is : (j : ℕ) → j < count → orderTo A e j ≡ between i j
     unfolding toName
-    order-is j h = ap (λ (x : Entry). nameOrder (nameIn (L .bytes) e) (x .name)) (a .entries j (omega (arith, a .count-is)))
+    order-is j h = ap (givenOrder (nameIn (L .bytes) e)) (a .names j (omega (arith, a .count-is)))
 
     orders : All (λ j. orderTo A e j ≡ between i j) t
     orders = all-map (λ j. j < count) (λ j. orderTo A e j ≡ between i j) t order-is below
@@ -185,6 +185,11 @@ module _ (L : Listing) where
           | yes p ↦ subst (λ (v : ℕ). entryAt B v ≡ entryIn L v) (sym p) (subst (λ (v : ℕ). entryAt B v ≡ entryIn L i) (a .count-is) (next-new A e g h))
           | no ne ↦ next-other A e g h j (omega (arith, a .count-is, ne)) ∙ a .entries j (omega (arith, ne))
         ];
+        names = λ j k. elim (ℕ-discrete j i) [
+          | yes p ↦ subst (λ (v : ℕ). nameAt (namesOf B) v ≡ nameIn (L .bytes) (givenIn L v)) (sym p)
+              (subst (λ (v : ℕ). nameAt (namesOf B) v ≡ nameIn (L .bytes) e) (a .count-is) (next-new-name A e g h))
+          | no ne ↦ next-other-name A e g h j (omega (arith, a .count-is, ne)) ∙ a .names j (omega (arith, ne))
+        ];
         wide = wide-after A e g (L .count) h (a .wide);
       }
 
@@ -210,4 +215,4 @@ module _ (L : Listing) where
   pub from-empty : (c : Columns) → Wide (L .count) c → Agrees (addAll (givenIn L) (L .count) 0 (emptyIn c (L .bytes))) (grow (L .bytes) (givenIn L) (L .count))
   from-empty c w =
       subst (λ (u : Tree). Agrees (addAll (givenIn L) (L .count) 0 (emptyIn c (L .bytes))) (growFrom check between (L .count) 0 u)) (empty-tree c (L .bytes))
-      (in-turn (L .count) 0 (omega arith) 65535 0 c (record { passes = empty-arena c (L .bytes); count-is = refl; entries = λ j h. absurd (omega arith); wide = w }))
+      (in-turn (L .count) 0 (omega arith) 65535 0 c (record { passes = empty-arena c (L .bytes); count-is = refl; entries = λ j h. absurd (omega arith); names = λ j h. absurd (omega arith); wide = w }))

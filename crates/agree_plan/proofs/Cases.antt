@@ -9,12 +9,13 @@ use Rattle.units.specs.Told.{gives}
 use Rattle.units.specs.Region.{locateOf}
 use Rattle.units.specs.declared.Sector.{Sector}
 use Rattle.layout_bytes.specs.Bytes.{all}
-use Rattle.layout_name.specs.Order.{nameOrder, orderBy, listOrder, numberOrder, raised}
+use Rattle.layout_name.specs.Order.{listOrder, numberOrder, raised}
+use Rattle.name_role.specs.Roles.{givenKeys, storedKeys, soughtKeys, storedOf, givenOrder, soughtOrder, badSought}
 use Rattle.layout_node.specs.Header.{headerOf, headerBytes, isBlank}
 use Rattle.layout_sector.specs.Counter.{sectorsFor}
 use Rattle.read_entry.specs.Entry.{readHere, readAt, nameOf}
 use Rattle.read_entry.specs.Links.{isIn}
-use Rattle.read_lookup.specs.Lookup.{byLink, stepAt, chainFrom, anyHigh, lookupBy}
+use Rattle.read_lookup.specs.Lookup.{byLink, stepAt, chainFrom, lookupBy}
 use Rattle.read_path.specs.Path.{trim, split, unended, partsFrom, pathBy, pathOf}
 use Rattle.dirtab_entry.specs.Entry.{rounded, anyBad, checkOf}
 use Rattle.avl_model.specs.Tree.{bal}
@@ -43,7 +44,7 @@ abbrev pub its-plan : Plan
 its-plan = plan (32 ∷ 16 ∷ []) (33 ∷ 34 ∷ []) (34 ∷ 35 ∷ 37 ∷ []) 38
 
 pub planned : Planned request 3 (0 ∷ 0 ∷ []) (0 ∷ 0 ∷ 0 ∷ []) its-plan
-unfolding planOf isTree total sizesDown treeIn takingUp takingAll growFrom checkOf anyBad nameOrder orderBy listOrder numberOrder raised bal placeOf anyFar items endOf freeOf startAfter sectorsFor
+unfolding planOf isTree total sizesDown treeIn takingUp takingAll growFrom checkOf anyBad givenOrder givenKeys storedOf listOrder numberOrder raised bal placeOf anyFar items endOf freeOf startAfter sectorsFor
 planned = record { table-places = refl; entry-places = refl; given = refl }
 
 own : (d e i j : ℕ) → d < directoriesOf request → e < directoriesOf request → i < countOf request d → j < countOf request e → firstOf request d + i ≡ firstOf request e + j → d ≡ e
@@ -85,7 +86,7 @@ imaged = record { planned = planned; apart = disjoint; stand = both-stand }
 
 -- `D/B` leads to the file `b`: entry 0 of directory 1
 pub led : Leads request its-plan 0 ((68 ∷ []) ∷ (66 ∷ []) ∷ []) 1 0
-unfolding raised anySlash anyHigh
+unfolding soughtKeys storedKeys storedOf raised anySlash badSought
 led =
     into 0 0 1 0 (68 ∷ []) (66 ∷ []) [] (omega arith) (record { some = omega arith; plain = refl; ascii = refl }) refl refl
     (last 1 0 (66 ∷ []) (omega arith) (record { some = omega arith; plain = refl; ascii = refl }) refl)
@@ -96,8 +97,8 @@ found-there : pathOf window window-first (rootOf its-plan) (68 ∷ 47 ∷ 66 ∷
       header = record { left = record { 0 = 0 }; right = record { 0 = 0 }; sector = record { 0 = 37 }; size = 1; attributes = 32; «name_len» = 1 };
       place = 2048;
     })
-unfolding startSector treeIn growFrom checkOf anyBad nameOrder orderBy listOrder numberOrder raised bal placeOf anyFar items endOf freeOf startAfter sectorsFor
-    tableBytes bytesFrom entryBytes headerBytes pathBy trim split unended partsFrom anyHigh readAt locateOf readHere isBlank all headerOf nameOf isIn lookupBy chainFrom
+unfolding startSector treeIn growFrom checkOf anyBad givenOrder givenKeys storedOf listOrder numberOrder raised bal placeOf anyFar items endOf freeOf startAfter sectorsFor
+    tableBytes bytesFrom entryBytes headerBytes pathBy trim split unended partsFrom badSought soughtOrder soughtKeys storedKeys readAt locateOf readHere isBlank all headerOf nameOf isIn lookupBy chainFrom
     stepAt byLink
 found-there = refl
 
@@ -116,10 +117,10 @@ abbrev shared : Request
 shared = columns (0 ∷ 1 ∷ []) (2 ∷ 1 ∷ []) (0 ∷ 1 ∷ []) (1 ∷ 1 ∷ []) (1 ∷ 0 ∷ []) (1 ∷ 1 ∷ []) (100 ∷ 97 ∷ [])
 
 shared-planned : planOf shared 3 (0 ∷ 0 ∷ []) (0 ∷ 0 ∷ []) ≡ gives (plan (32 ∷ 16 ∷ []) (33 ∷ 34 ∷ []) (34 ∷ 36 ∷ []) 37)
-unfolding planOf isTree total sizesDown treeIn takingUp takingAll growFrom checkOf anyBad nameOrder orderBy listOrder numberOrder raised bal placeOf anyFar items endOf freeOf startAfter sectorsFor
+unfolding planOf isTree total sizesDown treeIn takingUp takingAll growFrom checkOf anyBad givenOrder givenKeys storedOf listOrder numberOrder raised bal placeOf anyFar items endOf freeOf startAfter sectorsFor
 shared-planned = refl
 
 -- in the root's table it has sector 35, in that of `d` sector 36
 shared-tables : (map (λ (y : Item). y .sector) (itemsAt shared (32 ∷ 16 ∷ []) 0) ≡ 34 ∷ 35 ∷ []) × (map (λ (y : Item). y .sector) (itemsAt shared (32 ∷ 16 ∷ []) 1) ≡ 36 ∷ [])
-unfolding startSector treeIn growFrom checkOf anyBad nameOrder orderBy listOrder numberOrder raised bal placeOf anyFar items endOf freeOf startAfter sectorsFor
+unfolding startSector treeIn growFrom checkOf anyBad givenOrder givenKeys storedOf listOrder numberOrder raised bal placeOf anyFar items endOf freeOf startAfter sectorsFor
 shared-tables = (refl, refl)

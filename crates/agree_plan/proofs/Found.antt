@@ -16,7 +16,7 @@ use lib.ListN.{length}
 use Rattle.units.specs.Told.{Told, gives, refuses, pick}
 use Rattle.units.specs.declared.Sector.{Sector}
 use Rattle.units.specs.declared.Region.{Region}
-use Rattle.layout_name.specs.Order.{raised}
+use Rattle.name_role.specs.Roles.{storedKeys}
 use Rattle.layout_node.specs.Header.{isDirectory}
 use Rattle.read_entry.specs.Entry.{Placed, readAt, nameOf}
 use Rattle.read_entry.specs.Links.{lookupAbsent, walkAbsent}
@@ -180,7 +180,7 @@ module _ (R : Request) (places : ℕ) (tables sectors : List ℕ) (p : Plan) (w 
       looked : (a : List ℕ) → Part a → Same a (entriesAt R S d i .name) → Looked a
       looked a part same =
           let v = of-item (Reached w first t place its) its y (table-agrees R places tables sectors p w first I d hd t r .reached) (own .among) in
-          let alike : Same a (y .entry .name) = same ∙ ap (λ (e : Entry). map raised (e .name)) (sym (own .entry-is)) in
+          let alike : Same a (y .entry .name) = same ∙ ap (λ (e : Entry). storedKeys (e .name)) (sym (own .entry-is)) in
           record {
             links = v .links;
             way = v .way;
@@ -191,7 +191,7 @@ module _ (R : Request) (places : ℕ) (tables sectors : List ℕ) (p : Plan) (w 
           }
 
       named : (a : List ℕ) → Same a (entriesAt R S d i .name) → Same a (nameOf w (place + y .offset) (length (y .entry .name)))
-      named a same = same ∙ ap (λ (e : Entry). map raised (e .name)) (sym (own .entry-is)) ∙ ap (map raised) (sym (back .named))
+      named a same = same ∙ ap (λ (e : Entry). storedKeys (e .name)) (sym (own .entry-is)) ∙ ap storedKeys (sym (back .named))
 
       -- an entry that has the part for its name, and to which a way leads, is this one, and the way is the same
       only-here : (a : List ℕ) (part : Part a) (same : Same a (entriesAt R S d i .name)) (o : ℕ) (x : Placed) (ks : List ℕ) → readAt w first t o ≡ gives (some x)
@@ -206,7 +206,7 @@ module _ (R : Request) (places : ℕ) (tables sectors : List ℕ) (p : Plan) (w 
           let at : readAt w first t o ≡ gives (some (placedAt place (v .0))) = ap (readAt w first t) (sym (v .2)) ∙ b .reads in
           let is : x ≡ placedAt place (v .0) = cc in
           let called : Same a (v .0 .entry .name) =
-          alike ∙ ap (λ (z : Placed). map raised (nameOf w (z .place) (z .header .«name_len»))) is ∙ ap (map raised) (b .named) in
+          alike ∙ ap (λ (z : Placed). storedKeys (nameOf w (z .place) (z .header .«name_len»))) is ∙ ap storedKeys (b .named) in
           let c = of-item (Reached w first t place its) its (v .0) (all .reached) (v .1) in
           let one =
           one-given (l .hit walkAbsent (walk-clear (l .links) (l .real)))

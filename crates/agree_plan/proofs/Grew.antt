@@ -3,9 +3,10 @@ use Prim.Native.Nat.{ℕ, _+_, _*_, _≤_, _<_}
 use native.Mathlib.Omega.{arith}
 use mathlib.Core.Path.{_≡_, sym, ap, subst, _∙_}
 use Rattle.units.specs.Told.{gives}
+use Rattle.dirtab_entry.proofs.Storable.{passed-storable}
 use Rattle.avl_model.specs.Tree.{Tree, leaf, node, cnt}
 use Rattle.avl_model.specs.Laws.{Avl, All, Ordered, size}
-use Rattle.avl_model.specs.Names.{Names, namesIn}
+use Rattle.avl_model.specs.Names.{Names, namesIn, nameAt}
 use Rattle.avl_model.specs.Order.{order}
 use Rattle.avl_model.proofs.Counted.{all-below}
 use Rattle.table_model.specs.Entry.{Entry}
@@ -13,8 +14,8 @@ use Rattle.table_model.specs.Place.{stopOf, endOf}
 use Rattle.table_model.specs.Table.{sizeOf}
 use Rattle.table_model.proofs.Places.{FitsAt, start-at}
 use Rattle.img_model.specs.Shares.{Share}
-use Rattle.img_model.specs.Plan.{entryIn, checkIn, treeIn}
-use Rattle.img_model.proofs.Passed.{count-few, numbers, all-fit}
+use Rattle.img_model.specs.Plan.{givenAt, entryIn, checkIn, treeIn}
+use Rattle.img_model.proofs.Passed.{one-passed, count-few, numbers, all-fit}
 use Rattle.agree.specs.Written.{Before}
 use Rattle.agree.specs.Given.{grown, times}
 use Rattle.agree.proofs.Growing.{grew}
@@ -39,12 +40,14 @@ module _ (S : Share) (tab : ℕ → ℕ) where
   N = namesIn (S .bytes) (S .start) (S .len)
 
   abbrev T : ℕ → Tree
-  T n = grown E n
+  T n = grown (nameAt N) n
 
   module _ (t : Tree) (told : treeIn S tab ≡ gives t) where
     all-grew : (t ≡ T (S .count)) × Ordered (Before E) (T (S .count))
     unfolding treeIn
-    all-grew = grew N (λ i. E i .kind) (λ i. E i .size) (checkIn S tab) (S .count) t told
+    all-grew =
+        grew N (checkIn S tab) (λ i. givenAt S tab i .kind) (λ i. givenAt S tab i .size)
+        (λ i h. passed-storable (S .bytes) (givenAt S tab i) (one-passed S tab i h .1)) (S .count) t told
 
     tree-is : T (S .count) ≡ t
     tree-is = sym (all-grew .0)
@@ -53,17 +56,17 @@ module _ (S : Share) (tab : ℕ → ℕ) where
     tree-ordered = subst (Ordered (Before E)) tree-is (all-grew .1)
 
     pub tree-balanced : Avl t
-    tree-balanced = subst Avl tree-is (grown-avl E (S .count))
+    tree-balanced = subst Avl tree-is (grown-avl (nameAt N) (S .count))
 
     -- each entry once, and no other number
     pub tree-once : (i : ℕ) → i < S .count → times i (order t) ≡ 1
-    tree-once i h = times-order i t ∙ ap (cnt i) (all-grew .0) ∙ grown-once E (S .count) i h
+    tree-once i h = times-order i t ∙ ap (cnt i) (all-grew .0) ∙ grown-once (nameAt N) (S .count) i h
 
     pub tree-others : (i : ℕ) → S .count ≤ i → times i (order t) ≡ 0
     tree-others i h = times-order i t ∙ all-below (S .count) t i (numbers S tab told) h
 
     pub tree-size : size t ≡ S .count
-    tree-size = ap size (all-grew .0) ∙ grown-size E (S .count)
+    tree-size = ap size (all-grew .0) ∙ grown-size (nameAt N) (S .count)
 
     -- so a table's size is at most 16,384 times 2,320
     pub table-small : sizeOf (entryIn S tab) t ≤ 16384 * 2320

@@ -40,6 +40,10 @@ by-test : {A : Type 0} (b : Bool) (k : ℕ) (x : Told A) → (k ≡ 5 → ⊥) �
 by-test true k x f h = f
 by-test false k x f h = h
 
+passed-other : (a b : Told (Unit {0})) → NotFive a → NotFive b → NotFive (entries.ifPassed a b)
+passed-other (gives u) b f h = h
+passed-other (refuses k vs) b f h = f
+
 -- what is asked of an entry
 roundable : (b : Bool) (x v : ℕ) → x ≤ most → pick (entries.isDirectory (pick b Directory File)) (ltb 4294965248 (pick b x v)) false ≡ false
 roundable true x v h = le-ltb 4294965248 x (omega arith)
@@ -49,11 +53,12 @@ check-other : (S : Share) (tab : ℕ → ℕ) → ((x : ℕ) → tab x ≤ most)
 unfolding checkOf
 check-other S tab h i =
     by-test (ltb 4294967295 (sizeAt S tab i)) 10 _ (λ e. omega arith)
+    (passed-other (entries.checkName (S .bytes) (givenAt S tab i)) (entries.checkSize (givenAt S tab i))
     (by-test (eqb (givenAt S tab i .len) 0) 1 _ (λ e. omega arith)
     (by-test (ltb (length (S .bytes)) (givenAt S tab i .start + givenAt S tab i .len)) 2 _ (λ e. omega arith)
     (by-test (anyBad (nameIn (S .bytes) (givenAt S tab i))) 2 _ (λ e. omega arith)
-    (by-test (ltb 255 (givenAt S tab i .len)) 3 _ (λ e. omega arith)
-    (subst (λ (b : Bool). NotFive (pick b (refuses 5 []) (gives tt))) (sym (roundable (eqb (getD (S .kind) i 0) 1) (tab (valueOf S i)) (valueOf S i) (h (valueOf S i)))) tt)))))
+    (by-test (ltb 255 (givenAt S tab i .len)) 3 _ (λ e. omega arith) tt))))
+    (subst (λ (b : Bool). NotFive (pick b (refuses 5 []) (gives tt))) (sym (roundable (eqb (getD (S .kind) i 0) 1) (tab (valueOf S i)) (valueOf S i) (h (valueOf S i)))) tt))
 
 -- growing
 taken-other : (i : ℕ) (c : Told (Unit {0})) (x : Told Tree) → NotFive c → NotFive x → NotFive (ifTaken i c x)

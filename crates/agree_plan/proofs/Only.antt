@@ -10,7 +10,7 @@ use lib.Dec.{eqb}
 use Rattle.units.specs.Told.{Told, refuses, pick}
 use Rattle.units.specs.declared.Sector.{Sector}
 use Rattle.units.specs.declared.Region.{Region}
-use Rattle.layout_name.specs.Order.{raised}
+use Rattle.name_role.specs.Roles.{storedKeys}
 use Rattle.layout_node.specs.Header as node
 use Rattle.dirtab_entry.specs.declared.Kind.the-variants.{File, Directory}
 use Rattle.read_entry.specs.Entry.{Placed}
@@ -102,7 +102,7 @@ module _ (R : Request) (places : ℕ) (tables sectors : List ℕ) (p : Plan) (w 
           inside = inside-of (k .number) (k .listed);
           entry-is = k .entry-is;
           sector-is = k .sector-is;
-          same = s ∙ ap (λ (e : Entry). map raised (e .name)) (k .entry-is);
+          same = s ∙ ap (λ (e : Entry). storedKeys (e .name)) (k .entry-is);
         }
 
     abbrev Sound : Told Finding → Type 0

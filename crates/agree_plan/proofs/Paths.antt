@@ -4,12 +4,13 @@ use native.Mathlib.Omega.{arith}
 use mathlib.Core.Path.{_≡_, refl, sym, ap, _∙_}
 use mathlib.Core.Bool.{Bool, true, false}
 use mathlib.Core.List.{List, [], _∷_, _++_, append-nil}
-use lib.Dec.{ltb, eqb}
+use lib.Dec.{eqb}
 use lib.ListN.{length}
 use Rattle.units.specs.Told.{refuses, pick}
 use Rattle.units.specs.declared.Sector.{Sector}
 use Rattle.units.specs.declared.Region.{Region}
-use Rattle.read_lookup.specs.Lookup.{anyHigh}
+use Rattle.name_role.specs.Roles.{badSought}
+use Rattle.name_role.proofs.Roles.{slash-good}
 use Rattle.read_path.specs.Path.{trim, grow, split, unended, partsFrom, pathBy}
 use Rattle.agree_plan.specs.Image.{anySlash, Part, joined, AllParts}
 
@@ -40,21 +41,11 @@ trim-part [] rest p = absurd (omega (arith, p .some))
 trim-part (x ∷ a) rest p =
     ap (λ (b : Bool). pick b (trim (a ++ rest)) (x ∷ (a ++ rest))) (first-false (eqb x 47) (anySlash a) (p .plain) .0)
 
-high-append : (a rest : List ℕ) → anyHigh a ≡ false → anyHigh rest ≡ false → anyHigh (a ++ rest) ≡ false
-unfolding anyHigh
-high-append [] rest e g = g
-high-append (x ∷ a) rest e g =
-    let f = first-false (ltb 127 x) (anyHigh a) e in
-    ap (λ (b : Bool). pick b true (anyHigh (a ++ rest))) (f .0) ∙ high-append a rest (f .1) g
-
-high-slash : (rest : List ℕ) → anyHigh rest ≡ false → anyHigh (47 ∷ rest) ≡ false
-unfolding anyHigh
-high-slash rest e = e
-
-high-joined : (cs : List (List ℕ)) → AllParts cs → anyHigh (joined cs) ≡ false
-high-joined [] p = absurd p
-high-joined (a ∷ []) p = p .ascii
-high-joined (a ∷ b ∷ cs) p = high-append a (47 ∷ joined (b ∷ cs)) (p .0 .ascii) (high-slash (joined (b ∷ cs)) (high-joined (b ∷ cs) (p .1)))
+-- a path that is joined of parts can be sought, as they can
+joined-good : (cs : List (List ℕ)) → AllParts cs → badSought (joined cs) ≡ false
+joined-good [] p = absurd p
+joined-good (a ∷ []) p = p .ascii
+joined-good (a ∷ b ∷ cs) p = slash-good a (joined (b ∷ cs)) ∙ rw (p .0 .ascii) (joined-good (b ∷ cs) (p .1))
 
 split-joined : (cs : List (List ℕ)) → AllParts cs → split (joined cs) ≡ cs
 split-joined [] p = absurd p
@@ -84,7 +75,7 @@ trim-joined (a ∷ b ∷ cs) p = trim-part a (47 ∷ joined (b ∷ cs)) (p .0)
 pub joined-path : (absent w : List ℕ) (first : Sector) (t : Region) (cs : List (List ℕ)) → AllParts cs → pathBy absent w first t (joined cs) ≡ partsFrom absent w first t cs
 unfolding pathBy
 joined-path absent w first t cs p =
-    ap (λ (b : Bool). pick b (refuses 2 []) (partsFrom absent w first t (unended (split (trim (joined cs)))))) (high-joined cs p)
+    ap (λ (b : Bool). pick b (refuses 2 []) (partsFrom absent w first t (unended (split (trim (joined cs)))))) (joined-good cs p)
     ∙ ap (λ (z : List ℕ). partsFrom absent w first t (unended (split z))) (trim-joined cs p)
     ∙ ap (λ (z : List (List ℕ)). partsFrom absent w first t (unended z)) (split-joined cs p)
     ∙ ap (partsFrom absent w first t) (unended-parts cs p)

@@ -9,8 +9,8 @@ use lib.ListN.{length}
 use Rattle.units.specs.Told.{Told, gives, refuses, pick}
 use Rattle.units.specs.declared.Sector.{Sector}
 use Rattle.units.specs.declared.Region.{Region}
+use Rattle.name_role.specs.Roles.{badSought}
 use Rattle.read_entry.specs.Entry.{Placed, readAt, nameOf}
-use Rattle.read_lookup.specs.Lookup.{anyHigh}
 use Rattle.lookup_way.specs.Along.{Along, Real, Clear, Cut}
 use Rattle.table_model.specs.Entry.{Item}
 use Rattle.table_model.specs.Table.{tableBytes}
@@ -54,11 +54,11 @@ unfoldable pub anySlash : List ℕ → Bool
 anySlash [] = false
 anySlash (x ∷ xs) = pick (eqb x 47) true (anySlash xs)
 
--- a part of a path: it is not empty, has no slash and no byte above 127
+-- a part of a path: it is not empty, has no slash and can be sought
 pub record Part (a : List ℕ) : Type 0 where
   pub some : 0 < length a
   pub plain : anySlash a ≡ false
-  pub ascii : anyHigh a ≡ false
+  pub ascii : badSought a ≡ false
 
 -- parts with a slash between each two
 abbrev pub joined : List (List ℕ) → List ℕ

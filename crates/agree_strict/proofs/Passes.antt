@@ -14,7 +14,7 @@ use Rattle.units.specs.Told.{Told, gives, pick}
 use Rattle.units.specs.declared.Sector.{Sector}
 use Rattle.units.specs.declared.Region.{Region}
 use Rattle.layout_name.specs.declared.Order.the-variants.{Less}
-use Rattle.layout_name.specs.Order.{nameOrder}
+use Rattle.name_role.specs.Roles.{storedOrder}
 use Rattle.layout_node.specs.Header.{entryLength}
 use Rattle.read_entry.specs.Entry.{Placed, readAt, nameOf}
 use Rattle.read_entry.specs.Links.{isIn, walkAbsent}
@@ -124,12 +124,12 @@ module _ (F : Setting) where
   name-at : (y : Item) → Back F y → nameBy (F .w) (f (y .offset)) ≡ y .entry .name
   name-at y b = rw (b .reads, b .named)
 
-  left-within : (y : Item) → Back F y → (name : List ℕ) → nameOrder name (y .entry .name) ≡ Less
+  left-within : (y : Item) → Back F y → (name : List ℕ) → storedOrder name (y .entry .name) ≡ Less
       → (o : ℕ) → ordered (F .w) (readAt (F .w) (F .first) (F .t)) (visit o (some (y .offset)) none) name ≡ true
   unfolding ordered
   left-within y b name h o = rw (name-at y b, h)
 
-  right-within : (y : Item) → Back F y → (name : List ℕ) → nameOrder (y .entry .name) name ≡ Less
+  right-within : (y : Item) → Back F y → (name : List ℕ) → storedOrder (y .entry .name) name ≡ Less
       → (o : ℕ) → ordered (F .w) (readAt (F .w) (F .first) (F .t)) (visit o none (some (y .offset))) name ≡ true
   unfolding ordered
   right-within y b name h o = rw (name-at y b, h)

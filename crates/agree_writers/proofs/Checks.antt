@@ -5,20 +5,15 @@ use mathlib.Core.Bool.{Bool, true, false}
 use mathlib.Core.List.{List, []}
 use native.Mathlib.Omega.{arith}
 use lib.Dec.{leb}
-use lib.ListN.{length, length-take}
 use Rattle.units.specs.Told.{Told, gives, refuses, pick}
 use Rattle.dirtab_entry.specs.declared.Entry.{Entry}
-use Rattle.dirtab_entry.specs.Entry.{rounded, storedSize, nameIn, checkOf}
+use Rattle.dirtab_entry.specs.Entry.{rounded, storedSize, checkOf}
 use Rattle.dirtab_entry.proofs.Stored.{stored-low}
 use Rattle.dirtab_arena.proofs.Fine.{fine-of}
 use Rattle.table_model.specs.Table.{Placing}
 
 module _ (bytes : List ℕ) (e : Entry) (taken : checkOf bytes e ≡ gives tt) where
-  -- its name is short
-  pub name-short : length (nameIn bytes e) ≤ 255
-  name-short = let h = fine-of bytes e taken .short in simp length-take (omega arith)
-
-  -- and its size fits as it is stored
+  -- its size fits as it is stored
   pub size-small : e .size ≤ 4294967295 → storedSize (e .kind) (e .size) ≤ 4294967295
   size-small h = stored-low (e .kind) (e .size) h (fine-of bytes e taken .small)
 

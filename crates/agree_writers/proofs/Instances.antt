@@ -3,12 +3,13 @@
 -- Assumes nothing.
 use Prim.Native.Nat.{ℕ, zero, suc, _+_, _≤_, _<_}
 use mathlib.Core.Path.{_≡_, refl, sym, _∙_}
-use mathlib.Core.List.{List, [], _∷_, map, append-nil}
+use mathlib.Core.List.{List, [], _∷_, append-nil}
 use native.Mathlib.Omega.{arith}
 use lib.ListN.{length, getD, take, replicate}
 use Rattle.units.specs.Told.{gives}
 use Rattle.units.specs.declared.Region.{Region}
-use Rattle.layout_name.specs.Order.{raised, numberOrder, listOrder, orderBy, nameOrder}
+use Rattle.layout_name.specs.Order.{raised, numberOrder, listOrder}
+use Rattle.name_role.specs.Roles.{givenKeys, storedOf, givenOrder}
 use Rattle.layout_sector.specs.Counter.{sectorsFor}
 use Rattle.dirtab_entry.specs.Entry.{anyBad, nameIn, checkOf}
 use Rattle.avl_model.specs.Tree.{bal}
@@ -23,7 +24,6 @@ use Rattle.dirtab.specs.Serialise.{serialiseOf}
 use Rattle.dirtab_grow.specs.Grow.{growFrom}
 use Rattle.dirtab_list.specs.Whole as whole
 use Rattle.dirtab_list.specs.Whole.{Listing, listing, givenIn, wholeOf}
-use Rattle.agree.specs.Agreement.{Same}
 use Rattle.agree_writers.specs.Wrote.{WroteList, WroteArena, Taken}
 use Rattle.agree_writers.proofs.Stands.{first-stand}
 
@@ -54,7 +54,7 @@ ones (suc (suc (suc i))) = omega arith
 
 -- the list can be written, and its output read
 list-answer : wholeOf abc 3 34 2560 ≡ gives answer
-unfolding wholeOf growFrom checkOf anyBad placeOf anyFar bal items endOf freeOf startAfter sectorsFor raised numberOrder listOrder orderBy nameOrder
+unfolding wholeOf growFrom checkOf anyBad placeOf anyFar bal items endOf freeOf startAfter sectorsFor raised numberOrder listOrder givenOrder givenKeys storedOf
 list-answer = refl
 
 pub abc-wrote : WroteList abc 3 34 out answer (take 2048 (whole.outAfter abc 3 34 out)) (record { 0 = 33 }) region
@@ -68,7 +68,7 @@ abc-wrote = record {
 -- an arena can be serialised, and its output read where all of it stands
 arena-answer : serialiseOf held 34 3 3 2560 ≡ gives answer
 unfolding serialiseOf isArena isTaken holdsTree places inside wholeTree decoded treeAt between cellOk toName checkOf anyBad placeOf anyFar items endOf freeOf
-    startAfter sectorsFor raised numberOrder listOrder orderBy nameOrder
+    startAfter sectorsFor raised numberOrder listOrder givenOrder givenKeys storedOf
 arena-answer = refl
 
 pub held-wrote : WroteArena held 34 3 3 out answer (serialise.outAfter held 34 3 3 out) (record { 0 = 33 }) region
@@ -88,8 +88,8 @@ abc-checked (suc zero) h = refl
 abc-checked (suc (suc zero)) h = refl
 abc-checked (suc (suc (suc i))) h = absurd (omega arith)
 
-abc-raised : (i : ℕ) → i < 3 → map raised (nameIn (abc .bytes) (givenIn abc i)) ≡ (65 + i) ∷ []
-unfolding raised
+abc-raised : (i : ℕ) → i < 3 → givenKeys (nameIn (abc .bytes) (givenIn abc i)) ≡ (65 + i) ∷ []
+unfolding givenKeys raised
 abc-raised zero h = refl
 abc-raised (suc zero) h = refl
 abc-raised (suc (suc zero)) h = refl

@@ -8,9 +8,11 @@ use lib.ListN.{length, getD, drop}
 use Rattle.units.specs.Told.{Told, gives, refuses, pick}
 use Rattle.units.specs.declared.Sector.{Sector}
 use Rattle.units.specs.declared.Region.{Region}
+use Rattle.name_role.specs.inner.Storable.{isStorable}
 use Rattle.dirtab_entry.specs.Entry.{rounded}
+use Rattle.dirtab_entry.proofs.Storable.{passed-storable}
 use Rattle.avl_model.specs.Laws.{All, Ordered}
-use Rattle.avl_model.specs.Names.{toName}
+use Rattle.avl_model.specs.Names.{nameAt, toName}
 use Rattle.avl_model.specs.Order.{order}
 use Rattle.avl_model.proofs.Avl.{all-map}
 use Rattle.avl_model.proofs.Counted.{all-below}
@@ -21,6 +23,7 @@ use Rattle.table_model.specs.Said.{Fits}
 use Rattle.table_model.proofs.Geometry.{items-entries}
 use Rattle.table_model.proofs.Placing.{size-given}
 use Rattle.dirtab_arena.specs.Arena.{Arena, listsOf, namesOf, givenAt, entryAt, isArena, treeOf}
+use Rattle.dirtab_arena.proofs.Fine.{name-short}
 use Rattle.dirtab_arena.proofs.Passed.{held, each-taken}
 use Rattle.dirtab.specs.Serialise.{scratchFits, ifFits, serialiseOf, outAfter}
 use Rattle.strict_rule.specs.Strict.{strictOf}
@@ -29,10 +32,10 @@ use Rattle.agree.specs.Agreement.{offsets, Agreement}
 use Rattle.agree.specs.Given.{EachOnce}
 use Rattle.agree.proofs.Sized.{as-reported}
 use Rattle.agree.proofs.Agrees as agrees
-use Rattle.agree.proofs.FromList.{times-order}
+use Rattle.agree.proofs.FromList.{stored-ordered, times-order}
 use Rattle.agree_strict.proofs.Passes.{written-passes}
 use Rattle.agree_writers.specs.Wrote.{WroteArena}
-use Rattle.agree_writers.proofs.Checks.{name-short, size-small, fits-gives}
+use Rattle.agree_writers.proofs.Checks.{size-small, fits-gives}
 use Rattle.agree_writers.proofs.Stands.{stand-as, table-first}
 
 -- what serialising's answer rests on
@@ -47,7 +50,11 @@ module _ (A : Arena) (is : isArena A ≡ true) where
 
   ordered : Ordered (Before (entryAt A)) (treeOf A)
   unfolding toName
-  ordered = held A is .ordered
+  ordered =
+      stored-ordered (nameAt (namesOf A)) (λ i. givenAt A i .kind) (λ i. givenAt A i .size) (treeOf A)
+      (all-map (λ i. i < A .count) (λ i. isStorable (nameAt (namesOf A) i) ≡ true) (treeOf A)
+      (λ i h. passed-storable (A .bytes) (givenAt A i) (each-taken A is i h)) below)
+      (held A is .ordered)
 
   fits : ((i : ℕ) → getD (A .columns .size) i 0 ≤ 4294967295) → All (λ i. Fits (entryAt A i)) (treeOf A)
   fits sizes =

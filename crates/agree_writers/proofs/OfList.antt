@@ -8,8 +8,9 @@ use lib.ListN.{length, drop}
 use Rattle.units.specs.Told.{Told, gives, refuses, pick}
 use Rattle.units.specs.declared.Sector.{Sector}
 use Rattle.units.specs.declared.Region.{Region}
-use Rattle.layout_name.proofs.Laws.{name-equal→}
+use Rattle.name_role.proofs.Roles.{given-equal→}
 use Rattle.dirtab_entry.specs.Entry.{rounded, checkOf}
+use Rattle.dirtab_entry.proofs.Storable.{passed-storable}
 use Rattle.avl_model.specs.Tree.{Tree, leaf}
 use Rattle.avl_model.specs.Laws.{All, Ordered}
 use Rattle.avl_model.specs.Names.{Names, namesIn, nameAt}
@@ -19,9 +20,10 @@ use Rattle.table_model.specs.Place.{items}
 use Rattle.table_model.specs.Table.{Placing, sizeOf, tableBytes, placeOf}
 use Rattle.table_model.specs.Said.{Fits}
 use Rattle.table_model.proofs.Placing.{size-given}
+use Rattle.dirtab_arena.proofs.Fine.{name-short}
 use Rattle.dirtab_grow.specs.Grow.{orderIn, grow}
 use Rattle.dirtab_grow.proofs.Growth.{all-passed}
-use Rattle.dirtab_list.specs.Whole.{Listing, givenIn, entryIn, hasPlaces, ifFits, ifGrown, wholeOf, outAfter}
+use Rattle.dirtab_list.specs.Whole.{Listing, givenIn, givenName, entryIn, hasPlaces, ifFits, ifGrown, wholeOf, outAfter}
 use Rattle.strict_rule.specs.Strict.{strictOf}
 use Rattle.agree.specs.Written.{Before, Written}
 use Rattle.agree.specs.Agreement.{offsets, Agreement}
@@ -32,25 +34,25 @@ use Rattle.agree.proofs.Growing.{grew, grows}
 use Rattle.agree.proofs.FromList.{grown-below, grown-avl, grown-size, grown-each}
 use Rattle.agree_strict.proofs.Passes.{written-passes}
 use Rattle.agree_writers.specs.Wrote.{WroteList, Taken}
-use Rattle.agree_writers.proofs.Checks.{name-short, size-small, fits-gives}
+use Rattle.agree_writers.proofs.Checks.{size-small, fits-gives}
 use Rattle.agree_writers.proofs.Stands.{stand-as, table-first}
 
 module _ (L : Listing) where
   abbrev E : ℕ → Entry
   E = entryIn L
 
-  abbrev T : ℕ → Tree
-  T n = grown E n
-
   abbrev N : Names
   N = namesIn (L .bytes) (L .start) (L .len)
+
+  abbrev T : ℕ → Tree
+  T n = grown (nameAt N) n
 
   abbrev check : ℕ → Told (Unit {0})
   check i = checkOf (L .bytes) (givenIn L i)
 
   -- WHAT GROWING GIVES is the tree of all entries, ordered; each entry was checked
   all-grew : (u : Tree) → grow (L .bytes) (givenIn L) (L .count) ≡ gives u → (u ≡ T (L .count)) × Ordered (Before E) (T (L .count))
-  all-grew = grew N (λ i. E i .kind) (λ i. E i .size) check (L .count)
+  all-grew = grew N check (λ i. givenIn L i .kind) (λ i. givenIn L i .size) (λ i h. passed-storable (L .bytes) (givenIn L i) h) (L .count)
 
   all-checked : (u : Tree) → grow (L .bytes) (givenIn L) (L .count) ≡ gives u → (j : ℕ) → j < L .count → check j ≡ gives tt
   all-checked u e j h = all-passed (orderIn (L .bytes) (givenIn L)) check (L .count) 0 leaf e j (omega arith) (omega arith)
@@ -88,16 +90,16 @@ module _ (L : Listing) (shortest s : ℕ) (out : List ℕ) (p : Placing) (w : Li
         short = name-short (L .bytes) (givenIn L i) (c i h);
         small = size-small (L .bytes) (givenIn L i) (c i h) (g .sizes i);
       })
-      (grown-below (E L) (L .count))
+      (grown-below (nameAt (N L)) (L .count))
 
   -- the tree of the list was written
-  pub list-wrote : Written (entryIn L) 1 s (grown (entryIn L) (L .count)) w first t
+  pub list-wrote : Written (entryIn L) 1 s (grown (givenName L) (L .count)) w first t
   list-wrote = record {
     writable = record {
       aligned = omega arith;
       fits = fits;
       ordered = all-grew L (told .0) (told .1) .1;
-      balanced = grown-avl (E L) (L .count);
+      balanced = grown-avl (nameAt (N L)) (L .count);
       placing = p;
       placed = placed;
     };
@@ -106,26 +108,26 @@ module _ (L : Listing) (shortest s : ℕ) (out : List ℕ) (p : Placing) (w : Li
   }
 
   -- DEMAND 3 OF WHAT IS WRITTEN: reading finds the list's entries
-  pub list-agrees : Agreement w first t (g .stand .place) (items (entryIn L) 1 0 s (grown (entryIn L) (L .count)))
+  pub list-agrees : Agreement w first t (g .stand .place) (items (entryIn L) 1 0 s (grown (givenName L) (L .count)))
   unfolding list-wrote stand-as
-  list-agrees = agrees.agreement (entryIn L) 1 s (grown (entryIn L) (L .count)) w first t list-wrote
+  list-agrees = agrees.agreement (entryIn L) 1 s (grown (givenName L) (L .count)) w first t list-wrote
 
   -- each of them once
-  pub list-each : EachOnce (entryIn L) (L .count) (items (entryIn L) 1 0 s (grown (entryIn L) (L .count)))
-  list-each = grown-each (entryIn L) (L .count) 1 s
+  pub list-each : EachOnce (entryIn L) (L .count) (items (entryIn L) 1 0 s (grown (givenName L) (L .count)))
+  list-each = grown-each (givenName L) (entryIn L) (L .count) 1 s
 
   -- and it passes the strict check, which lists the same
-  pub list-strict : (room : ℕ) → L .count ≤ room → strictOf w first t room ≡ gives (offsets (items (entryIn L) 1 0 s (grown (entryIn L) (L .count))))
-  list-strict room h = written-passes (entryIn L) 1 s (grown (entryIn L) (L .count)) w first t list-wrote room (omega (arith, grown-size (entryIn L) (L .count)))
+  pub list-strict : (room : ℕ) → L .count ≤ room → strictOf w first t room ≡ gives (offsets (items (entryIn L) 1 0 s (grown (givenName L) (L .count))))
+  list-strict room h = written-passes (entryIn L) 1 s (grown (givenName L) (L .count)) w first t list-wrote room (omega (arith, grown-size (givenName L) (L .count)))
 
 -- WHICH LISTS ARE REFUSED WHAT: one that adding takes is placed, so that only 7, 8 and 9 are left
 module _ (L : Listing) (shortest : ℕ) (h : Taken L shortest) where
   -- the answer is what placing the tree of all entries answers, and 9 where the output is too short for it
-  pub list-placed : (s bytes : ℕ) → wholeOf L shortest s bytes ≡ ifFits bytes (placeOf (entryIn L) 1 s (grown (entryIn L) (L .count)))
+  pub list-placed : (s bytes : ℕ) → wholeOf L shortest s bytes ≡ ifFits bytes (placeOf (entryIn L) 1 s (grown (givenName L) (L .count)))
   unfolding wholeOf
   list-placed s bytes =
       rw (
         h .places,
-        grows (N L) (λ i. E L i .kind) (λ i. E L i .size) (check L) (L .count) (h .few) (h .checked)
-            (λ i j k l e. omega (arith, h .differ i j k (omega arith) (name-equal→ (nameAt (N L) i) (nameAt (N L) j) e))),
+        grows (N L) (check L) (L .count) (h .few) (h .checked)
+            (λ i j k l e. omega (arith, h .differ i j k (omega arith) (given-equal→ (nameAt (N L) i) (nameAt (N L) j) e))),
       )

@@ -7,14 +7,14 @@ use lib.ListN.{length, getD, take}
 use Rattle.units.specs.Told.{gives}
 use Rattle.units.specs.declared.Sector.{Sector}
 use Rattle.units.specs.declared.Region.{Region}
-use Rattle.dirtab_entry.specs.Entry.{rounded, nameIn, checkOf}
+use Rattle.name_role.specs.Roles.{givenKeys}
+use Rattle.dirtab_entry.specs.Entry.{rounded, checkOf}
 use Rattle.table_model.specs.Table.{Placing}
 use Rattle.dirtab_arena.specs.Arena.{Arena}
 use Rattle.dirtab.specs.Serialise as serialise
 use Rattle.dirtab_list.specs.Whole as whole
-use Rattle.dirtab_list.specs.Whole.{Listing, givenIn, hasPlaces}
+use Rattle.dirtab_list.specs.Whole.{Listing, givenIn, givenName, hasPlaces}
 use Rattle.agree.specs.Written.{Stand}
-use Rattle.agree.specs.Agreement.{Same}
 
 -- A WHOLE LIST WAS WRITTEN from sector s on: the answer is p, the output's bytes up to the size answered, rounded,
 -- stand in a window at the region's sector, and the region has the size answered
@@ -40,4 +40,4 @@ pub record Taken (L : Listing) (shortest : ℕ) : Type 0 where
   pub few : L .count ≤ 16384
   pub checked : (i : ℕ) → i < L .count → checkOf (L .bytes) (givenIn L i) ≡ gives tt
   pub differ : (i j : ℕ) → i < L .count → j < L .count
-      → Same (nameIn (L .bytes) (givenIn L i)) (nameIn (L .bytes) (givenIn L j)) → i ≡ j
+      → givenKeys (givenName L i) ≡ givenKeys (givenName L j) → i ≡ j

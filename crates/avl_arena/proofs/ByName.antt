@@ -11,8 +11,8 @@ use lib.Dec.{leb}
 use borrow.Author.Tests.{le-leb}
 use Rattle.layout_name.specs.declared.Order.{Order}
 use Rattle.layout_name.specs.declared.Order.the-variants.{Less, Equal, Greater}
-use Rattle.layout_name.specs.Order.{nameOrder}
-use Rattle.layout_name.proofs.Laws.{name-equal}
+use Rattle.name_role.specs.Roles.{givenOrder}
+use Rattle.name_role.proofs.Roles.{given-equal}
 use Rattle.avl_model.specs.Names.{Names, nameAt, toName, byName, isLess, Before}
 use Rattle.avl_arena.specs.Test.{partNames, between}
 
@@ -26,7 +26,7 @@ Hi N n hi i = (n ≤ hi) ⊎ Before N i hi
 
 pub before-never : (N : Names) (a : ℕ) → Before N a a → ⊥
 unfolding toName
-before-never N a e = let z : Equal ≡ Less = sym (name-equal (nameAt N a) (nameAt N a) refl) ∙ e in let k : _≡_ {A = ℕ} 0 1 = cc in omega arith
+before-never N a e = let z : Equal ≡ Less = sym (given-equal (nameAt N a) (nameAt N a) refl) ∙ e in let k : _≡_ {A = ℕ} 0 1 = cc in omega arith
 
 pub less-is : (o : Order) → isLess o ≡ true → o ≡ Less
 less-is Less e = refl
@@ -39,7 +39,7 @@ module _ (N : Names) (n : ℕ) where
 
   part-by : (i j : ℕ) → i < n → j < n → byName (partNames n N) i j ≡ byName N i j
   unfolding toName
-  part-by i j h k = ap₂ nameOrder (part-name i h) (part-name j k)
+  part-by i j h k = ap₂ givenOrder (part-name i h) (part-name j k)
 
   -- a bound is one of the n nodes, or none
   part-bound : (b : ℕ) (o p : Order) → (b < n → o ≡ p) → (leb n b || isLess o) ≡ (leb n b || isLess p)

@@ -9,7 +9,8 @@ use lib.ListN.{length, getD, take, drop}
 use lib.Dec.{leb}
 use borrow.Author.Tests.{le-leb, lt-leb, eq-eqb, ne-eqb, leb-true}
 use Rattle.layout_name.specs.declared.Order.{Order}
-use Rattle.layout_name.specs.Order.{nameOrder}
+use Rattle.name_role.specs.Roles.{givenOrder}
+use Rattle.name_role.proofs.Roles.{Compared, given-compared}
 use Rattle.avl_model.specs.Lists.{Lists}
 use Rattle.avl_model.specs.Names.{Names, namesIn, nameAt, toName, byName, isLess}
 use Rattle.avl_arena.specs.Test.{places, every, inside, cellOk}
@@ -33,9 +34,9 @@ part-is-name B s n i a b ea eb =
     λ q. take (k q) (drop (ea .0 q) B)
 
 -- the order of two names, as the order of two nodes
-pub by-names : (N : Names) (i j : ℕ) {a b : List ℕ} {o p : Order} → a ≡ nameAt N i → b ≡ nameAt N j → o ≡ nameOrder a b → o ≡ p → isLess p ≡ isLess (byName N i j)
+pub by-names : (N : Names) (i j : ℕ) {a b : List ℕ} {o p : Order} → a ≡ nameAt N i → b ≡ nameAt N j → Compared o a b → o ≡ p → isLess p ≡ isLess (byName N i j)
 unfolding toName
-by-names N i j ea eb eo e = ap isLess (sym e ∙ eo ∙ ap₂ nameOrder ea eb)
+by-names N i j {a} {b} ea eb eo e = ap isLess (sym e ∙ given-compared a b eo ∙ ap₂ givenOrder ea eb)
 
 -- no bound
 pub no-bound : (n k b : ℕ) (t : Bool) → (k ≡ b) × (k < 65536) → n ≤ k → true ≡ (leb n b || t)

@@ -1,18 +1,21 @@
 -- A smaller key is a smaller name. Assumes nothing.
-use Prim.Native.Nat.{ℕ, zero, suc, _+_, _*_, _-_, _≤_, _<_}
+use Prim.Native.Nat.{ℕ, suc, _+_, _*_, _-_, _≤_, _<_}
 use native.Mathlib.Omega.{arith}
 use native.Mathlib.Nat.{mul-suc, mul-zero, mul-le-mul-left}
 use mathlib.Core.Path.{_≡_, refl, sym, ap, ap₂, subst, _∙_}
 use mathlib.Core.Bool.{Bool, true, false}
-use mathlib.Core.List.{List, [], _∷_, _++_, map}
+use mathlib.Core.List.{List, [], _∷_}
 use lib.Dec.{leb}
-use lib.ListN.{length, getD, replicate, List·getD-map, List·getD-eq-default}
+use lib.ListN.{getD}
 use Rattle.units.specs.Told.{pick}
 use Rattle.layout_name.specs.declared.Order.{Order}
 use Rattle.layout_name.specs.declared.Order.the-variants.{Less, Greater}
-use Rattle.layout_name.specs.Order.{raised, numberOrder, andThen, listOrder, orderBy, nameOrder}
+use Rattle.layout_name.specs.Order.{raised, numberOrder, andThen, listOrder}
 use Rattle.layout_name.specs.inner.Order.{raisedCopy, opposite}
-use Rattle.layout_name.proofs.Laws.{Three, less, equal, greater, three, number-less, number-equal, name-opposite}
+use Rattle.layout_name.proofs.Laws.{Three, less, equal, greater, three, number-less, number-equal}
+use Rattle.layout_name.proofs.Raised.{copy-at}
+use Rattle.name_role.specs.Roles.{givenKeys, givenOrder}
+use Rattle.name_role.proofs.Roles.{given-opposite, given-listed, given-at}
 use Rattle.avl_keyed.specs.inner.Key.{keyOf, keyFor}
 
 -- each is a byte
@@ -108,23 +111,13 @@ four-is xs =
     let d = head-is (tail (tail (tail xs))) ∙ tail-is (tail (tail xs)) 0 ∙ tail-is (tail xs) 1 ∙ tail-is xs 2 in
     omega (arith, a, b, c, d)
 
--- zeros behind a list say nothing
-zeros-at : (n i : ℕ) → _≡_ {A = ℕ} (getD (replicate n 0) i 0) 0
-zeros-at zero i = refl
-zeros-at (suc n) zero = refl
-zeros-at (suc n) (suc i) = zeros-at n i
+-- the raised copy has the name's keys
+copied : (a : List ℕ) (i : ℕ) → getD (raisedCopy a) i 0 ≡ getD (givenKeys a) i 0
+copied a i = copy-at a i ∙ sym (given-at a i)
 
-padded : (xs : List ℕ) (n i : ℕ) → getD (xs ++ replicate n 0) i 0 ≡ getD xs i 0
-padded [] n i = zeros-at n i
-padded (x ∷ xs) n zero = refl
-padded (x ∷ xs) n (suc i) = padded xs n i
-
-key-is : (a : List ℕ) → keyFor a ≡ four (map raised a)
-unfolding keyFor raisedCopy
-key-is a =
-    let n = 255 - length a in
-    let xs = map raised a in
-    omega (arith, four-is xs, padded xs n 0, padded xs n 1, padded xs n 2, padded xs n 3)
+key-is : (a : List ℕ) → keyFor a ≡ four (givenKeys a)
+unfolding keyFor
+key-is a = omega (arith, four-is (givenKeys a), copied a 0, copied a 1, copied a 2, copied a 3)
 
 raised-low : (x : ℕ) → x < 256 → raised x < 256
 unfolding raised
@@ -135,23 +128,12 @@ raised-low x h = low (leb 97 x) (leb x 122)
     low true false = h
     low false q = h
 
--- the raised copy at a place: the byte raised, and 0 past the name
-pub copy-at : (a : List ℕ) (i : ℕ) → getD (raisedCopy a) i 0 ≡ raised (getD a i 0)
-unfolding raisedCopy raised
-copy-at a i = padded (map raised a) (255 - length a) i ∙ List·getD-map raised a i 0
-
-pub copy-past : (a : List ℕ) (i : ℕ) → length a ≤ i → getD (raisedCopy a) i 0 ≡ 0
-unfolding raised
-copy-past a i h = copy-at a i ∙ ap raised (List·getD-eq-default a 0 h)
-
-raised-bytes : (a : List ℕ) → Bytes a → Bytes (map raised a)
-unfolding raised
-raised-bytes a h = λ i. subst (λ (v : ℕ). v < 256) (sym (List·getD-map raised a i 0)) (raised-low (getD a i 0) (h i))
+key-bytes : (a : List ℕ) → Bytes a → Bytes (givenKeys a)
+key-bytes a h = λ i. subst (λ (v : ℕ). v < 256) (sym (given-at a i)) (raised-low (getD a i 0) (h i))
 
 module _ (a b : List ℕ) (ba : Bytes a) (bb : Bytes b) where
-  pub key-less : keyFor a < keyFor b → nameOrder a b ≡ Less
-  unfolding nameOrder orderBy
-  key-less h = four-law (map raised a) (map raised b) (raised-bytes a ba) (raised-bytes b bb) (omega (arith, key-is a, key-is b))
+  pub key-less : keyFor a < keyFor b → givenOrder a b ≡ Less
+  key-less h = given-listed a b ∙ four-law (givenKeys a) (givenKeys b) (key-bytes a ba) (key-bytes b bb) (omega (arith, key-is a, key-is b))
 
-pub key-greater : (a b : List ℕ) → Bytes a → Bytes b → keyFor b < keyFor a → nameOrder a b ≡ Greater
-key-greater a b ba bb h = name-opposite b a ∙ ap opposite (key-less b a bb ba h)
+pub key-greater : (a b : List ℕ) → Bytes a → Bytes b → keyFor b < keyFor a → givenOrder a b ≡ Greater
+key-greater a b ba bb h = given-opposite b a ∙ ap opposite (key-less b a bb ba h)

@@ -6,9 +6,9 @@ use mathlib.Core.Bool.{true, false}
 use mathlib.Core.List.{List}
 use Rattle.layout_name.specs.declared.Order.{Order}
 use Rattle.layout_name.specs.declared.Order.the-variants.{Less, Equal, Greater}
-use Rattle.layout_name.specs.Order.{nameOrder}
 use Rattle.layout_name.specs.inner.Order.{opposite}
-use Rattle.layout_name.proofs.Laws.{name-opposite, name-trans}
+use Rattle.name_role.specs.Roles.{givenOrder}
+use Rattle.name_role.proofs.Roles.{given-opposite, given-trans}
 use Rattle.avl_model.specs.declared.Place.{Place}
 use Rattle.avl_model.specs.declared.Place.the-variants.{Left, Right}
 use Rattle.avl_model.specs.declared.Spot.{Spot}
@@ -29,7 +29,7 @@ differ-more e f = let z : _≡_ {A = ℕ} 0 1 = cc in omega arith
 
 pub before-trans : (N : Names) (i j k : ℕ) → Before N i j → Before N j k → Before N i k
 unfolding toName
-before-trans N i j k = name-trans (nameAt N i) (nameAt N j) (nameAt N k)
+before-trans N i j k = given-trans (nameAt N i) (nameAt N j) (nameAt N k)
 
 -- ---- what is found
 
@@ -53,15 +53,15 @@ module _ (N : Names) (a : List ℕ) where
   -- what is after a node is after all that is before it
   less-on : (i j : ℕ) → toName N a i ≡ Less → Before N i j → toName N a j ≡ Less
   unfolding toName
-  less-on i j e b = name-trans a (nameAt N i) (nameAt N j) e b
+  less-on i j e b = given-trans a (nameAt N i) (nameAt N j) e b
 
-  turned : (i : ℕ) → toName N a i ≡ Greater → nameOrder (nameAt N i) a ≡ Less
+  turned : (i : ℕ) → toName N a i ≡ Greater → givenOrder (nameAt N i) a ≡ Less
   unfolding toName
-  turned i e = name-opposite a (nameAt N i) ∙ ap opposite e
+  turned i e = given-opposite a (nameAt N i) ∙ ap opposite e
 
   more-on : (i j : ℕ) → toName N a i ≡ Greater → Before N j i → toName N a j ≡ Greater
   unfolding toName
-  more-on i j e b = name-opposite (nameAt N j) a ∙ ap opposite (name-trans (nameAt N j) (nameAt N i) a b (turned i e))
+  more-on i j e b = given-opposite (nameAt N j) a ∙ ap opposite (given-trans (nameAt N j) (nameAt N i) a b (turned i e))
 
   free-turn : (o : Order) (l : Tree) (i : ℕ) (r : Tree) (q : Place) (x y : Spot) → toName N a i ≡ o → Ordered (Before N) (node l i r)
       → (x ≡ Free q → All (λ j. toName N a j ≡ Equal → ⊥) l) → (y ≡ Free q → All (λ j. toName N a j ≡ Equal → ⊥) r)
@@ -79,11 +79,11 @@ module _ (N : Names) (a : List ℕ) where
   module _ (new : ℕ) (is : nameAt N new ≡ a) where
     new-before : (j : ℕ) → toName N a j ≡ Less → Before N new j
     unfolding toName
-    new-before j e = ap (λ (b : List ℕ). nameOrder b (nameAt N j)) is ∙ e
+    new-before j e = ap (λ (b : List ℕ). givenOrder b (nameAt N j)) is ∙ e
 
     new-after : (j : ℕ) → toName N a j ≡ Greater → Before N j new
     unfolding toName
-    new-after j e = ap (nameOrder (nameAt N j)) is ∙ turned j e
+    new-after j e = ap (givenOrder (nameAt N j)) is ∙ turned j e
 
     tells : (j : ℕ) (o : Order) → toName N a j ≡ o → (toName N a j ≡ Equal → ⊥) → (isLess o ≡ true → Before N new j) × (isLess o ≡ false → Before N j new)
     tells j Less e n = (λ h. new-before j e, λ h. two true refl h)

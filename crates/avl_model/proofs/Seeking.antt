@@ -7,12 +7,13 @@ use lib.ListN.{length, getD}
 use borrow.Author.Tests.{lt-ltb, le-ltb}
 use Rattle.layout_name.specs.declared.Order.{Order}
 use Rattle.layout_name.specs.declared.Order.the-variants.{Less, Equal, Greater}
+use Rattle.name_role.specs.Roles.{givenOrder}
+use Rattle.name_role.proofs.Roles.{Compared, given-compared}
 use Rattle.avl_model.specs.declared.Place.{Place}
 use Rattle.avl_model.specs.declared.Place.the-variants.{Left, Right}
 use Rattle.avl_model.specs.declared.Spot.{Spot}
 use Rattle.avl_model.specs.declared.Spot.the-variants.{Same, Free}
 use Rattle.avl_model.specs.Tree.{Tree, leaf, node, none, top, ht}
-use Rattle.layout_name.specs.Order.{nameOrder}
 use Rattle.avl_model.specs.Laws.{All}
 use Rattle.avl_model.specs.Names.{Names, nameAt, toName}
 use Rattle.avl_model.specs.Seek.{spotIn, treeAt}
@@ -125,6 +126,6 @@ module _ (L R : List ℕ) (by : ℕ → Order) (P : ℕ → Type 0) (small : len
   free {at} {q} {goal} k h = free-of (k .s) at q goal (k .at-is) (k .links) (k .spot) h
 
 -- what comparing a name with that of a node tells
-pub told : (N : Names) (a : List ℕ) (at : ℕ) {b : List ℕ} {o r : Order} → b ≡ nameAt N at → r ≡ nameOrder a b → r ≡ o → toName N a at ≡ o
+pub told : (N : Names) (a : List ℕ) (at : ℕ) {b : List ℕ} {o r : Order} → b ≡ nameAt N at → Compared r a b → r ≡ o → toName N a at ≡ o
 unfolding toName
-told N a at e f g = ap (nameOrder a) (sym e) ∙ sym f ∙ g
+told N a at {b} e f g = ap (givenOrder a) (sym e) ∙ sym (given-compared a b f) ∙ g

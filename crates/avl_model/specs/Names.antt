@@ -5,8 +5,8 @@ use mathlib.Core.List.{List}
 use lib.ListN.{getD, take, drop}
 use Rattle.layout_name.specs.declared.Order.{Order}
 use Rattle.layout_name.specs.declared.Order.the-variants.{Less}
-use Rattle.layout_name.specs.Order.{nameOrder}
 pub use Rattle.layout_name.specs.Order.{isLess}
+use Rattle.name_role.specs.Roles.{givenOrder}
 
 -- lent bytes, and for each node where its name starts in them and how long it is
 pub record Names : Type 0 where
@@ -24,7 +24,7 @@ nameAt N i = take (getD (N .len) i 0) (drop (getD (N .start) i 0) (N .bytes))
 
 -- the order of a name to that of a node
 unfoldable pub toName : Names → List ℕ → ℕ → Order
-toName N a i = nameOrder a (nameAt N i)
+toName N a i = givenOrder a (nameAt N i)
 
 -- the order of the names of two nodes
 abbrev pub byName : Names → ℕ → ℕ → Order

@@ -20,15 +20,15 @@ use Rattle.dirtab_arena.specs.Arena.{Columns, Arena, entryAt, treeOf}
 use Rattle.dirtab_arena.proofs.Passed.{held}
 use Rattle.dirtab.specs.Serialise as serialise
 use Rattle.dirtab_list.specs.Whole as whole
-use Rattle.dirtab_list.specs.Whole.{Listing, entryIn}
+use Rattle.dirtab_list.specs.Whole.{Listing, givenName, entryIn}
 use Rattle.agree.specs.Agreement.{offsets, placedAt, ReadBack, Reached, Agreement}
-use Rattle.agree.specs.Given.{grown, EachOnce}
+use Rattle.agree.specs.Given.{EachOnce}
 use Rattle.agree.proofs.FromList.{grown-size}
 use Rattle.agree_list.proofs.Same.{same-answer, same-output}
 use Rattle.agree_writers.specs.Wrote.{WroteList, WroteArena}
 use Rattle.agree_writers.proofs.OfList.{list-agrees, list-each, list-strict}
 use Rattle.agree_writers.proofs.OfArena.{arena-agrees, arena-each, arena-strict}
-use Rattle.agree_causes.specs.Lists.{itemsFor}
+use Rattle.agree_causes.specs.Lists.{treeFor, itemsFor}
 use Rattle.lookup_way.specs.Along.{Along, Real}
 use Rattle.lookup_way.proofs.Along.{along-clear, along-absent}
 use Rattle.lookup_way.proofs.Sets.{lookup-0, without-255, with-255}
@@ -74,7 +74,7 @@ module _ (w : List ℕ) (first : Sector) (t : Region) (place : ℕ) where
       }
 
 long : (L : Listing) (s : ℕ) → length (itemsFor L s) ≡ L .count
-long L s = items-length (entryIn L) 1 (grown (entryIn L) (L .count)) 0 s ∙ grown-size (entryIn L) (L .count)
+long L s = items-length (entryIn L) 1 (treeFor L) 0 s ∙ grown-size (givenName L) (L .count)
 
 of-list : (L : Listing) (n s : ℕ) (out : List ℕ) (p : Placing) (w : List ℕ) (first : Sector) (t : Region) (g : WroteList L n s out p w first t)
     → Kept w first t (g .stand .place) (L .count) (entryIn L) (itemsFor L s)

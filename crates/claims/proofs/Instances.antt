@@ -5,14 +5,15 @@ use native.Mathlib.Omega.{arith}
 use mathlib.Core.Path.{_≡_, refl, sym, ap, _∙_}
 use mathlib.Core.Bool.{Bool, true, _&&_}
 use mathlib.Core.Logic.{inl, inr}
-use mathlib.Core.List.{List, [], _∷_, _++_, map, append-nil}
+use mathlib.Core.List.{List, [], _∷_, _++_, append-nil}
 use lib.ListN.{length, getD, replicate, length-replicate}
 use lib.Dec.{ltb}
 use borrow.Author.Tests.{ltb-true}
 use Rattle.units.specs.Told.{gives}
 use Rattle.units.specs.declared.Sector.{Sector}
 use Rattle.units.specs.declared.Region.{Region}
-use Rattle.layout_name.specs.Order.{raised, numberOrder, listOrder, orderBy, nameOrder}
+use Rattle.layout_name.specs.Order.{raised, numberOrder, listOrder}
+use Rattle.name_role.specs.Roles.{givenKeys, storedOf, givenOrder}
 use Rattle.layout_sector.specs.Counter.{sectorsFor}
 use Rattle.dirtab_entry.specs.Entry.{rounded, anyBad, nameIn, checkOf}
 use Rattle.read_lookup.specs.declared.Looked.the-variants as looked
@@ -37,7 +38,6 @@ use Rattle.img_model.specs.Shares.{isTree}
 use Rattle.img_model.specs.Plan.{total, treeIn, sizesDown, takingAll, takingUp, planOf}
 use Rattle.img_model.specs.Image as image
 use Rattle.img_model.specs.Image.{Asked, asked, fits, hasRoom, requestIn, imageOf, lentAfter}
-use Rattle.agree.specs.Agreement.{Same}
 use Rattle.agree.specs.Given.{grown}
 use Rattle.agree_list.specs.InTurn.{addAll, emptyIn, thenAnswer, thenOutput, Wide}
 use Rattle.agree_list.proofs.Same.{same-answer}
@@ -69,9 +69,9 @@ three-of P a b c (suc (suc (suc i))) h = absurd (omega arith)
 abbrev abc : Listing
 abc = listing 3 (0 ∷ 1 ∷ 2 ∷ []) (1 ∷ 1 ∷ 1 ∷ []) (1 ∷ 1 ∷ 1 ∷ []) (0 ∷ 0 ∷ 0 ∷ []) (0x61 ∷ 0x62 ∷ 0x63 ∷ [])
 
-abc-raised : (i : ℕ) → i < 3 → map raised (nameAt (namesIn (abc .bytes) (abc .start) (abc .len)) i) ≡ (65 + i) ∷ []
-unfolding raised
-abc-raised = three-of (λ i. map raised (nameAt (namesIn (abc .bytes) (abc .start) (abc .len)) i) ≡ (65 + i) ∷ []) refl refl refl
+abc-raised : (i : ℕ) → i < 3 → givenKeys (nameAt (namesIn (abc .bytes) (abc .start) (abc .len)) i) ≡ (65 + i) ∷ []
+unfolding givenKeys raised
+abc-raised = three-of (λ i. givenKeys (nameAt (namesIn (abc .bytes) (abc .start) (abc .len)) i) ≡ (65 + i) ∷ []) refl refl refl
 
 abc-named : Fair 3 (abc .start) (abc .len) (abc .bytes)
 abc-named = record {
@@ -109,7 +109,7 @@ abbrev memory : whole.Lent
 memory = whole.lent zeros zeros zeros zeros zeros zeros zeros out
 
 size-48 : rounded (sizeOf (entryIn abc) (treeFor abc)) ≡ 2048
-unfolding grown bal endOf startAfter raised numberOrder listOrder orderBy nameOrder
+unfolding grown bal endOf startAfter raised numberOrder listOrder givenOrder givenKeys storedOf
 size-48 = refl
 
 roomy : rounded (sizeOf (entryIn abc) (treeFor abc)) ≤ length out
@@ -135,7 +135,7 @@ abbrev region : Region
 region = record { sector = record { 0 = 33 }; size = 48 }
 
 abc-answer : wholeOf abc 3 34 2048 ≡ gives answer
-unfolding wholeOf growFrom checkOf anyBad placeOf anyFar bal items endOf freeOf startAfter sectorsFor raised numberOrder listOrder orderBy nameOrder
+unfolding wholeOf growFrom checkOf anyBad placeOf anyFar bal items endOf freeOf startAfter sectorsFor raised numberOrder listOrder givenOrder givenKeys storedOf
 abc-answer = refl
 
 pub abc-read : ListRead abc 34 memory answer (whole.lentAfter abc 34 memory .out) window-first region
@@ -195,7 +195,7 @@ held = arena 1 3
 
 held-answer : serialiseOf held 34 3 3 2048 ≡ gives answer
 unfolding serialiseOf isArena isTaken holdsTree places inside wholeTree decoded treeAt between cellOk toName checkOf anyBad placeOf anyFar items endOf freeOf
-    startAfter sectorsFor raised numberOrder listOrder orderBy nameOrder
+    startAfter sectorsFor raised numberOrder listOrder givenOrder givenKeys storedOf
 held-answer = refl
 
 pub held-read : ArenaRead held 34 scratch answer (serialise.lentAfter held 34 scratch .out) window-first region
@@ -216,9 +216,9 @@ abbrev lent : image.Lent
 lent = image.lent (0 ∷ 0 ∷ []) (0 ∷ 0 ∷ []) zeros (0 ∷ 0 ∷ []) zeros zeros zeros zeros zeros zeros zeros
 
 -- names of one byte, each its place in the bytes
-root-raised : (i : ℕ) → i < 2 → map raised (nameAt (namesIn (100 ∷ 97 ∷ 98 ∷ []) (0 ∷ 1 ∷ []) (1 ∷ 1 ∷ [])) i) ≡ getD (68 ∷ 65 ∷ []) i 0 ∷ []
-unfolding raised
-root-raised = two-of (λ i. map raised (nameAt (namesIn (100 ∷ 97 ∷ 98 ∷ []) (0 ∷ 1 ∷ []) (1 ∷ 1 ∷ [])) i) ≡ getD (68 ∷ 65 ∷ []) i 0 ∷ []) refl refl
+root-raised : (i : ℕ) → i < 2 → givenKeys (nameAt (namesIn (100 ∷ 97 ∷ 98 ∷ []) (0 ∷ 1 ∷ []) (1 ∷ 1 ∷ [])) i) ≡ getD (68 ∷ 65 ∷ []) i 0 ∷ []
+unfolding givenKeys raised
+root-raised = two-of (λ i. givenKeys (nameAt (namesIn (100 ∷ 97 ∷ 98 ∷ []) (0 ∷ 1 ∷ []) (1 ∷ 1 ∷ [])) i) ≡ getD (68 ∷ 65 ∷ []) i 0 ∷ []) refl refl
 
 apart : (i : ℕ) → i < 2 → (j : ℕ) → j < 2 → getD {A = ℕ} (68 ∷ 65 ∷ []) i 0 ≡ getD (68 ∷ 65 ∷ []) j 0 → i ≡ j
 apart = two-of (λ i. (j : ℕ) → j < 2 → getD {A = ℕ} (68 ∷ 65 ∷ []) i 0 ≡ getD (68 ∷ 65 ∷ []) j 0 → i ≡ j)
@@ -267,7 +267,7 @@ unfolding hasRoom fits total
 small-enough = record { room = refl; orders = omega arith }
 
 pub small-given : GivenIn small lent 38
-unfolding lentAfter imageOf hasRoom fits planOf isTree total sizesDown treeIn takingUp takingAll growFrom checkOf anyBad nameOrder orderBy listOrder numberOrder
+unfolding lentAfter imageOf hasRoom fits planOf isTree total sizesDown treeIn takingUp takingAll growFrom checkOf anyBad givenOrder givenKeys storedOf listOrder numberOrder
     raised bal placeOf anyFar items endOf freeOf startAfter sectorsFor
 small-given = record { plan = plans.its-plan; planned = plans.planned; free = refl; sizes = refl; tables = refl; sectors = refl }
 

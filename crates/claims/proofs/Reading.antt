@@ -8,11 +8,12 @@ use lib.ListN.{length, getD}
 use Rattle.units.specs.Told.{Told, gives, refuses, pick}
 use Rattle.units.specs.declared.Sector.{Sector}
 use Rattle.units.specs.declared.Region.{Region}
+use Rattle.name_role.specs.Roles.{badSought}
 use Rattle.read_entry.specs.Links.{lookupAbsent}
 use Rattle.read_lookup.specs.declared.Looked.{Looked}
 use Rattle.read_lookup.specs.declared.Looked.the-variants as looked
 use Rattle.read_lookup.specs.Lookup as lookup
-use Rattle.read_lookup.specs.Lookup.{Finding, anyHigh, lookupBy, lookupOf}
+use Rattle.read_lookup.specs.Lookup.{Finding, lookupBy, lookupOf}
 use Rattle.read_lookup.specs.Chain.{countOf}
 use Rattle.read_lookup.proofs.Laws.{looped-endless, looped-again, again-endless, endless-looped, count-is-length}
 use Rattle.read_lookup.proofs.Told.{told-one}
@@ -27,9 +28,9 @@ not-2 : (a : Bool) (x : Told Finding) → pick a (refuses 2 []) x ≡ refuses 25
 not-2 true x e = let z : _≡_ {A = ℕ} 2 25 = cc in absurd (omega arith)
 not-2 false x e = refl
 
-let-through : (w : List ℕ) (first : Sector) (t : Region) (name : List ℕ) → lookupOf w first t name ≡ refuses 25 [] → anyHigh name ≡ false
+let-through : (w : List ℕ) (first : Sector) (t : Region) (name : List ℕ) → lookupOf w first t name ≡ refuses 25 [] → badSought name ≡ false
 unfolding lookupBy
-let-through w first t name e = not-2 (anyHigh name) _ e
+let-through w first t name e = not-2 (badSought name) _ e
 
 pub looped-exactly : LoopedExactly
 looped-exactly w bytes first t name r c =

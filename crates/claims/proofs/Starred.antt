@@ -5,7 +5,8 @@ use mathlib.Core.Path.{_≡_, refl, ap, _∙_}
 use mathlib.Core.List.{List, [], _∷_}
 use lib.ListN.{length}
 use Rattle.units.specs.Told.{refuses}
-use Rattle.layout_name.specs.Order.{raised, numberOrder, listOrder, orderBy, nameOrder}
+use Rattle.layout_name.specs.Order.{raised, numberOrder, listOrder}
+use Rattle.name_role.specs.Roles.{givenKeys, storedOf, givenOrder}
 use Rattle.dirtab_entry.specs.Entry.{anyBad, checkOf}
 use Rattle.avl_model.specs.Tree.{node}
 use Rattle.avl_model.specs.Laws.{least, size}
@@ -23,11 +24,11 @@ use Rattle.claims.specs.Starred.{abbABB, Starred}
 
 -- the second is refused, and nothing is written
 twice : (s n : ℕ) → wholeOf abbABB 2 s n ≡ refuses 4 (1 ∷ [])
-unfolding wholeOf growFrom checkOf anyBad raised numberOrder listOrder orderBy nameOrder
+unfolding wholeOf growFrom checkOf anyBad raised numberOrder listOrder givenOrder givenKeys storedOf
 twice s n = refl
 
 unwritten : (s : ℕ) (out : List ℕ) → outAfter abbABB 2 s out ≡ out
-unfolding outAfter wholeOf growFrom checkOf anyBad raised numberOrder listOrder orderBy nameOrder
+unfolding outAfter wholeOf growFrom checkOf anyBad raised numberOrder listOrder givenOrder givenKeys storedOf
 unwritten s out = refl
 
 least-19 : least 19 ≡ 10945

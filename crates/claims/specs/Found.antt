@@ -8,8 +8,9 @@ use lib.ListN.{length, getD, take, replicate}
 use Rattle.units.specs.Told.{gives, refuses}
 use Rattle.units.specs.declared.Sector.{Sector}
 use Rattle.units.specs.declared.Region.{Region}
+use Rattle.name_role.specs.Roles.{badSought}
 use Rattle.read_entry.specs.Entry.{readAt}
-use Rattle.read_lookup.specs.Lookup.{anyHigh, lookupOf}
+use Rattle.read_lookup.specs.Lookup.{lookupOf}
 use Rattle.read_walk.specs.Walk as walking
 use Rattle.strict_rule.specs.Strict as checking
 use Rattle.table_model.specs.Entry.{Entry, Item}
@@ -38,10 +39,10 @@ module _ (w : List ℕ) (first : Sector) (t : Region) (place : ℕ) where
     -- the way is the only one along links of which none is 0 or 65,535
     pub real : Real links
     pub one-way : (ks : List ℕ) → Along (readAt w first t) 0 (y .offset) ks → Real ks → ks ≡ links
-    pub found : (List·Memᴰ 255 links → ⊥) → (name : List ℕ) → anyHigh name ≡ false → Same name (y .entry .name)
+    pub found : (List·Memᴰ 255 links → ⊥) → (name : List ℕ) → badSought name ≡ false → Same name (y .entry .name)
         → lookupOf w first t name
         ≡ gives (record { entry = placedAt place y; offset = y .offset; headers = 1 + length links })
-    pub lost : List·Memᴰ 255 links → (name : List ℕ) → anyHigh name ≡ false → Same name (y .entry .name)
+    pub lost : List·Memᴰ 255 links → (name : List ℕ) → badSought name ≡ false → Same name (y .entry .name)
         → (c : ℕ) × (lookupOf w first t name ≡ refuses 22 (c ∷ []))
 
   -- DEMAND 3, of n entries and the items xs of their table
@@ -62,7 +63,7 @@ module _ (w : List ℕ) (first : Sector) (t : Region) (place : ℕ) where
     -- lookup finds each, unless a link of 255 stands on the way
     pub found : (y : Item) → List·Memᴰ y xs → FoundUnless255 y
     -- it finds nothing else: any other name is 22; and it reads at most 19 headers
-    pub only : (name : List ℕ) → anyHigh name ≡ false
+    pub only : (name : List ℕ) → badSought name ≡ false
         → Sound place xs 19 name (lookupOf w first t name)
     -- the strict check accepts the table, and lists the same
     pub accepted : (list scratch : List ℕ) → n ≤ length list → length list < length scratch

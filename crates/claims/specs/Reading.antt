@@ -9,11 +9,12 @@ use lib.ListN.{length, getD, replicate}
 use Rattle.units.specs.Told.{gives}
 use Rattle.units.specs.declared.Sector.{Sector}
 use Rattle.units.specs.declared.Region.{Region}
+use Rattle.name_role.specs.Roles.{badSought}
 use Rattle.read_entry.specs.Links.{lookupAbsent}
 use Rattle.read_lookup.specs.declared.Looked.{Looked}
 use Rattle.read_lookup.specs.declared.Looked.the-variants as looked
 use Rattle.read_lookup.specs.Lookup as lookup
-use Rattle.read_lookup.specs.Lookup.{stepAt, anyHigh, lookupOf}
+use Rattle.read_lookup.specs.Lookup.{stepAt, lookupOf}
 use Rattle.read_lookup.specs.Chain.{Endless, ReadsAgain, LengthIs, countOf}
 use Rattle.strict_rule.specs.Strict as checking
 use Rattle.strict_rule.specs.Accepts.{Accepts}
@@ -24,9 +25,9 @@ use Rattle.strict_rule.specs.Accepts.{Accepts}
 pub record Looped (w : List ℕ) (first : Sector) (t : Region) (name : List ℕ) (r : Looked) : Type 0 where
   pub never-ends : r ≡ looked.Looped → Endless (stepAt lookupAbsent w first t name) 0
   pub reads-again : r ≡ looked.Looped → ReadsAgain (stepAt lookupAbsent w first t name) 0
-  pub let-through : r ≡ looked.Looped → anyHigh name ≡ false
-  pub where-endless : anyHigh name ≡ false → Endless (stepAt lookupAbsent w first t name) 0 → r ≡ looked.Looped
-  pub where-again : anyHigh name ≡ false → ReadsAgain (stepAt lookupAbsent w first t name) 0 → r ≡ looked.Looped
+  pub let-through : r ≡ looked.Looped → badSought name ≡ false
+  pub where-endless : badSought name ≡ false → Endless (stepAt lookupAbsent w first t name) 0 → r ≡ looked.Looped
+  pub where-again : badSought name ≡ false → ReadsAgain (stepAt lookupAbsent w first t name) 0 → r ≡ looked.Looped
 
 abbrev pub LoopedExactly : Type 0
 LoopedExactly = (w : List ℕ) → ((i : ℕ) → getD w i 0 < 256) → (first : Sector) (t : Region) (name : List ℕ)

@@ -4,7 +4,8 @@ use mathlib.Core.Path.{_≡_, refl}
 use mathlib.Core.List.{[], _∷_, _++_}
 use lib.ListN.{replicate}
 use Rattle.units.specs.Told.{gives, refuses}
-use Rattle.layout_name.specs.Order.{numberOrder, listOrder, orderBy, raised, nameOrder}
+use Rattle.layout_name.specs.Order.{numberOrder, listOrder, raised}
+use Rattle.name_role.specs.Roles.{givenKeys, storedOf, givenOrder}
 use Rattle.layout_node.specs.Header.{headerBytes}
 use Rattle.layout_sector.specs.Counter.{sectorsFor}
 use Rattle.dirtab_entry.specs.Entry.{anyBad, checkOf}
@@ -39,7 +40,7 @@ empty-small = refl
 
 -- the reported size is not rounded; b takes three sectors, a one, c two
 three-given : serialiseOf three 33 3 3 2048 ≡ gives (record { size = 48; free = 39 })
-unfolding serialiseOf isArena isTaken checkOf anyBad holdsTree wholeTree places inside between cellOk decoded treeAt toName nameOrder orderBy listOrder
+unfolding serialiseOf isArena isTaken checkOf anyBad holdsTree wholeTree places inside between cellOk decoded treeAt toName givenOrder givenKeys storedOf listOrder
     numberOrder raised placeOf anyFar items endOf freeOf startAfter sectorsFor
 three-given = refl
 
@@ -48,16 +49,16 @@ three-written : outAfter three 33 3 3 (replicate 2050 7)
     ≡ (4 ∷ 0 ∷ 8 ∷ 0 ∷ 33 ∷ 0 ∷ 0 ∷ 0 ∷ 1 ∷ 16 ∷ 0 ∷ 0 ∷ 32 ∷ 1 ∷ 98 ∷ 255
     ∷ 0 ∷ 0 ∷ 0 ∷ 0 ∷ 36 ∷ 0 ∷ 0 ∷ 0 ∷ 1 ∷ 0 ∷ 0 ∷ 0 ∷ 32 ∷ 1 ∷ 97 ∷ 255
     ∷ 0 ∷ 0 ∷ 0 ∷ 0 ∷ 37 ∷ 0 ∷ 0 ∷ 0 ∷ 0 ∷ 16 ∷ 0 ∷ 0 ∷ 16 ∷ 1 ∷ 99 ∷ 255 ∷ []) ++ (replicate 2000 255 ++ replicate 2 7)
-unfolding outAfter serialiseOf isArena isTaken checkOf anyBad holdsTree wholeTree places inside between cellOk decoded treeAt toName nameOrder orderBy listOrder
+unfolding outAfter serialiseOf isArena isTaken checkOf anyBad holdsTree wholeTree places inside between cellOk decoded treeAt toName givenOrder givenKeys storedOf listOrder
     numberOrder raised placeOf anyFar items endOf freeOf startAfter sectorsFor tableBytes bytesFrom entryBytes headerBytes
 three-written = refl
 
 -- 6 where a scratch column has two places, 8 where the last sector would be past the last number
 three-short : serialiseOf three 33 3 2 2048 ≡ refuses 6 []
-unfolding serialiseOf isArena isTaken checkOf anyBad holdsTree wholeTree places inside between cellOk decoded treeAt toName nameOrder orderBy listOrder numberOrder raised
+unfolding serialiseOf isArena isTaken checkOf anyBad holdsTree wholeTree places inside between cellOk decoded treeAt toName givenOrder givenKeys storedOf listOrder numberOrder raised
 three-short = refl
 
 three-far : serialiseOf three 4294967290 3 3 2048 ≡ refuses 8 []
-unfolding serialiseOf isArena isTaken checkOf anyBad holdsTree wholeTree places inside between cellOk decoded treeAt toName nameOrder orderBy listOrder
+unfolding serialiseOf isArena isTaken checkOf anyBad holdsTree wholeTree places inside between cellOk decoded treeAt toName givenOrder givenKeys storedOf listOrder
     numberOrder raised placeOf anyFar items endOf freeOf startAfter sectorsFor
 three-far = refl

@@ -8,7 +8,7 @@ use lib.ListN.{length, getD, take, drop, length-set}
 use lib.Seq.{getD-set-same, getD-set-other}
 use borrow.Author.Tests.{le-leb}
 use Rattle.units.specs.Told.{Told, gives}
-use Rattle.layout_name.specs.Order.{nameOrder}
+use Rattle.name_role.specs.Roles.{givenOrder}
 use Rattle.dirtab_entry.specs.declared.Entry as given
 use Rattle.dirtab_entry.specs.declared.Kind.{Kind}
 use Rattle.dirtab_entry.specs.declared.Kind.the-variants.{File, Directory}
@@ -32,7 +32,7 @@ use Rattle.avl_model.proofs.Writing.{Wide, written-held}
 use Rattle.avl_arena.specs.HeldTree.{Places, HeldTree}
 use Rattle.avl_arena.proofs.Tested.{and-both, every-at, every-from}
 use Rattle.avl_arena.proofs.Complete.{complete, decoded-is, held-below}
-use Rattle.table_model.specs.Entry.{Entry}
+use Rattle.table_model.specs.Entry.{entryFor}
 use Rattle.dirtab_arena.specs.Arena.{Arena, arena, listsOf, namesOf, givenAt, entryAt, isGiven, isTaken, isArena, treeOf}
 use Rattle.dirtab_add.specs.Add.{Grown, orderTo, grownTree, addOf, kindNumber, columnsWith, ifGiven, columnsAfter}
 use Rattle.dirtab_add.specs.inner.Judging.{Taking}
@@ -143,11 +143,11 @@ module _ (A : Arena) (e : given.Entry) (q : Place) (w : Taking A e q) where
 
   other-before : (i j : ℕ) → i < n → j < n → Before (namesOf A) i j → Before (namesOf A2) i j
   unfolding toName
-  other-before i j p k b = ap₂ nameOrder (other-name i p) (other-name j k) ∙ b
+  other-before i j p k b = ap₂ givenOrder (other-name i p) (other-name j k) ∙ b
 
   other-order : (j : ℕ) → j < n → toName (namesOf A2) (nameIn (A .bytes) e) j ≡ orderTo A e j
   unfolding toName
-  other-order j k = ap (nameOrder (nameIn (A .bytes) e)) (other-name j k)
+  other-order j k = ap (givenOrder (nameIn (A .bytes) e)) (other-name j k)
 
   ordered : Ordered (Before (namesOf A2)) g
   ordered =
@@ -239,10 +239,12 @@ module _ (A : Arena) (e : given.Entry) (q : Place) (w : Taking A e q) where
   grown-tree = decoded-is (listsOf A2) (namesOf A2) (n + 1) (omega (arith, m .small)) g holds
 
   pub grown-other : (j : ℕ) → j < n → entryAt A2 j ≡ entryAt A j
-  grown-other j k = λ d. record { name = other-name j k d; kind = kindFor (other-kind j k d); size = storedSize (kindFor (other-kind j k d)) (other-size j k d) }
+  grown-other j k = ap (entryFor (A .bytes)) (other-given j k)
 
-  pub grown-new : entryAt A2 n ≡ record { name = nameIn (A .bytes) e; kind = e .kind; size = storedSize (e .kind) (e .size) }
-  grown-new = λ d. record { name = new-name d; kind = new-kind d; size = ((λ c. storedSize (new-kind c) (new-size c)) ∙ stored-twice (e .kind) (e .size)) d }
+  pub grown-new : entryAt A2 n ≡ entryFor (A .bytes) e
+  grown-new =
+      ap (entryFor (A .bytes)) new-given
+      ∙ ap (λ (z : ℕ). record { name = entryFor (A .bytes) e .name; kind = e .kind; size = z }) (stored-twice (e .kind) (e .size))
 
 -- ---- THE ARENA AFTER AN ENTRY WAS ADDED
 
@@ -280,6 +282,12 @@ module _ (A : Arena) (e : given.Entry) (g : Grown) (h : addOf A e ≡ gives g) w
   pub next-other : (j : ℕ) → j < A .count → entryAt next j ≡ entryAt A j
   next-other j k = ap (λ (x : Arena). entryAt x j) (sym next-is) ∙ grown-other A e q w j k
 
-  -- and the last is the one that was given, a directory's size rounded
-  pub next-new : entryAt next (A .count) ≡ record { name = nameIn (A .bytes) e; kind = e .kind; size = storedSize (e .kind) (e .size) }
+  pub next-other-name : (j : ℕ) → j < A .count → nameAt (namesOf next) j ≡ nameAt (namesOf A) j
+  next-other-name j k = ap (λ (x : Arena). nameAt (namesOf x) j) (sym next-is) ∙ other-name A e q w j k
+
+  -- and the last is the one that was given
+  pub next-new : entryAt next (A .count) ≡ entryFor (A .bytes) e
   next-new = ap (λ (x : Arena). entryAt x (A .count)) (sym next-is) ∙ grown-new A e q w
+
+  pub next-new-name : nameAt (namesOf next) (A .count) ≡ nameIn (A .bytes) e
+  next-new-name = ap (λ (x : Arena). nameAt (namesOf x) (A .count)) (sym next-is) ∙ new-name A e q w

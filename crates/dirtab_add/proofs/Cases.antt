@@ -3,11 +3,12 @@ use Prim.Native.Nat.{ℕ, _+_, _<_}
 use native.Mathlib.Omega.{arith}
 use mathlib.Core.Path.{_≡_, refl, sym, ap, _∙_}
 use mathlib.Core.Bool.{true, false}
-use mathlib.Core.List.{List, [], _∷_, map}
+use mathlib.Core.List.{List, [], _∷_}
 use Rattle.units.specs.Told.{gives, refuses}
 use Rattle.layout_name.specs.declared.Order.the-variants.{Equal}
-use Rattle.layout_name.specs.Order.{numberOrder, listOrder, orderBy, raised, nameOrder}
-use Rattle.layout_name.proofs.Laws.{name-equal}
+use Rattle.layout_name.specs.Order.{numberOrder, listOrder, raised}
+use Rattle.name_role.specs.Roles.{givenKeys, givenOrder}
+use Rattle.name_role.proofs.Roles.{given-equal}
 use Rattle.dirtab_entry.specs.declared.Entry as given
 use Rattle.dirtab_entry.specs.declared.Kind.the-variants.{File, Directory}
 use Rattle.dirtab_entry.specs.Entry.{anyBad, nameIn, checkOf}
@@ -23,30 +24,29 @@ use Rattle.avl_model.specs.Columns.{written}
 use Rattle.avl_model.proofs.Search.{same-found}
 use Rattle.avl_model.proofs.Counted.{all-at, rep-below}
 use Rattle.avl_arena.specs.Test.{places, inside, between, cellOk, decoded, wholeTree, holdsTree}
-use Rattle.table_model.specs.Entry.{Entry}
 use Rattle.dirtab_arena.specs.Arena.{columns, Arena, arena, listsOf, isTaken, isArena, treeOf}
 use Rattle.dirtab_add.specs.Add.{Grown, orderTo, grownTree, hasRoom, addOf, columnsWith, columnsAfter}
 use Rattle.dirtab_add.specs.inner.Judging.{Checked}
 use Rattle.dirtab_arena.proofs.Passed.{held}
 use Rattle.dirtab_add.proofs.Ways.{no-room, refused, answers}
 use Rattle.dirtab_add.proofs.Given.{duplicate}
-use Rattle.dirtab_add.proofs.Again.{next, next-arena, next-count, next-new}
+use Rattle.dirtab_add.proofs.Again.{next, next-arena, next-count, next-new-name}
 
 -- ---- an entry, and after it one of the same name but for case
 
 module _ (A : Arena) (e f : given.Entry) (g : Grown) (h : addOf A e ≡ gives g) where
-  pub same-again : map raised (nameIn (A .bytes) f) ≡ map raised (nameIn (A .bytes) e) → checkOf (A .bytes) f ≡ gives tt
+  pub same-again : givenKeys (nameIn (A .bytes) f) ≡ givenKeys (nameIn (A .bytes) e) → checkOf (A .bytes) f ≡ gives tt
       → (addOf (next A e g h) f ≡ refuses 4 []) × (columnsAfter (next A e g h) f ≡ next A e g h .columns)
   unfolding toName
   same-again s t =
       duplicate (next A e g h) f (record { passes = next-arena A e g h; taken = t }) (A .count) (omega (arith, next-count A e g h))
-      (ap (nameOrder (nameIn (A .bytes) f)) (ap (λ (x : Entry). x .name) (next-new A e g h)) ∙ name-equal (nameIn (A .bytes) f) (nameIn (A .bytes) e) s)
+      (ap (givenOrder (nameIn (A .bytes) f)) (next-new-name A e g h) ∙ given-equal (nameIn (A .bytes) f) (nameIn (A .bytes) e) s)
 
   -- `abb` then `ABB` is 4, and all is as `abb` left it
   pub abb-ABB : nameIn (A .bytes) e ≡ 97 ∷ 98 ∷ 98 ∷ [] → nameIn (A .bytes) f ≡ 65 ∷ 66 ∷ 66 ∷ [] → checkOf (A .bytes) f ≡ gives tt
       → (addOf (next A e g h) f ≡ refuses 4 []) × (columnsAfter (next A e g h) f ≡ next A e g h .columns)
-  unfolding raised
-  abb-ABB ee ef t = same-again (ap (map raised) ef ∙ sym (ap (map raised) ee)) t
+  unfolding givenKeys raised
+  abb-ABB ee ef t = same-again (ap givenKeys ef ∙ sym (ap givenKeys ee)) t
 
 -- ---- a full arena
 
@@ -95,11 +95,11 @@ abb-columns = refl
 
 -- into the full arena: `ABB` is 4, and `c` is 6
 ABB-answer : addOf one (record { start = 3; len = 3; kind = File; size = 5 }) ≡ refuses 4 []
-unfolding addOf isArena isTaken holdsTree wholeTree places inside between cellOk decoded treeAt checkOf anyBad hasRoom toName nameOrder orderBy listOrder numberOrder raised
+unfolding addOf isArena isTaken holdsTree wholeTree places inside between cellOk decoded treeAt checkOf anyBad hasRoom toName givenOrder givenKeys listOrder numberOrder raised
 ABB-answer = refl
 
 c-answer : addOf one (record { start = 6; len = 1; kind = File; size = 5 }) ≡ refuses 6 []
-unfolding addOf isArena isTaken holdsTree wholeTree places inside between cellOk decoded treeAt checkOf anyBad hasRoom toName nameOrder orderBy listOrder numberOrder raised
+unfolding addOf isArena isTaken holdsTree wholeTree places inside between cellOk decoded treeAt checkOf anyBad hasRoom toName givenOrder givenKeys listOrder numberOrder raised
 c-answer = refl
 
 -- an entry of the arena that adding would not take, here a file's name with a byte above 127, is 12

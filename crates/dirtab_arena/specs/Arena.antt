@@ -8,12 +8,12 @@ use denote.Triple.Both.{Both}
 use Rattle.units.specs.Told.{Told, gives, refuses}
 use Rattle.units.specs.Lent.{Slice, was, is}
 use Rattle.dirtab_entry.specs.declared.Entry as given
-use Rattle.dirtab_entry.specs.Entry.{kindFor, storedSize, checkOf}
+use Rattle.dirtab_entry.specs.Entry.{kindFor, checkOf}
 use Rattle.avl_model.specs.Lists.{Lists, lists}
-use Rattle.avl_model.specs.Names.{Names, namesIn, nameAt}
+use Rattle.avl_model.specs.Names.{Names, namesIn}
 use Rattle.avl_model.specs.Tree.{Tree}
 use Rattle.avl_arena.specs.Test.{every, holdsTree, decoded}
-use Rattle.table_model.specs.Entry.{Entry}
+use Rattle.table_model.specs.Entry.{Entry, entryFor}
 
 -- the columns, by node: links, parent and height of the tree; the name's place and length, the size and the kind of
 -- the entry
@@ -58,7 +58,7 @@ listsOf A = lists (A .root) (A .columns .left) (A .columns .right) (A .columns .
 abbrev pub namesOf : Arena → Names
 namesOf A = namesIn (A .bytes) (A .columns .start) (A .columns .len)
 
--- entry i as its columns give it, and as a table has it (a directory's size rounded)
+-- entry i as its columns give it, and as a table has it
 abbrev pub givenAt : Arena → ℕ → given.Entry
 givenAt A i = record {
   start = getD (A .columns .start) i 0;
@@ -68,11 +68,7 @@ givenAt A i = record {
 }
 
 abbrev pub entryAt : Arena → ℕ → Entry
-entryAt A i = record {
-  name = nameAt (namesOf A) i;
-  kind = kindFor (getD (A .columns .kind) i 0);
-  size = storedSize (kindFor (getD (A .columns .kind) i 0)) (getD (A .columns .size) i 0);
-}
+entryAt A i = entryFor (A .bytes) (givenAt A i)
 
 -- adding takes the entry
 abbrev pub isGiven : Told (Unit {0}) → Bool

@@ -4,3 +4,4 @@ pub mod Cases
 pub mod Bad
 pub mod Checks
 pub mod Stored
+pub mod Storable

@@ -51,16 +51,28 @@ anyBad (x ∷ xs) = pick (isBad x) true (anyBad xs)
 abbrev pub nameIn : List ℕ → Entry → List ℕ
 nameIn names e = take (e .len) (drop (e .start) names)
 
--- 1 an empty name; 2 a place that reaches past the bytes lent, or a bad byte; 3 more than 255 bytes; 5 a
--- directory's size above 4,294,965,248
-unfoldable pub checkOf : List ℕ → Entry → Told (Unit {0})
-checkOf names e =
+-- of the name: 1 empty; 2 a place that reaches past the bytes lent, or a bad byte; 3 more than 255 bytes
+abbrev pub checkName : List ℕ → Entry → Told (Unit {0})
+checkName names e =
     pick (eqb (e .len) 0) (refuses 1 [])
     (pick (ltb (length names) (e .start + e .len)) (refuses 2 [])
     (pick (anyBad (nameIn names e)) (refuses 2 [])
     (pick (ltb 255 (e .len)) (refuses 3 [])
-    (pick (pick (isDirectory (e .kind)) (ltb 4294965248 (e .size)) false) (refuses 5 [])
-    (gives tt)))))
+    (gives tt))))
+
+-- of the size: 5 a directory's above 4,294,965,248
+abbrev pub checkSize : Entry → Told (Unit {0})
+checkSize e =
+    pick (pick (isDirectory (e .kind)) (ltb 4294965248 (e .size)) false) (refuses 5 []) (gives tt)
+
+-- the next check, where one refuses nothing
+abbrev pub ifPassed : Told (Unit {0}) → Told (Unit {0}) → Told (Unit {0})
+ifPassed (gives u) next = next
+ifPassed (refuses k vs) next = refuses k vs
+
+-- of the entry: the two in turn
+unfoldable pub checkOf : List ℕ → Entry → Told (Unit {0})
+checkOf names e = ifPassed (checkName names e) (checkSize e)
 
 -- the number of a cause
 abbrev pub numberOf : Cause → ℕ

@@ -9,9 +9,9 @@ use lib.ListN.{length, getD}
 use borrow.Author.Tests.{leb-true}
 use Rattle.layout_name.specs.declared.Order.{Order}
 use Rattle.layout_name.specs.declared.Order.the-variants.{Less, Greater}
-use Rattle.layout_name.specs.Order.{nameOrder}
 use Rattle.layout_name.specs.inner.Order.{opposite}
-use Rattle.layout_name.proofs.Laws.{name-opposite, name-trans}
+use Rattle.name_role.specs.Roles.{givenOrder}
+use Rattle.name_role.proofs.Roles.{Compared, given-compared, given-opposite, given-trans}
 use Rattle.avl_model.specs.declared.Place.{Place}
 use Rattle.avl_model.specs.declared.Place.the-variants.{Root, Left, Right}
 use Rattle.avl_model.specs.declared.Spot.{Spot}
@@ -72,8 +72,8 @@ module _ (N : Names) (a : List ℕ) where
   on-left : (i j : ℕ) → Before N i j → toName N a j ≡ Greater → toName N a i ≡ Greater
   unfolding toName
   on-left i j b e =
-      name-opposite (nameAt N i) a
-      ∙ ap opposite (name-trans (nameAt N i) (nameAt N j) a b (name-opposite a (nameAt N j) ∙ ap opposite e))
+      given-opposite (nameAt N i) a
+      ∙ ap opposite (given-trans (nameAt N i) (nameAt N j) a b (given-opposite a (nameAt N j) ∙ ap opposite e))
 
   on-way : (i : ℕ) (r : Tree) → All (λ j. Before N i j) r → toName N a (lastFrom i r) ≡ Greater → toName N a i ≡ Greater
   on-way i r b = last-in (λ j. toName N a j ≡ Greater → toName N a i ≡ Greater) r i (λ e. e)
@@ -142,9 +142,9 @@ inside-by b s l at i f n is ef en h k e =
     record { starts = h; ends = k; fits = omega (arith, es, el, ef, en, leb-true (f + n) (length b) e) }
 
 -- two names, compared
-pub compared : (N : Names) (i j : ℕ) {a b : List ℕ} {o : Order} → a ≡ nameAt N i → b ≡ nameAt N j → o ≡ nameOrder a b → o ≡ Greater → byName N i j ≡ Greater
+pub compared : (N : Names) (i j : ℕ) {a b : List ℕ} {o : Order} → a ≡ nameAt N i → b ≡ nameAt N j → Compared o a b → o ≡ Greater → byName N i j ≡ Greater
 unfolding toName
-compared N i j ea eb eo e = ap₂ nameOrder (sym ea) (sym eb) ∙ sym eo ∙ e
+compared N i j {a} {b} ea eb eo e = ap₂ givenOrder (sym ea) (sym eb) ∙ sym (given-compared a b eo) ∙ e
 
 -- the tree that the links hold is the one that is searched
 pub links-tree : {L R K : List ℕ} {root : ℕ} {N : Names} (w : KeySought L R K root N) → treeAt 100 L R root ≡ w .linked .t

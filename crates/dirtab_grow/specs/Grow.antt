@@ -5,7 +5,7 @@ use mathlib.Core.List.{List, [], _∷_}
 use lib.Dec.{ltb}
 use Rattle.units.specs.Told.{Told, gives, refuses, pick}
 use Rattle.layout_name.specs.declared.Order.{Order}
-use Rattle.layout_name.specs.Order.{nameOrder}
+use Rattle.name_role.specs.Roles.{givenOrder}
 use Rattle.dirtab_entry.specs.declared.Entry as given
 use Rattle.dirtab_entry.specs.Entry.{nameIn, checkOf}
 use Rattle.avl_model.specs.declared.Spot.{Spot}
@@ -37,7 +37,7 @@ module _ (check : ℕ → Told (Unit {0})) (between : ℕ → ℕ → Order) whe
 
 -- the order of the names of two entries of a list; `bytes` are lent for names
 abbrev pub orderIn : List ℕ → (ℕ → given.Entry) → ℕ → ℕ → Order
-orderIn bytes entry i j = nameOrder (nameIn bytes (entry i)) (nameIn bytes (entry j))
+orderIn bytes entry i j = givenOrder (nameIn bytes (entry i)) (nameIn bytes (entry j))
 
 -- the tree of the first n entries of a list, with adding's checks 1, 2, 3, 5, 4, 6 for each
 abbrev pub grow : List ℕ → (ℕ → given.Entry) → ℕ → Told Tree

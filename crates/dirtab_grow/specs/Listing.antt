@@ -4,7 +4,7 @@ use mathlib.Core.List.{List}
 use lib.ListN.{getD}
 use Rattle.units.specs.Lent.{Slice, was}
 use Rattle.dirtab_entry.specs.declared.Entry as given
-use Rattle.dirtab_entry.specs.Entry.{kindFor}
+use Rattle.dirtab_entry.specs.Entry.{kindFor, nameIn}
 
 -- a list of entries in columns: how many they are, where each name starts and how long it is in the bytes lent for
 -- names, size and kind
@@ -32,3 +32,7 @@ givenIn L i = record {
   size =
       getD (L .size) i 0;
 }
+
+-- and its name
+abbrev pub givenName : Listing → ℕ → List ℕ
+givenName L i = nameIn (L .bytes) (givenIn L i)

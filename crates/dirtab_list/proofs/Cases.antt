@@ -4,7 +4,8 @@ use mathlib.Core.List.{[], _∷_}
 use Rattle.units.specs.Told.{gives, refuses}
 use Rattle.table_model.specs.Place.{items, endOf, freeOf, startAfter}
 use Rattle.table_model.specs.Table.{anyFar, placeOf}
-use Rattle.layout_name.specs.Order.{nameOrder, orderBy, listOrder, numberOrder, raised}
+use Rattle.layout_name.specs.Order.{listOrder, numberOrder, raised}
+use Rattle.name_role.specs.Roles.{givenKeys, storedOf, givenOrder}
 use Rattle.layout_sector.specs.Counter.{sectorsFor}
 use Rattle.dirtab_entry.specs.Entry.{anyBad, checkOf}
 use Rattle.avl_model.specs.Tree.{bal}
@@ -19,12 +20,12 @@ none-listed = refl
 
 -- `abb` then `ABB`: 4, with the number of the second
 pub twice-listed : wholeOf (listing 2 (0 ∷ 3 ∷ []) (3 ∷ 3 ∷ []) (1 ∷ 1 ∷ []) (0 ∷ 0 ∷ []) (97 ∷ 98 ∷ 98 ∷ 65 ∷ 66 ∷ 66 ∷ [])) 2 33 2048 ≡ refuses 4 (1 ∷ [])
-unfolding wholeOf growFrom checkOf anyBad nameOrder orderBy listOrder numberOrder raised bal
+unfolding wholeOf growFrom checkOf anyBad givenOrder givenKeys listOrder numberOrder raised bal
 twice-listed = refl
 
 -- files `a` and `b` of size 1, from sector 34 on: two entries of 16 bytes, two sectors
 pub two-listed : wholeOf (listing 2 (0 ∷ 1 ∷ []) (1 ∷ 1 ∷ []) (1 ∷ 1 ∷ []) (0 ∷ 0 ∷ []) (97 ∷ 98 ∷ [])) 2 34 2048 ≡ gives (record { size = 32; free = 36 })
-unfolding wholeOf growFrom checkOf anyBad nameOrder orderBy listOrder numberOrder raised bal placeOf anyFar items endOf freeOf startAfter sectorsFor
+unfolding wholeOf growFrom checkOf anyBad givenOrder givenKeys storedOf listOrder numberOrder raised bal placeOf anyFar items endOf freeOf startAfter sectorsFor
 two-listed = refl
 
 -- two columns of a place each are too short for two entries: 6, with no number

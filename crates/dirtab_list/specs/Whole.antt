@@ -3,27 +3,23 @@ use Prim.Native.Nat.{ℕ, min}
 use mathlib.Core.Bool.{Bool, _&&_}
 use mathlib.Core.List.{List, [], _∷_}
 use lib.Dec.{leb}
-use lib.ListN.{length, getD, replicate}
+use lib.ListN.{length, replicate}
 use denote.Triple.Both.{Both}
 use Rattle.units.specs.Told.{Told, gives, refuses, pick}
 use Rattle.units.specs.Lent.{Slice, was, is}
-use Rattle.dirtab_entry.specs.Entry.{kindFor, numberOf, storedSize, nameIn}
+use Rattle.dirtab_entry.specs.Entry.{numberOf}
 use Rattle.avl_model.specs.Tree.{Tree}
-use Rattle.table_model.specs.Entry.{Entry}
+use Rattle.table_model.specs.Entry.{Entry, entryFor}
 use Rattle.table_model.specs.Table.{Placing, placeOf, tableBytes}
 pub use Rattle.dirtab.specs.Serialise.{ifFits, ifWritten}
 use Rattle.dirtab_list.specs.declared.ListWritten.{ListWritten}
 use Rattle.dirtab_list.specs.declared.ListWritten.the-variants as written
-pub use Rattle.dirtab_grow.specs.Listing.{Listing, listing, listed, givenIn}
+pub use Rattle.dirtab_grow.specs.Listing.{Listing, listing, listed, givenIn, givenName}
 use Rattle.dirtab_grow.specs.Grow.{grow}
 
--- entry i as a table has it (a directory's size rounded)
+-- entry i as a table has it
 abbrev pub entryIn : Listing → ℕ → Entry
-entryIn L i = record {
-  name = nameIn (L .bytes) (givenIn L i);
-  kind = kindFor (getD (L .kind) i 0);
-  size = storedSize (kindFor (getD (L .kind) i 0)) (getD (L .size) i 0);
-}
+entryIn L i = entryFor (L .bytes) (givenIn L i)
 
 -- the length of the shortest column of scratch
 abbrev pub shortest : List ℕ → List ℕ → List ℕ → List ℕ → List ℕ → List ℕ → List ℕ → ℕ

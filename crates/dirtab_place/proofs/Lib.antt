@@ -2,3 +2,4 @@
 pub mod Turns
 pub mod Along
 pub mod Told
+pub mod Named

@@ -5,12 +5,12 @@ use mathlib.Core.Path.{_≡_, refl}
 use mathlib.Core.Bool.{Bool, true, false}
 use mathlib.Core.List.{[]}
 use lib.Dec.{ltb}
-use lib.ListN.{getD, drop, length-take}
+use lib.ListN.{getD}
 use borrow.Author.Tests.{ltb-false}
 use Rattle.units.specs.Told.{Told, gives, refuses, pick}
 use Rattle.dirtab_entry.specs.Entry as entries
 use Rattle.dirtab_entry.proofs.Stored.{stored-low}
-use Rattle.dirtab_arena.proofs.Fine.{Fine, fine-of}
+use Rattle.dirtab_arena.proofs.Fine.{Fine, fine-of, name-short}
 use Rattle.avl_model.specs.Tree.{Tree, leaf}
 use Rattle.avl_model.specs.Laws.{All}
 use Rattle.avl_model.proofs.Avl.{all-map}
@@ -26,13 +26,16 @@ passes : (n : ℕ) (b : Bool) (x : Told (Unit {0})) → ltb 4294967295 n ≡ b �
 passes n true x q e = let z : _≡_ {A = ℕ} 0 1 = cc in absurd (omega arith)
 passes n false x q e = (ltb-false _ _ q, e)
 
+pub one-passed : (S : Share) (tab : ℕ → ℕ) (j : ℕ) → checkIn S tab j ≡ gives tt → (sizeAt S tab j ≤ 4294967295) × (entries.checkOf (S .bytes) (givenAt S tab j) ≡ gives tt)
+one-passed S tab j e = passes (sizeAt S tab j) (ltb 4294967295 (sizeAt S tab j)) _ refl e
+
 module _ (S : Share) (tab : ℕ → ℕ) {t : Tree} (told : treeIn S tab ≡ gives t) where
   pub all-checked : (j : ℕ) → j < S .count → checkIn S tab j ≡ gives tt
   unfolding treeIn
   all-checked j h = all-passed (orderIn (S .bytes) (givenAt S tab)) (checkIn S tab) (S .count) 0 leaf told j (omega arith) (omega arith)
 
   pub passed : (j : ℕ) → j < S .count → (sizeAt S tab j ≤ 4294967295) × (entries.checkOf (S .bytes) (givenAt S tab j) ≡ gives tt)
-  passed j h = passes (sizeAt S tab j) (ltb 4294967295 (sizeAt S tab j)) _ refl (all-checked j h)
+  passed j h = one-passed S tab j (all-checked j h)
 
   pub fine : (j : ℕ) → j < S .count → Fine (S .bytes) (givenAt S tab j)
   fine j h = fine-of (S .bytes) (givenAt S tab j) (passed j h .1)
@@ -50,7 +53,7 @@ module _ (S : Share) (tab : ℕ → ℕ) {t : Tree} (told : treeIn S tab ≡ giv
   fits j h =
       let f = fine j h in
       record {
-        short = omega (arith, f .short, length-take (getD (S .len) j 0) (drop (getD (S .start) j 0) (S .bytes)));
+        short = name-short (S .bytes) (givenAt S tab j) (passed j h .1);
         small = stored-low (entries.kindFor (getD (S .kind) j 0)) (sizeAt S tab j) (passed j h .0) (f .small);
       }
 

@@ -2,7 +2,8 @@
 use mathlib.Core.Path.{_≡_, refl}
 use mathlib.Core.List.{[], _∷_}
 use Rattle.units.specs.Told.{gives, refuses}
-use Rattle.layout_name.specs.Order.{nameOrder, orderBy, listOrder, numberOrder, raised}
+use Rattle.layout_name.specs.Order.{listOrder, numberOrder, raised}
+use Rattle.name_role.specs.Roles.{givenKeys, storedOf, givenOrder}
 use Rattle.layout_sector.specs.Counter.{sectorsFor}
 use Rattle.dirtab_entry.specs.Entry.{anyBad, checkOf}
 use Rattle.avl_model.specs.Tree.{bal}
@@ -22,13 +23,13 @@ nines = lent (9 ∷ 9 ∷ []) (9 ∷ 9 ∷ []) (9 ∷ 9 ∷ []) (9 ∷ 9 ∷ [])
 
 -- the table has two entries of 16 bytes and stands at 33, the files at 34 and 35
 pub two-files : answerOf (imageOf twoFiles nines) ≡ gives 36
-unfolding imageOf hasRoom fits planOf isTree total sizesDown treeIn growFrom checkOf anyBad nameOrder orderBy listOrder numberOrder raised bal takingAll takingUp placeOf anyFar items endOf freeOf startAfter sectorsFor
+unfolding imageOf hasRoom fits planOf isTree total sizesDown treeIn growFrom checkOf anyBad givenOrder givenKeys storedOf listOrder numberOrder raised bal takingAll takingUp placeOf anyFar items endOf freeOf startAfter sectorsFor
 two-files = refl
 
 pub two-files-left :
     lentAfter twoFiles nines ≡
     lent (32 ∷ 9 ∷ []) (33 ∷ 9 ∷ []) (34 ∷ 35 ∷ []) (0 ∷ 0 ∷ []) (0 ∷ 0 ∷ []) (0 ∷ 0 ∷ []) (0 ∷ 0 ∷ []) (0 ∷ 0 ∷ []) (0 ∷ 0 ∷ []) (0 ∷ 0 ∷ []) (0 ∷ 0 ∷ [])
-unfolding lentAfter imageOf hasRoom fits planOf isTree total sizesDown treeIn growFrom checkOf anyBad nameOrder orderBy listOrder numberOrder raised bal
+unfolding lentAfter imageOf hasRoom fits planOf isTree total sizesDown treeIn growFrom checkOf anyBad givenOrder givenKeys storedOf listOrder numberOrder raised bal
     takingAll takingUp placeOf anyFar items endOf freeOf startAfter sectorsFor
 two-files-left = refl
 
@@ -38,13 +39,13 @@ oneBelow = asked 2 2 (0 ∷ 1 ∷ []) (1 ∷ 1 ∷ []) (0 ∷ 1 ∷ []) (1 ∷ 1
 
 -- both tables have one entry of 16 bytes; they stand at 33 and 34, the file at 35
 pub one-below : answerOf (imageOf oneBelow nines) ≡ gives 36
-unfolding imageOf hasRoom fits planOf isTree total sizesDown treeIn growFrom checkOf anyBad nameOrder orderBy listOrder numberOrder raised bal takingAll takingUp placeOf anyFar items endOf freeOf startAfter sectorsFor
+unfolding imageOf hasRoom fits planOf isTree total sizesDown treeIn growFrom checkOf anyBad givenOrder givenKeys storedOf listOrder numberOrder raised bal takingAll takingUp placeOf anyFar items endOf freeOf startAfter sectorsFor
 one-below = refl
 
 pub one-below-left :
     lentAfter oneBelow nines ≡
     lent (16 ∷ 16 ∷ []) (33 ∷ 34 ∷ []) (34 ∷ 35 ∷ []) (0 ∷ 0 ∷ []) (0 ∷ 0 ∷ []) (0 ∷ 0 ∷ []) (0 ∷ 0 ∷ []) (0 ∷ 0 ∷ []) (0 ∷ 0 ∷ []) (0 ∷ 0 ∷ []) (0 ∷ 0 ∷ [])
-unfolding lentAfter imageOf hasRoom fits planOf isTree total sizesDown treeIn growFrom checkOf anyBad nameOrder orderBy listOrder numberOrder raised bal
+unfolding lentAfter imageOf hasRoom fits planOf isTree total sizesDown treeIn growFrom checkOf anyBad givenOrder givenKeys storedOf listOrder numberOrder raised bal
     takingAll takingUp placeOf anyFar items endOf freeOf startAfter sectorsFor
 one-below-left = refl
 

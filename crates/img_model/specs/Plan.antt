@@ -7,10 +7,10 @@ use lib.ListN.{getD, set, replicate}
 use Rattle.units.specs.Told.{Told, gives, refuses, pick}
 use Rattle.layout_sector.specs.Counter.{sectorsFor, alignedUp}
 use Rattle.dirtab_entry.specs.declared.Entry as given
-use Rattle.dirtab_entry.specs.Entry.{kindFor, numberOf, storedSize, nameIn, checkOf}
+use Rattle.dirtab_entry.specs.Entry.{kindFor, numberOf, checkOf}
 use Rattle.avl_model.specs.Tree.{Tree, leaf}
 use Rattle.avl_model.specs.Order.{order}
-use Rattle.table_model.specs.Entry.{Entry}
+use Rattle.table_model.specs.Entry.{Entry, entryFor}
 use Rattle.table_model.specs.Place.{freeAfter}
 use Rattle.table_model.specs.Table.{Placing, sizeOf, placeOf}
 use Rattle.dirtab_grow.specs.Grow.{growFrom, orderIn}
@@ -28,7 +28,7 @@ module _ (S : Share) (tab : ℕ → ℕ) where
   abbrev pub sizeAt : ℕ → ℕ
   sizeAt i = pick (isDirectory S i) (tab (valueOf S i)) (valueOf S i)
 
-  -- the entry as it is given to be added, and as the table has it (a directory's size rounded)
+  -- the entry as it is given to be added, and as the table has it
   abbrev pub givenAt : ℕ → given.Entry
   givenAt i = record {
     start = getD (S .start) i 0;
@@ -39,11 +39,7 @@ module _ (S : Share) (tab : ℕ → ℕ) where
   }
 
   abbrev pub entryIn : ℕ → Entry
-  entryIn i = record {
-    name = nameIn (S .bytes) (givenAt i);
-    kind = kindFor (getD (S .kind) i 0);
-    size = storedSize (kindFor (getD (S .kind) i 0)) (sizeAt i);
-  }
+  entryIn i = entryFor (S .bytes) (givenAt i)
 
   -- 10 for an entry of more than 4,294,967,295 bytes, and then what adding asks of it by itself
   abbrev pub checkIn : ℕ → Told (Unit {0})

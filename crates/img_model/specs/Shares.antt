@@ -5,6 +5,7 @@ use mathlib.Core.List.{List}
 use lib.Dec.{ltb, leb, eqb}
 use lib.ListN.{length, getD, take, drop}
 use Rattle.units.specs.Told.{pick}
+use Rattle.avl_model.specs.Names.{namesIn, nameAt}
 use Rattle.avl_arena.specs.Test.{every}
 
 -- what is to be planned: for each directory the place of its first entry in the list of entries and how many it
@@ -65,6 +66,10 @@ shareOf R d = record {
   value = part (firstOf R d) (countOf R d) (R .value);
   bytes = R .bytes;
 }
+
+-- the name of the i-th entry of a directory, as it is given
+abbrev pub givenName : Share → ℕ → List ℕ
+givenName S = nameAt (namesIn (S .bytes) (S .start) (S .len))
 
 -- whether the i-th entry of a directory is a directory itself, and which
 abbrev pub isDirectory : Share → ℕ → Bool

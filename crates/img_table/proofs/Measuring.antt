@@ -3,8 +3,7 @@ use Prim.Native.Nat.{ℕ, _≤_, _<_}
 use native.Mathlib.Omega.{arith}
 use mathlib.Core.Path.{_≡_, sym, ap, subst, _∙_}
 use mathlib.Core.List.{List, [], _∷_}
-use lib.ListN.{length, getD, drop, length-drop}
-use lib.Seq.{length-take-le}
+use lib.ListN.{length, getD}
 use Rattle.units.specs.Told.{Told, gives, refuses}
 use Rattle.layout_node.specs.Header.{entryLength}
 use Rattle.avl_model.specs.Tree.{Tree}
@@ -13,9 +12,10 @@ use Rattle.avl_model.proofs.Avl.{all-map}
 use Rattle.dirtab_entry.specs.declared.Cause.{Cause}
 use Rattle.dirtab_entry.specs.Entry.{numberOf}
 use Rattle.dirtab_place.proofs.Along.{SameLength}
+use Rattle.dirtab_place.proofs.Named.{name-long}
 use Rattle.dirtab_write.proofs.Bridge.{in-order}
 use Rattle.img_model.specs.Shares.{Share}
-use Rattle.img_model.specs.Plan.{entryIn, treeIn}
+use Rattle.img_model.specs.Plan.{givenAt, entryIn, treeIn}
 use Rattle.img_model.proofs.Passed.{fine, count-few, numbers}
 use Rattle.img_table.specs.declared.Arranged.{Arranged}
 use Rattle.img_table.specs.declared.Arranged.the-variants as arranged
@@ -48,9 +48,7 @@ module _ (S : Share) (tab : ℕ → ℕ) (listed : List ℕ) (w : Ordered (treeI
 
   -- a name has the length of its column
   long-name : (j : ℕ) → j < S .count → SameLength (entryIn S tab) (S .len) j
-  long-name j h =
-      let f = fine S tab (w .told) j h in
-      ap entryLength (length-take-le (getD (S .len) j 0) (drop (getD (S .start) j 0) (S .bytes)) (omega (arith, f .inside, length-drop (getD (S .start) j 0) (S .bytes))))
+  long-name j h = ap entryLength (name-long (S .bytes) (givenAt S tab j) (fine S tab (w .told) j h .inside))
 
   pub measured : (z : ℕ) → z ≡ sizeAlong (S .len) listed → Measured S tab listed z
   measured z e = record {

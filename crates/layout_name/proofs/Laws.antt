@@ -1,9 +1,8 @@
--- `nameOrder` is a lawful total order on names up to case. Assumes nothing.
+-- The order of names by any key is a lawful total order on names up to their keys. Assumes nothing.
 --     number-less, number-equal, number-greater, number-opposite, number-equal→     the order of two numbers
 --     order-opposite, order-equal, order-equal→, order-trans                  the order of two lists
 --     by-total, by-antisymmetric, by-trans, by-equal, by-equal→                the order of two names by any key
 --     by-opposite, by-same-left                                               the same the other way round, and to a third
---     name-total, name-antisymmetric, name-trans, name-equal, name-equal→     the order of two names; also name-opposite, name-same-left
 --     high-is-greater                                                         a byte of 0x80 and above is greater than every ASCII byte
 --     name-step, name-left-ends, name-right-ends, name-both-end               one turn of a comparison
 use Prim.Native.Nat.{ℕ, _+_, _-_, _≤_, _<_}
@@ -177,35 +176,6 @@ module _ (key : ℕ → ℕ) where
   pub by-same-left : (a b c : List ℕ) → orderBy key a b ≡ Equal → orderBy key a c ≡ orderBy key b c
   unfolding orderBy
   by-same-left a b c e = rw (by-equal→ a b e)
-
--- the same of today's key, which raises a to z
-pub name-total : (a b : List ℕ) → (nameOrder a b ≡ Less) ⊎ ((nameOrder a b ≡ Equal) ⊎ (nameOrder b a ≡ Less))
-unfolding nameOrder
-name-total = by-total raised
-
-pub name-antisymmetric : (a b : List ℕ) → nameOrder a b ≡ Less → nameOrder b a ≡ Less → ⊥
-unfolding nameOrder
-name-antisymmetric = by-antisymmetric raised
-
-pub name-opposite : (a b : List ℕ) → nameOrder b a ≡ opposite (nameOrder a b)
-unfolding nameOrder
-name-opposite = by-opposite raised
-
-pub name-equal : (a b : List ℕ) → map raised a ≡ map raised b → nameOrder a b ≡ Equal
-unfolding nameOrder
-name-equal = by-equal raised
-
-pub name-equal→ : (a b : List ℕ) → nameOrder a b ≡ Equal → map raised a ≡ map raised b
-unfolding nameOrder
-name-equal→ = by-equal→ raised
-
-pub name-trans : (a b c : List ℕ) → nameOrder a b ≡ Less → nameOrder b c ≡ Less → nameOrder a c ≡ Less
-unfolding nameOrder
-name-trans = by-trans raised
-
-pub name-same-left : (a b c : List ℕ) → nameOrder a b ≡ Equal → nameOrder a c ≡ nameOrder b c
-unfolding nameOrder
-name-same-left = by-same-left raised
 
 raised-low : (b : ℕ) → b < 128 → raised b < 128
 unfolding raised

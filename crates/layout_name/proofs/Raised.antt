@@ -3,17 +3,33 @@ use Prim.Native.Nat.{ℕ, zero, suc, _+_, _-_, _≤_, _<_}
 use mathlib.Core.Path.{_≡_, refl, sym, ap, ap₂, _∙_}
 use mathlib.Core.List.{List, [], _∷_, _++_, map}
 use native.Mathlib.Omega.{arith}
-use lib.ListN.{length, getD, set, take, replicate, length-take, length-map, List·getD-append, List·getD-map}
+use lib.ListN.{length, getD, set, take, replicate, length-take, List·getD-map, List·getD-eq-default}
 use lib.Seq.{take-length}
 use Rattle.layout_name.specs.Order.{raised}
 use Rattle.layout_name.specs.inner.Order.{raisedCopy}
 
--- a byte of the name, raised
-pub raised-at : (a copy : List ℕ) (i : ℕ) → copy ≡ raisedCopy a → i < length a → getD copy i 0 ≡ raised (getD a i 0)
+-- zeros behind a list say nothing
+zeros-at : (n i : ℕ) → _≡_ {A = ℕ} (getD (replicate n 0) i 0) 0
+zeros-at zero i = refl
+zeros-at (suc n) zero = refl
+zeros-at (suc n) (suc i) = zeros-at n i
+
+padded : (xs : List ℕ) (n i : ℕ) → getD (xs ++ replicate n 0) i 0 ≡ getD xs i 0
+padded [] n i = zeros-at n i
+padded (x ∷ xs) n zero = refl
+padded (x ∷ xs) n (suc i) = padded xs n i
+
+-- the raised copy at a place: the byte raised, and 0 past the name
+pub copy-at : (a : List ℕ) (i : ℕ) → getD (raisedCopy a) i 0 ≡ raised (getD a i 0)
 unfolding raisedCopy raised
-raised-at a copy i e h =
-    ap (λ (l : List ℕ). getD l i 0) e ∙ List·getD-append (map raised a) (replicate (255 - length a) 0) 0 i (rw (length-map a raised) h)
-    ∙ List·getD-map raised a i 0
+copy-at a i = padded (map raised a) (255 - length a) i ∙ List·getD-map raised a i 0
+
+pub copy-past : (a : List ℕ) (i : ℕ) → length a ≤ i → getD (raisedCopy a) i 0 ≡ 0
+unfolding raised
+copy-past a i h = copy-at a i ∙ ap raised (List·getD-eq-default a 0 h)
+
+pub raised-at : (a copy : List ℕ) (i : ℕ) → copy ≡ raisedCopy a → i < length a → getD copy i 0 ≡ raised (getD a i 0)
+raised-at a copy i e h = ap (λ (l : List ℕ). getD l i 0) e ∙ copy-at a i
 
 -- one more element stored behind the first i
 more : (f : ℕ → ℕ) (xs : List ℕ) (i m : ℕ) → i < length xs

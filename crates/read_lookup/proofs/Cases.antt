@@ -9,11 +9,12 @@ use Rattle.units.specs.Region.{locateOf}
 use Rattle.units.specs.declared.Sector.{Sector}
 use Rattle.units.specs.declared.Region.{Region}
 use Rattle.layout_bytes.specs.Bytes.{all}
-use Rattle.layout_name.specs.Order.{raised, numberOrder, listOrder, orderBy, nameOrder}
+use Rattle.layout_name.specs.Order.{raised, numberOrder, listOrder}
+use Rattle.name_role.specs.Roles.{storedKeys, soughtKeys, soughtOrder, badSought}
 use Rattle.layout_node.specs.Header.{headerOf, isBlank}
 use Rattle.read_entry.specs.Entry.{readHere, readAt, nameOf}
 use Rattle.read_entry.specs.Links.{isIn}
-use Rattle.read_lookup.specs.Lookup.{Finding, byLink, stepAt, chainFrom, anyHigh, lookupBy, lookupOf}
+use Rattle.read_lookup.specs.Lookup.{Finding, byLink, stepAt, chainFrom, lookupBy, lookupOf}
 
 -- an entry of 16 bytes: a file of size 1 at a sector, with a name of one byte, and two links of one byte
 abbrev pub file : ℕ → ℕ → ℕ → ℕ → List ℕ
@@ -47,40 +48,40 @@ three = file 4 8 34 98 ++ (file 0 0 35 97 ++ file 0 0 36 99)
 
 -- `C` is found, at offset 32, with two headers read
 pub finds-c : look three 48 (67 ∷ []) ≡ filed 0 0 36 32 2
-unfolding lookupBy anyHigh chainFrom stepAt byLink isIn readAt locateOf readHere headerOf all isBlank nameOf nameOrder orderBy listOrder numberOrder raised
+unfolding lookupBy badSought chainFrom stepAt byLink isIn readAt locateOf readHere headerOf all isBlank nameOf soughtOrder soughtKeys storedKeys listOrder numberOrder raised
 finds-c = refl
 
 -- `d` does not exist, with two headers read
 pub no-d : look three 48 (100 ∷ []) ≡ refuses 22 (2 ∷ [])
-unfolding lookupBy anyHigh chainFrom stepAt byLink isIn readAt locateOf readHere headerOf all isBlank nameOf nameOrder orderBy listOrder numberOrder raised
+unfolding lookupBy badSought chainFrom stepAt byLink isIn readAt locateOf readHere headerOf all isBlank nameOf soughtOrder soughtKeys storedKeys listOrder numberOrder raised
 no-d = refl
 
 -- a name with a byte 0 is no refusal: such a name is found where it stands, and does not exist elsewhere
 pub nul-found : look (file 0 0 34 0) 16 (0 ∷ []) ≡ filed 0 0 34 0 1
-unfolding lookupBy anyHigh chainFrom stepAt byLink isIn readAt locateOf readHere headerOf all isBlank nameOf nameOrder orderBy listOrder numberOrder raised
+unfolding lookupBy badSought chainFrom stepAt byLink isIn readAt locateOf readHere headerOf all isBlank nameOf soughtOrder soughtKeys storedKeys listOrder numberOrder raised
 nul-found = refl
 
 pub no-nul : look three 48 (0 ∷ []) ≡ refuses 22 (2 ∷ [])
-unfolding lookupBy anyHigh chainFrom stepAt byLink isIn readAt locateOf readHere headerOf all isBlank nameOf nameOrder orderBy listOrder numberOrder raised
+unfolding lookupBy badSought chainFrom stepAt byLink isIn readAt locateOf readHere headerOf all isBlank nameOf soughtOrder soughtKeys storedKeys listOrder numberOrder raised
 no-nul = refl
 
 -- the empty name is no refusal: it is less than every other
 pub no-empty : look three 48 [] ≡ refuses 22 (2 ∷ [])
-unfolding lookupBy anyHigh chainFrom stepAt byLink isIn readAt locateOf readHere headerOf all isBlank nameOf nameOrder orderBy listOrder numberOrder raised
+unfolding lookupBy badSought chainFrom stepAt byLink isIn readAt locateOf readHere headerOf all isBlank nameOf soughtOrder soughtKeys storedKeys listOrder numberOrder raised
 no-empty = refl
 
 -- a byte above 127 is 2 before the size is looked at; else a size of 0 is 21
 pub high-first : look three 0 (128 ∷ []) ≡ refuses 2 []
-unfolding lookupBy anyHigh
+unfolding lookupBy badSought
 high-first = refl
 
 pub size-zero : look three 0 (97 ∷ []) ≡ refuses 21 []
-unfolding lookupBy anyHigh
+unfolding lookupBy badSought
 size-zero = refl
 
 -- a link of 255 on the way is absent: `a` would be at 1,020
 pub link-255 : look (file 255 0 34 98) 2048 (97 ∷ []) ≡ refuses 22 (1 ∷ [])
-unfolding lookupBy anyHigh chainFrom stepAt byLink isIn readAt locateOf readHere headerOf all isBlank nameOf nameOrder orderBy listOrder numberOrder raised
+unfolding lookupBy badSought chainFrom stepAt byLink isIn readAt locateOf readHere headerOf all isBlank nameOf soughtOrder soughtKeys storedKeys listOrder numberOrder raised
 link-255 = refl
 
 -- `b` with a left link of two bytes of 0xff
@@ -89,28 +90,28 @@ left-65535 = 255 ∷ 255 ∷ 0 ∷ 0 ∷ 34 ∷ 0 ∷ 0 ∷ 0 ∷ 1 ∷ 0 ∷ 0 
 
 -- a link of 65,535 is none that is absent: it leads to offset 262,140, which must be below the size ..
 pub link-65535 : look left-65535 262140 (97 ∷ []) ≡ refuses 23 (262140 ∷ [])
-unfolding lookupBy anyHigh chainFrom stepAt byLink isIn readAt locateOf readHere headerOf all isBlank nameOf nameOrder orderBy listOrder numberOrder raised
+unfolding lookupBy badSought chainFrom stepAt byLink isIn readAt locateOf readHere headerOf all isBlank nameOf soughtOrder soughtKeys storedKeys listOrder numberOrder raised
 link-65535 = refl
 
 -- .. and in the window
 pub link-65535-cut : look left-65535 262141 (97 ∷ []) ≡ refuses 24 (262140 ∷ [])
-unfolding lookupBy anyHigh chainFrom stepAt byLink isIn readAt locateOf readHere headerOf all isBlank nameOf nameOrder orderBy listOrder numberOrder raised
+unfolding lookupBy badSought chainFrom stepAt byLink isIn readAt locateOf readHere headerOf all isBlank nameOf soughtOrder soughtKeys storedKeys listOrder numberOrder raised
 link-65535-cut = refl
 
 -- a header of 0xff is counted: of an empty table, and at the end of a link
 pub blank-counted : look (replicate 14 255) 2048 (97 ∷ []) ≡ refuses 22 (1 ∷ [])
-unfolding lookupBy anyHigh chainFrom stepAt byLink isIn readAt locateOf readHere headerOf all isBlank nameOf nameOrder orderBy listOrder numberOrder raised
+unfolding lookupBy badSought chainFrom stepAt byLink isIn readAt locateOf readHere headerOf all isBlank nameOf soughtOrder soughtKeys storedKeys listOrder numberOrder raised
 blank-counted = refl
 
 pub blank-second : look (file 4 0 34 98 ++ replicate 14 255) 2048 (97 ∷ []) ≡ refuses 22 (2 ∷ [])
-unfolding lookupBy anyHigh chainFrom stepAt byLink isIn readAt locateOf readHere headerOf all isBlank nameOf nameOrder orderBy listOrder numberOrder raised
+unfolding lookupBy badSought chainFrom stepAt byLink isIn readAt locateOf readHere headerOf all isBlank nameOf soughtOrder soughtKeys storedKeys listOrder numberOrder raised
 blank-second = refl
 
 -- of a table of size 1 the entry at 0 is read, whole, and no other
 pub size-one : look three 1 (98 ∷ []) ≡ filed 4 8 34 0 1
-unfolding lookupBy anyHigh chainFrom stepAt byLink isIn readAt locateOf readHere headerOf all isBlank nameOf nameOrder orderBy listOrder numberOrder raised
+unfolding lookupBy badSought chainFrom stepAt byLink isIn readAt locateOf readHere headerOf all isBlank nameOf soughtOrder soughtKeys storedKeys listOrder numberOrder raised
 size-one = refl
 
 pub size-one-out : look three 1 (97 ∷ []) ≡ refuses 23 (16 ∷ [])
-unfolding lookupBy anyHigh chainFrom stepAt byLink isIn readAt locateOf readHere headerOf all isBlank nameOf nameOrder orderBy listOrder numberOrder raised
+unfolding lookupBy badSought chainFrom stepAt byLink isIn readAt locateOf readHere headerOf all isBlank nameOf soughtOrder soughtKeys storedKeys listOrder numberOrder raised
 size-one-out = refl

@@ -16,11 +16,11 @@ use Rattle.units.specs.declared.Sector.{Sector}
 use Rattle.units.specs.declared.Region.{Region}
 use Rattle.layout_name.specs.declared.Order.{Order}
 use Rattle.layout_name.specs.declared.Order.the-variants.{Less, Equal, Greater}
-use Rattle.layout_name.specs.Order.{nameOrder}
+use Rattle.name_role.specs.Roles.{soughtOrder, badSought}
 use Rattle.read_entry.specs.Entry.{Placed, readAt, nameOf}
 use Rattle.read_entry.specs.Links.{isIn}
 use Rattle.read_entry.proofs.Fit.{Bytes, left-fits, right-fits, refusal-is}
-use Rattle.read_lookup.specs.Lookup.{Leads, found, missing, refused, onward, Finding, byLink, byOrder, byRead, stepAt, anyHigh, most, chainFrom, lookupBy}
+use Rattle.read_lookup.specs.Lookup.{Leads, found, missing, refused, onward, Finding, byLink, byOrder, byRead, stepAt, most, chainFrom, lookupBy}
 use Rattle.read_lookup.specs.Chain.{Endless, ReadsAgain, LengthIs, countOf}
 use Rattle.read_lookup.proofs.Chains as chains
 
@@ -67,12 +67,12 @@ module _ (absent : List ℕ) where
 
 -- an entry's name is the one sought
 abbrev pub Named : List ℕ → List ℕ → Placed → Type 0
-Named w name x = nameOrder name (nameOf w (x .place) (x .header .«name_len»)) ≡ Equal
+Named w name x = soughtOrder name (nameOf w (x .place) (x .header .«name_len»)) ≡ Equal
 
 module _ (absent w : List ℕ) (first : Sector) (t : Region) (name : List ℕ) where
   read-found : (r : Told (Option Placed)) (z : Placed) → byRead absent w name r ≡ found z → (r ≡ gives (some z)) × Named w name z
   read-found (gives (some x)) z e =
-      let f = order-found absent x (nameOrder name (nameOf w (x .place) (x .header .«name_len»))) z e in
+      let f = order-found absent x (soughtOrder name (nameOf w (x .place) (x .header .«name_len»))) z e in
       (ap (λ (y : Placed). gives (some y)) (f .0), subst (λ (y : Placed). Named w name y) (f .0) (f .1))
   read-found (gives none) z e = let q : _≡_ {A = ℕ} 0 1 = cc in absurd (omega arith)
   read-found (refuses k vs) z e = let q : _≡_ {A = ℕ} 0 1 = cc in absurd (omega arith)
@@ -92,10 +92,10 @@ module _ (absent w : List ℕ) (first : Sector) (t : Region) (name : List ℕ) w
   found-stands x e =
       let f : ℕ → Leads = stepAt absent w first t name in
       step-found (x .offset) (x .entry)
-      (chains.chain-found f most 0 0 x (given-by-chain (anyHigh name) (eqb (t .size) 0) (chainFrom f most 0 0) x e))
+      (chains.chain-found f most 0 0 x (given-by-chain (badSought name) (eqb (t .size) 0) (chainFrom f most 0 0) x e))
 
   read-reads : (o : ℕ) (r : Told (Option Placed)) → readAt w first t o ≡ r → chains.Reading (byRead absent w name r)
-  read-reads o (gives (some x)) d c vs e = order-reads absent x (nameOrder name (nameOf w (x .place) (x .header .«name_len»))) c vs e
+  read-reads o (gives (some x)) d c vs e = order-reads absent x (soughtOrder name (nameOf w (x .place) (x .header .«name_len»))) c vs e
   read-reads o (gives none) d c vs e = let z : _≡_ {A = ℕ} 0 1 = cc in absurd (omega arith)
   read-reads o (refuses k us) d c vs e =
       let q : k ≡ c = cc in
@@ -108,7 +108,7 @@ module _ (absent w : List ℕ) (first : Sector) (t : Region) (name : List ℕ) w
 
   read-linked : Bytes w → (o p : ℕ) (r : Told (Option Placed)) → readAt w first t o ≡ r → byRead absent w name r ≡ onward p → chains.Linked most p
   read-linked bytes o p (gives (some x)) d e =
-      order-linked absent x (nameOrder name (nameOf w (x .place) (x .header .«name_len»))) p (left-fits w first t o bytes x d) (right-fits w first t o bytes x d) e
+      order-linked absent x (soughtOrder name (nameOf w (x .place) (x .header .«name_len»))) p (left-fits w first t o bytes x d) (right-fits w first t o bytes x d) e
   read-linked bytes o p (gives none) d e = let z : _≡_ {A = ℕ} 0 1 = cc in absurd (omega arith)
   read-linked bytes o p (refuses k vs) d e = let z : _≡_ {A = ℕ} 0 1 = cc in absurd (omega arith)
 
@@ -123,7 +123,7 @@ module _ (absent w : List ℕ) (first : Sector) (t : Region) (name : List ℕ) w
 
   chain-looped : lookupBy absent w first t name ≡ refuses 25 [] → chainFrom (stepAt absent w first t name) most 0 0 ≡ refuses 25 []
   unfolding lookupBy
-  chain-looped e = looped-by-chain (anyHigh name) (eqb (t .size) 0) (chainFrom (stepAt absent w first t name) most 0 0) e
+  chain-looped e = looped-by-chain (badSought name) (eqb (t .size) 0) (chainFrom (stepAt absent w first t name) most 0 0) e
 
   chain-again : Bytes w → chainFrom (stepAt absent w first t name) most 0 0 ≡ refuses 25 [] → ReadsAgain (stepAt absent w first t name) 0
   chain-again bytes e = chains.refused-again (stepAt absent w first t name) step-reads most 0 (step-linked bytes) (0, omega arith, refl) e
@@ -145,12 +145,12 @@ module _ (absent w : List ℕ) (first : Sector) (t : Region) (name : List ℕ) w
   looped-endless bytes e = again-endless (looped-again bytes e)
 
   -- a chain that never ends is answered 25, once the name and the size are let through
-  pub endless-looped : anyHigh name ≡ false → (t .size ≡ 0 → ⊥) → Endless (stepAt absent w first t name) 0 → lookupBy absent w first t name ≡ refuses 25 []
+  pub endless-looped : badSought name ≡ false → (t .size ≡ 0 → ⊥) → Endless (stepAt absent w first t name) 0 → lookupBy absent w first t name ≡ refuses 25 []
   unfolding lookupBy
   endless-looped low some-size e = rw (low, ne-eqb _ _ some-size) (chains.endless-refused (stepAt absent w first t name) 0 e most 0)
 
   -- and so is a chain that reads an offset again
-  pub again-looped : anyHigh name ≡ false → (t .size ≡ 0 → ⊥) → ReadsAgain (stepAt absent w first t name) 0 → lookupBy absent w first t name ≡ refuses 25 []
+  pub again-looped : badSought name ≡ false → (t .size ≡ 0 → ⊥) → ReadsAgain (stepAt absent w first t name) 0 → lookupBy absent w first t name ≡ refuses 25 []
   again-looped low some-size r = endless-looped low some-size (again-endless r)
 
   count-by-chain : (a b : Bool) (x : Told Finding) (n : ℕ) → countOf (pick a (refuses 2 []) (pick b (refuses 21 []) x)) ≡ some n → countOf x ≡ some n
@@ -162,4 +162,4 @@ module _ (absent w : List ℕ) (first : Sector) (t : Region) (name : List ℕ) w
   pub count-is-length : (n : ℕ) → countOf (lookupBy absent w first t name) ≡ some n → LengthIs (stepAt absent w first t name) 0 n
   unfolding lookupBy
   count-is-length n e =
-      chains.chain-count (stepAt absent w first t name) step-reads most n 0 (count-by-chain (anyHigh name) (eqb (t .size) 0) (chainFrom (stepAt absent w first t name) most 0 0) n e)
+      chains.chain-count (stepAt absent w first t name) step-reads most n 0 (count-by-chain (badSought name) (eqb (t .size) 0) (chainFrom (stepAt absent w first t name) most 0 0) n e)

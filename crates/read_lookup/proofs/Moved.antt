@@ -15,7 +15,7 @@ use Rattle.units.specs.declared.Offset.{Offset}
 use Rattle.units.specs.declared.Region.{Region}
 use Rattle.layout_name.specs.declared.Order.{Order}
 use Rattle.layout_name.specs.declared.Order.the-variants.{Less, Equal, Greater}
-use Rattle.layout_name.specs.Order.{nameOrder}
+use Rattle.name_role.specs.Roles.{soughtOrder, badSought}
 use Rattle.layout_node.specs.declared.Header.{Header}
 use Rattle.read_entry.specs.Entry.{Placed, readAt, nameOf}
 use Rattle.read_entry.specs.Links.{isIn, lookupAbsent}
@@ -24,7 +24,7 @@ use Rattle.read_entry.proofs.Fit.{entry-held}
 use Rattle.read_entry.proofs.Moved.{read-moved, name-moved, read-nothing, Starts, inside, outside, starts}
 use Rattle.read_lookup.specs.declared.Looked.{Looked}
 use Rattle.read_lookup.specs.declared.Looked.the-variants as looked
-use Rattle.read_lookup.specs.Lookup.{Leads, found, missing, refused, onward, Finding, byLink, byOrder, byRead, stepAt, anyHigh, ending, most, chainFrom, lookupBy, lookupOf, told}
+use Rattle.read_lookup.specs.Lookup.{Leads, found, missing, refused, onward, Finding, byLink, byOrder, byRead, stepAt, ending, most, chainFrom, lookupBy, lookupOf, told}
 use Rattle.read_lookup.proofs.Laws.{found-stands}
 
 -- where a step leads, and an answer, with places counted from b on
@@ -51,7 +51,7 @@ order-moved b absent x Greater = link-moved b (isIn (x .header .right .0) absent
 module _ (absent w : List ℕ) (name : List ℕ) (b : ℕ) (held : b ≤ length w) where
   read-step-moved : (r : Told (Option Placed)) → byRead absent w name (moved b r) ≡ movedStep b (byRead absent (drop b w) name r)
   read-step-moved (gives (some x)) =
-      rw (name-moved w b held (x .place) (x .header .«name_len»)) (order-moved b absent x (nameOrder name (nameOf (drop b w) (x .place) (x .header .«name_len»))))
+      rw (name-moved w b held (x .place) (x .header .«name_len»)) (order-moved b absent x (soughtOrder name (nameOf (drop b w) (x .place) (x .header .«name_len»))))
   read-step-moved (gives none) = refl
   read-step-moved (refuses k vs) = refl
 
@@ -93,7 +93,7 @@ module _ (absent w : List ℕ) (first : Sector) (t : Region) (name : List ℕ) (
   from-inside b begins held =
       let over : ℕ → Leads = stepAt absent w first t name in
       let in-part : ℕ → Leads = stepAt absent (drop b w) f u name in
-      picks-moved b (anyHigh name) (eqb (t .size) 0) (eqb (u .size) 0) (ap (λ (n : ℕ). eqb n 0) same) (chainFrom over most 0 0) (chainFrom in-part most 0 0)
+      picks-moved b (badSought name) (eqb (t .size) 0) (eqb (u .size) 0) (ap (λ (n : ℕ). eqb n 0) same) (chainFrom over most 0 0) (chainFrom in-part most 0 0)
       (λ z. chain-moved b over in-part (step-moved b begins held) most 0 0)
 
   from-outside : (b : ℕ) → ((t .size ≡ 0 → ⊥) → readAt w first t 0 ≡ refuses 24 (0 ∷ [])) → lookupBy absent w first t name ≡ movedAnswer b (lookupBy absent [] f u name)
@@ -101,7 +101,7 @@ module _ (absent w : List ℕ) (first : Sector) (t : Region) (name : List ℕ) (
   from-outside b refused-there =
       let over : ℕ → Leads = stepAt absent w first t name in
       let in-part : ℕ → Leads = stepAt absent [] f u name in
-      picks-moved b (anyHigh name) (eqb (t .size) 0) (eqb (u .size) 0) (ap (λ (n : ℕ). eqb n 0) same) (chainFrom over most 0 0) (chainFrom in-part most 0 0)
+      picks-moved b (badSought name) (eqb (t .size) 0) (eqb (u .size) 0) (ap (λ (n : ℕ). eqb n 0) same) (chainFrom over most 0 0) (chainFrom in-part most 0 0)
       (λ z.
       let d : t .size ≡ 0 → ⊥ = eqb-false (t .size) 0 z in
       chain-refused over 65535 0 0 24 (0 ∷ []) (step-refused absent w first t name 0 24 (0 ∷ []) (refused-there d))

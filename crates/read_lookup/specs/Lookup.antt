@@ -3,16 +3,15 @@
 -- name: a chain that reaches so many reads some offset twice, and so never ends, and no other does
 -- (proofs/Laws.antt).
 use Prim.Native.Nat.{ℕ, zero, suc, _+_, _*_}
-use mathlib.Core.Bool.{Bool, true, false}
 use mathlib.Core.List.{List, [], _∷_}
 use mathlib.Core.Option.{Option, some, none}
-use lib.Dec.{ltb, eqb}
+use lib.Dec.{eqb}
 use Rattle.units.specs.Told.{Told, gives, refuses, pick}
 use Rattle.units.specs.declared.Sector.{Sector}
 use Rattle.units.specs.declared.Region.{Region}
 use Rattle.layout_name.specs.declared.Order.{Order}
 use Rattle.layout_name.specs.declared.Order.the-variants.{Less, Equal, Greater}
-use Rattle.layout_name.specs.Order.{nameOrder}
+use Rattle.name_role.specs.Roles.{soughtOrder, badSought}
 use Rattle.read_entry.specs.Entry.{Placed, readAt, nameOf}
 use Rattle.read_entry.specs.Links.{isIn, lookupAbsent}
 use Rattle.read_lookup.specs.declared.Looked.{Looked}
@@ -36,7 +35,8 @@ byOrder absent x Equal = found x
 byOrder absent x Greater = byLink absent (x .header .right .0)
 
 abbrev pub byRead : List ℕ → List ℕ → List ℕ → Told (Option Placed) → Leads
-byRead absent w name (gives (some x)) = byOrder absent x (nameOrder name (nameOf w (x .place) (x .header .«name_len»)))
+byRead absent w name (gives (some x)) =
+    byOrder absent x (soughtOrder name (nameOf w (x .place) (x .header .«name_len»)))
 byRead absent w name (gives none) = missing
 byRead absent w name (refuses k vs) = refused k vs
 
@@ -66,15 +66,10 @@ unfoldable pub chainFrom : (ℕ → Leads) → ℕ → ℕ → ℕ → Told Find
 chainFrom f zero n o = refuses 25 []
 chainFrom f (suc k) n o = ending (f o) o (n + 1) (λ p. chainFrom f k (n + 1) p)
 
--- some byte is above 127
-unfoldable pub anyHigh : List ℕ → Bool
-anyHigh [] = false
-anyHigh (x ∷ xs) = pick (ltb 127 x) true (anyHigh xs)
-
 -- the answer of a lookup that takes these links for absent: 2, then 21, then what the chain from offset 0 gives
 unfoldable pub lookupBy : List ℕ → List ℕ → Sector → Region → List ℕ → Told Finding
 lookupBy absent w first t name =
-    pick (anyHigh name) (refuses 2 [])
+    pick (badSought name) (refuses 2 [])
     (pick (eqb (t .size) 0) (refuses 21 [])
     (chainFrom (stepAt absent w first t name) most 0 0))
 

@@ -9,7 +9,8 @@ use units::Sector;
 ghost use mathlib.Core.Path.{_≡_};
 ghost use Rattle.units.specs.Lent.{was};
 ghost use Rattle.read_entry.specs.Links.{lookupAbsent};
-ghost use Rattle.read_lookup.specs.Lookup.{byLink, stepAt, anyHigh, told, lookupOf};
+ghost use Rattle.name_role.specs.Roles.{badSought};
+ghost use Rattle.read_lookup.specs.Lookup.{byLink, stepAt, told, lookupOf};
 ghost use Rattle.read_lookup.specs.inner.Lookup.{leading};
 
 // What the header at one offset leads to.
@@ -74,9 +75,9 @@ fn step_at(w: &[u8], first: Sector, table: Region, name: &[u8], offset: Offset) 
     }
 }
 
-// Some byte is above 127.
-pub fn any_high(s: &[u8]) -> bool
-    ensures { λ r. ⌜ r ≡ anyHigh (was s) ⌝ }
+// A name that cannot be sought: some byte is above 127.
+pub fn is_bad_sought(s: &[u8]) -> bool
+    ensures { λ r. ⌜ r ≡ badSought (was s) ⌝ }
 {
     let mut i = 0;
     while i < s.len() {
@@ -93,7 +94,7 @@ pub fn any_high(s: &[u8]) -> bool
 fn look_in(w: &[u8], first: Sector, table: Region, name: &[u8]) -> Looked
     ensures { λ r. ⌜ told r ≡ lookupOf (was w) first table (was name) ⌝ }
 {
-    if any_high(name) {
+    if is_bad_sought(name) {
         return Looked::BadByte;
     }
     let size = table.size;

@@ -2,15 +2,17 @@
 use Prim.Native.Nat.{ℕ, zero, suc, _<_}
 use mathlib.Core.Path.{_≡_, refl, sym, ap, _∙_}
 use mathlib.Core.Bool.{Bool, true, false}
-use mathlib.Core.List.{List, [], _∷_, _++_}
+use mathlib.Core.List.{List, [], _∷_, _++_, append-assoc}
 use native.Mathlib.Omega.{arith}
 use borrow.Author.Tests.{ne-eqb}
-use lib.Dec.{ltb, eqb}
+use lib.Dec.{eqb}
 use lib.ListN.{length, replicate}
 use Rattle.units.specs.Told.{Told, gives, refuses, pick}
 use Rattle.units.specs.declared.Sector.{Sector}
 use Rattle.units.specs.declared.Region.{Region}
-use Rattle.read_lookup.specs.Lookup.{anyHigh, lookupBy}
+use Rattle.name_role.specs.Roles.{badSought}
+use Rattle.name_role.proofs.Roles.{none-good, slash-good}
+use Rattle.read_lookup.specs.Lookup.{lookupBy}
 use Rattle.read_path.specs.Path.{trim, grow, split, unended, lastOf, turnOf, onward, partsFrom, pathBy}
 use Rattle.read_path.proofs.Parts.{Some, some-split, some-left, unended-more}
 
@@ -32,6 +34,10 @@ long : (m : List ℕ) (x : ℕ) (r : List ℕ) → 0 < length (m ++ (x ∷ r))
 long [] x r = omega arith
 long (y ∷ m) x r = omega arith
 
+either-false : (b : Bool) → pick b true false ≡ b
+either-false true = refl
+either-false false = refl
+
 module _ (x : ℕ) (other : x ≡ 47 → ⊥) where
   -- after a byte that is no slash, one more slash adds no part
   split-slash : (m : List ℕ) → unended (split (m ++ (x ∷ 47 ∷ []))) ≡ unended (split (m ++ (x ∷ [])))
@@ -52,15 +58,17 @@ module _ (x : ℕ) (other : x ≡ 47 → ⊥) where
       go true IH = IH
       go false IH = split-slash (y ∷ l)
 
-  high-slash : (l : List ℕ) → anyHigh (l ++ (x ∷ 47 ∷ [])) ≡ anyHigh (l ++ (x ∷ []))
-  unfolding anyHigh
-  high-slash [] = refl
-  high-slash (y ∷ l) = ap (λ (b : Bool). pick (ltb 127 y) true b) (high-slash l)
+-- one more slash, at either end, makes no path bad
+bad-leading : (path : List ℕ) → badSought (47 ∷ path) ≡ badSought path
+bad-leading path = slash-good [] path ∙ rw none-good
 
-no-high : (n : ℕ) → anyHigh (replicate n 47) ≡ false
-unfolding anyHigh
-no-high zero = refl
-no-high (suc n) = no-high n
+bad-trailing : (l : List ℕ) (x : ℕ) → badSought (l ++ (x ∷ 47 ∷ [])) ≡ badSought (l ++ (x ∷ []))
+bad-trailing l x =
+    ap badSought (sym (append-assoc l (x ∷ []) (47 ∷ []))) ∙ slash-good (l ++ (x ∷ [])) [] ∙ rw none-good (either-false (badSought (l ++ (x ∷ []))))
+
+slashes-good : (n : ℕ) → badSought (replicate n 47) ≡ false
+slashes-good zero = none-good
+slashes-good (suc n) = bad-leading (replicate n 47) ∙ slashes-good n
 
 no-text : (n : ℕ) → trim (replicate n 47) ≡ []
 unfolding trim
@@ -70,18 +78,18 @@ no-text (suc n) = no-text n
 module _ (absent w : List ℕ) (first : Sector) (t : Region) where
   -- a leading slash goes
   pub leading-goes : (path : List ℕ) → pathBy absent w first t (47 ∷ path) ≡ pathBy absent w first t path
-  unfolding pathBy anyHigh trim
-  leading-goes path = refl
+  unfolding pathBy trim
+  leading-goes path = rw (bad-leading path)
 
   -- one trailing slash, after a byte x that is none, goes
   pub trailing-goes : (l : List ℕ) (x : ℕ) → (x ≡ 47 → ⊥) → pathBy absent w first t (l ++ (x ∷ 47 ∷ [])) ≡ pathBy absent w first t (l ++ (x ∷ []))
   unfolding pathBy
-  trailing-goes l x other = rw (high-slash x other l, trim-slash x other l)
+  trailing-goes l x other = rw (bad-trailing l x, trim-slash x other l)
 
   -- slashes alone, however many, and the empty path are 28
   pub slashes-alone : (n : ℕ) → pathBy absent w first t (replicate n 47) ≡ refuses 28 []
   unfolding pathBy split unended partsFrom
-  slashes-alone n = rw (no-high n, no-text n)
+  slashes-alone n = rw (slashes-good n, no-text n)
 
   -- `a/` leads where `a` does
   pub a-slash : pathBy absent w first t (97 ∷ 47 ∷ []) ≡ pathBy absent w first t (97 ∷ [])
@@ -89,7 +97,7 @@ module _ (absent w : List ℕ) (first : Sector) (t : Region) where
 
   -- `a//` looks for the empty name inside a
   pub a-two-slashes : pathBy absent w first t (97 ∷ 47 ∷ 47 ∷ []) ≡ onward (turnOf (lookupBy absent w first t (97 ∷ []))) (λ u. lastOf (lookupBy absent w first u []))
-  unfolding pathBy anyHigh trim split unended partsFrom
+  unfolding pathBy badSought trim split unended partsFrom
   a-two-slashes = refl
 
   -- the empty path, `/` and `//` are 28

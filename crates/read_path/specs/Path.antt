@@ -6,10 +6,11 @@ use lib.Dec.{eqb}
 use Rattle.units.specs.Told.{Told, gives, refuses, pick}
 use Rattle.units.specs.declared.Sector.{Sector}
 use Rattle.units.specs.declared.Region.{Region}
+use Rattle.name_role.specs.Roles.{badSought}
 use Rattle.layout_node.specs.Header.{isDirectory}
 use Rattle.read_entry.specs.Entry.{Placed}
 use Rattle.read_entry.specs.Links.{lookupAbsent}
-use Rattle.read_lookup.specs.Lookup.{Finding, anyHigh, lookupBy}
+use Rattle.read_lookup.specs.Lookup.{Finding, lookupBy}
 use Rattle.read_path.specs.declared.PathFound.{PathFound}
 use Rattle.read_path.specs.declared.PathFound.the-variants as path-found
 
@@ -67,7 +68,7 @@ partsFrom absent w first t (p ∷ q ∷ ps) =
 -- the answer of a path: 2, then the parts
 unfoldable pub pathBy : List ℕ → List ℕ → Sector → Region → List ℕ → Told Placed
 pathBy absent w first t path =
-    pick (anyHigh path) (refuses 2 []) (partsFrom absent w first t (unended (split (trim path))))
+    pick (badSought path) (refuses 2 []) (partsFrom absent w first t (unended (split (trim path))))
 
 abbrev pub pathOf : List ℕ → Sector → Region → List ℕ → Told Placed
 pathOf = pathBy lookupAbsent

@@ -106,7 +106,7 @@ fn turn_of(a: Looked) -> Turn
 pub fn find_path(w: &[u8], first: Sector, table: Region, path: &[u8]) -> PathFound
     ensures { λ r. ⌜ told r ≡ pathOf (was w) first table (was path) ⌝ }
 {
-    if read_lookup::any_high(path) {
+    if read_lookup::is_bad_sought(path) {
         return PathFound::BadByte;
     }
     let mut t = table;

@@ -12,23 +12,24 @@ use Rattle.units.specs.declared.Region.{Region}
 use Rattle.units.specs.declared.Sector.{Sector}
 use Rattle.layout_name.specs.declared.Order.{Order}
 use Rattle.layout_name.specs.declared.Order.the-variants.{Less, Equal, Greater}
-use Rattle.layout_name.specs.Order.{nameOrder}
+use Rattle.name_role.specs.Roles.{storedOrder}
+use Rattle.name_role.proofs.Roles.{Compared, stored-compared}
 use Rattle.read_entry.specs.Entry.{Placed, readAt}
 use Rattle.read_place.specs.Place.{nameIn}
 use Rattle.read_place.specs.Place as place
 use Rattle.strict_rule.specs.Strict.{nameBy, isLess, lessThan, moreThan, nameAt, ordered}
 use Rattle.strict.specs.inner.Run.{boundOf, visitOf}
 
--- the order r of two names, where o is the definition's
-module _ (o r : Order) (is : r ≡ o) where
-  pub less : r ≡ Less → true ≡ isLess o
-  less e = ap isLess (sym e ∙ is)
+-- the order r that comparing two stored names told
+module _ (a b : List ℕ) (r : Order) (compared : Compared r a b) where
+  pub less : r ≡ Less → true ≡ isLess (storedOrder a b)
+  less e = ap isLess (sym e ∙ stored-compared a b compared)
 
-  pub equal : r ≡ Equal → false ≡ isLess o
-  equal e = ap isLess (sym e ∙ is)
+  pub equal : r ≡ Equal → false ≡ isLess (storedOrder a b)
+  equal e = ap isLess (sym e ∙ stored-compared a b compared)
 
-  pub greater : r ≡ Greater → false ≡ isLess o
-  greater e = ap isLess (sym e ∙ is)
+  pub greater : r ≡ Greater → false ≡ isLess (storedOrder a b)
+  greater e = ap isLess (sym e ∙ stored-compared a b compared)
 
 -- the name of what is read at an offset is the one that stands there
 name-said : (w : List ℕ) (x : Told (Option Placed)) → nameIn w x .bytes ≡ nameBy w x
@@ -48,11 +49,11 @@ module _ (w : List ℕ) (first : Sector) (t : Region) (name : List ℕ) (l : Lin
   no-over e = rw (← is-n, eq-eqb _ _ e)
 
   module _ (some-link : n ≡ 65535 → ⊥) (o : Offset) (is-o : o .0 ≡ 4 * l .0) (other : List ℕ) (is-other : other ≡ place.nameAt w first t (o .0) .bytes) (r : Bool) where
-    pub under-is : r ≡ isLess (nameOrder name other) → r ≡ lessThan name (nameAt w f (boundOf (l .0)))
+    pub under-is : r ≡ isLess (storedOrder name other) → r ≡ lessThan name (nameAt w f (boundOf (l .0)))
     unfolding place.nameAt
     under-is e = e ∙ rw (is-other, name-said, is-o, ← is-n, ne-eqb _ _ some-link)
 
-    pub over-is : r ≡ isLess (nameOrder other name) → r ≡ moreThan name (nameAt w f (boundOf (l .0)))
+    pub over-is : r ≡ isLess (storedOrder other name) → r ≡ moreThan name (nameAt w f (boundOf (l .0)))
     unfolding place.nameAt
     over-is e = e ∙ rw (is-other, name-said, is-o, ← is-n, ne-eqb _ _ some-link)
 

@@ -20,7 +20,7 @@ ghost use lib.Dec.{eqb};
 ghost use lib.ListN.{length, replicate};
 ghost use Rattle.units.specs.Told.{Told};
 ghost use Rattle.units.specs.Lent.{was, is};
-ghost use Rattle.layout_name.specs.Order.{nameOrder};
+ghost use Rattle.name_role.specs.Roles.{storedOrder};
 ghost use Rattle.read_entry.specs.Entry.{Placed, readAt};
 ghost use Rattle.strict_map.specs.inner.Map.{Marked};
 ghost use Rattle.strict_rule.specs.Strict.{endOf, placed, isLess, lessThan, moreThan, nameAt, ordered};
@@ -36,7 +36,7 @@ enum Verdict {
 
 // One name is less than another.
 fn is_less(a: &[u8], b: &[u8]) -> bool
-    ensures { λ r. ⌜ r ≡ isLess (nameOrder (was a) (was b)) ⌝ }
+    ensures { λ r. ⌜ r ≡ isLess (storedOrder (was a) (was b)) ⌝ }
 {
     match layout_name::compare(a, b) {
         Order::Less => true,

@@ -15,9 +15,9 @@ use Rattle.units.specs.declared.Sector.{Sector}
 use Rattle.units.specs.declared.Region.{Region}
 use Rattle.layout_name.specs.declared.Order.{Order}
 use Rattle.layout_name.specs.declared.Order.the-variants.{Less, Equal, Greater}
-use Rattle.layout_name.specs.Order.{nameOrder}
 use Rattle.layout_name.specs.inner.Order.{opposite}
-use Rattle.layout_name.proofs.Laws.{name-opposite}
+use Rattle.name_role.specs.Roles.{storedOrder}
+use Rattle.name_role.proofs.Roles.{stored-opposite}
 use Rattle.read_entry.specs.Entry.{Placed, readAt}
 use Rattle.read_entry.specs.Links.{isIn, walkAbsent}
 use Rattle.read_walk.specs.Walk.{walkOf}
@@ -76,21 +76,21 @@ module _ (w : List ℕ) (f : ℕ → Told (Option Placed)) (size : ℕ) where
       (λ (n : List·Memᴰ v stack). on-stack c v (push-stays _ v _ _ (push-stays _ v _ stack n)) y e) (List·Memᴰ·cases-cons m)
 
   -- the children of an entry, as its visits ask
-  left-less : (p : ℕ) (x y : Placed) → f p ≡ gives (some x) → (v : Visit) → ordered w f (visitLeft (x .header .left .0) v p) (nameFrom w y) ≡ true → nameOrder (nameFrom w y) (nameFrom w x) ≡ Less
+  left-less : (p : ℕ) (x y : Placed) → f p ≡ gives (some x) → (v : Visit) → ordered w f (visitLeft (x .header .left .0) v p) (nameFrom w y) ≡ true → storedOrder (nameFrom w y) (nameFrom w x) ≡ Less
   unfolding ordered
   left-less p x y e v h = is-less-says _ (rw e at (both-first (lessThan (nameFrom w y) (nameAt w f (some p))) true h))
 
-  right-greater : (p : ℕ) (x y : Placed) → f p ≡ gives (some x) → (v : Visit) → ordered w f (visitRight (x .header .right .0) v p) (nameFrom w y) ≡ true → nameOrder (nameFrom w y) (nameFrom w x) ≡ Greater
+  right-greater : (p : ℕ) (x y : Placed) → f p ≡ gives (some x) → (v : Visit) → ordered w f (visitRight (x .header .right .0) v p) (nameFrom w y) ≡ true → storedOrder (nameFrom w y) (nameFrom w x) ≡ Greater
   unfolding ordered
   right-greater p x y e v h =
-      name-opposite (nameFrom w x) (nameFrom w y) ∙ ap opposite
-      (is-less-says (nameOrder (nameFrom w x) (nameFrom w y)) (rw e at (both-second true (moreThan (nameFrom w y) (nameAt w f (some p))) h)))
+      stored-opposite (nameFrom w x) (nameFrom w y) ∙ ap opposite
+      (is-less-says (storedOrder (nameFrom w x) (nameFrom w y)) (rw e at (both-second true (moreThan (nameFrom w y) (nameAt w f (some p))) h)))
 
   -- the names of an entry's children
   abbrev Children : Placed → Type 0
   Children x =
-      ((y : Placed) → isIn (x .header .left .0) walkAbsent ≡ false → f (4 * x .header .left .0) ≡ gives (some y) → nameOrder (nameFrom w y) (nameFrom w x) ≡ Less)
-      × ((y : Placed) → isIn (x .header .right .0) walkAbsent ≡ false → f (4 * x .header .right .0) ≡ gives (some y) → nameOrder (nameFrom w y) (nameFrom w x) ≡ Greater)
+      ((y : Placed) → isIn (x .header .left .0) walkAbsent ≡ false → f (4 * x .header .left .0) ≡ gives (some y) → storedOrder (nameFrom w y) (nameFrom w x) ≡ Less)
+      × ((y : Placed) → isIn (x .header .right .0) walkAbsent ≡ false → f (4 * x .header .right .0) ≡ gives (some y) → storedOrder (nameFrom w y) (nameFrom w x) ≡ Greater)
 
   children : {seen : List ℕ} {stack : List Visit} {xs : List ℕ} → Course w f size seen stack xs → (o : ℕ) (x : Placed) → List·Memᴰ o xs → f o ≡ gives (some x) → Children x
   children (over seen) o x m e = absurd (List·Memᴰ·not-nil m)

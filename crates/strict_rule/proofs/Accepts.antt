@@ -15,7 +15,7 @@ use Rattle.units.specs.Told.{Told, gives, pick}
 use Rattle.units.specs.declared.Sector.{Sector}
 use Rattle.units.specs.declared.Region.{Region}
 use Rattle.layout_name.specs.inner.Order.{opposite}
-use Rattle.layout_name.proofs.Laws.{name-opposite}
+use Rattle.name_role.proofs.Roles.{stored-opposite}
 use Rattle.read_entry.specs.Entry.{Placed, readAt}
 use Rattle.read_entry.specs.Links.{isIn, walkAbsent}
 use Rattle.read_walk.specs.Walk.{walkOf}
@@ -112,7 +112,7 @@ module _ (w : List ℕ) (first : Sector) (t : Region) (all : List ℕ) (rule : A
     right-ordered : (v : Visit) → isIn (x .header .right .0) walkAbsent ≡ false → (y : Placed) → f (4 * x .header .right .0) ≡ gives (some y) →
         ordered w f (visitRight (x .header .right .0) v o) (nameFrom w y) ≡ true
     unfolding ordered
-    right-ordered v a y e = rw there (ap isLess (name-opposite (nameFrom w y) (nameFrom w x) ∙ ap opposite (rule .in-order o x here-in there .right y a e)))
+    right-ordered v a y e = rw there (ap isLess (stored-opposite (nameFrom w y) (nameFrom w x) ∙ ap opposite (rule .in-order o x here-in there .right y a e)))
 
   still-ordered : (seen xs : List ℕ) (v : Visit) (x : Placed) → f (v .offset) ≡ gives (some x) → all ≡ seen ++ (v .offset ∷ xs) → (stack : List Visit) → Ordered stack → Ordered (entered v x stack)
   still-ordered seen xs v x there whole stack good u m y e = ⊎-elim

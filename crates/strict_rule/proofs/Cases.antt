@@ -5,7 +5,8 @@ use mathlib.Core.List.{List, [], _∷_, _++_}
 use Rattle.units.specs.Told.{Told, gives, refuses}
 use Rattle.units.specs.Region.{locateOf}
 use Rattle.layout_bytes.specs.Bytes.{all}
-use Rattle.layout_name.specs.Order.{numberOrder, listOrder, orderBy, raised, nameOrder}
+use Rattle.layout_name.specs.Order.{numberOrder, listOrder, raised}
+use Rattle.name_role.specs.Roles.{storedKeys, storedOrder}
 use Rattle.layout_node.specs.Header.{headerOf, isBlank}
 use Rattle.read_entry.specs.Entry.{readHere, readAt, nameOf}
 use Rattle.read_entry.specs.Links.{isIn}
@@ -41,7 +42,7 @@ pub record Cases : Type 0 where
   pub cut-short : checkOf 4 9 98 97 99 48 3 ≡ refuses 24 (36 ∷ [])
 
 pub cases : Cases
-unfolding checkOf all numberOrder listOrder orderBy raised nameOrder headerOf isBlank readHere readAt locateOf nameOf isIn apart placed ordered verdictAt push toEntry strictFrom strictOf
+unfolding checkOf all numberOrder listOrder raised storedOrder storedKeys headerOf isBlank readHere readAt locateOf nameOf isIn apart placed ordered verdictAt push toEntry strictFrom strictOf
 cases = record {
   three = refl;
   reached-twice = refl;

@@ -12,7 +12,7 @@ use Rattle.units.specs.Told.{gives}
 use Rattle.units.specs.declared.Sector.{Sector}
 use Rattle.units.specs.declared.Region.{Region}
 use Rattle.layout_name.specs.declared.Order.the-variants.{Less, Greater}
-use Rattle.layout_name.specs.Order.{nameOrder}
+use Rattle.name_role.specs.Roles.{storedOrder}
 use Rattle.read_entry.specs.Entry.{Placed, readAt, nameOf}
 use Rattle.read_entry.specs.Links.{isIn, walkAbsent}
 use Rattle.read_walk.specs.Walk.{walkOf}
@@ -34,9 +34,9 @@ module _ (w : List ℕ) (first : Sector) (t : Region) where
   -- the children's names, where the links are followed and lead to entries
   pub record InOrder (x : Placed) : Type 0 where
     pub left : (y : Placed) → isIn (x .header .left .0) walkAbsent ≡ false → EntryAt (4 * x .header .left .0) y
-        → nameOrder (nameIn y) (nameIn x) ≡ Less
+        → storedOrder (nameIn y) (nameIn x) ≡ Less
     pub right : (y : Placed) → isIn (x .header .right .0) walkAbsent ≡ false → EntryAt (4 * x .header .right .0) y
-        → nameOrder (nameIn y) (nameIn x) ≡ Greater
+        → storedOrder (nameIn y) (nameIn x) ≡ Greater
 
   -- THE RULE, of a table whose walk lists xs
   pub record Accepts (xs : List ℕ) : Type 0 where

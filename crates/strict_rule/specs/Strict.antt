@@ -8,8 +8,8 @@ use lib.ListN.{length}
 use Rattle.units.specs.Told.{Told, gives, refuses, pick}
 use Rattle.units.specs.declared.Sector.{Sector}
 use Rattle.units.specs.declared.Region.{Region}
-use Rattle.layout_name.specs.Order.{nameOrder}
 pub use Rattle.layout_name.specs.Order.{isLess}
+use Rattle.name_role.specs.Roles.{storedOrder}
 use Rattle.layout_node.specs.declared.Header.{Header}
 use Rattle.layout_node.specs.Header.{entryLength}
 use Rattle.read_entry.specs.Entry.{Placed, readAt, nameOf}
@@ -62,11 +62,11 @@ pub record Visit : Type 0 where
 -- subtree's parent: the root m, its left child c and c's right child z pass, and no lookup finds z
 abbrev pub lessThan : List ℕ → Option (List ℕ) → Bool
 lessThan name none = true
-lessThan name (some other) = isLess (nameOrder name other)
+lessThan name (some other) = isLess (storedOrder name other)
 
 abbrev pub moreThan : List ℕ → Option (List ℕ) → Bool
 moreThan name none = true
-moreThan name (some other) = isLess (nameOrder other name)
+moreThan name (some other) = isLess (storedOrder other name)
 
 abbrev pub nameAt : List ℕ → (ℕ → Told (Option Placed)) → Option ℕ → Option (List ℕ)
 nameAt w f none = none

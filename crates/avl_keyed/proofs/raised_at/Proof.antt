@@ -2,7 +2,7 @@
 use mathlib.Core.Path.{sym, _∙_}
 use native.Mathlib.Omega.{arith}
 use borrow.Author.Needs.{needs}
-use Rattle.avl_keyed.proofs.ByKey.{copy-at, copy-past}
+use Rattle.layout_name.proofs.Raised.{copy-at, copy-past}
 use Rattle.avl_keyed.proofs.raised_at.Statement.{statement}
 use Rattle.avl_keyed.proofs.raised_at.Tie as tie
 

@@ -9,11 +9,12 @@ use Rattle.units.specs.Told.{gives, pick}
 use Rattle.layout_bytes.specs.inner.Bytes.{putAt}
 use Rattle.layout_node.specs.declared.Header.{Header}
 use Rattle.layout_sector.specs.Counter.{alignedUp}
+use Rattle.dirtab_entry.specs.declared.Entry as given
 use Rattle.dirtab_entry.specs.Entry.{kindFor}
 use Rattle.avl_model.specs.Tree.{none}
-use Rattle.avl_model.specs.Names.{namesIn, nameAt}
+use Rattle.avl_model.specs.Names.{namesIn}
 use Rattle.avl_model.specs.inner.Names.{Inside}
-use Rattle.table_model.specs.Entry.{Entry, Item, attributes}
+use Rattle.table_model.specs.Entry.{Entry, Item, attributes, entryFor}
 use Rattle.table_model.specs.inner.Writing.{stored, Spaced}
 use Rattle.dirtab_place.specs.inner.Places.{sizeIn, freeIn, freeOver, Sized}
 
@@ -32,14 +33,17 @@ pub record Cols : Type 0 where
 abbrev pub cols : List ℕ → List ℕ → List ℕ → List ℕ → List ℕ → List ℕ → List ℕ → List ℕ → Cols
 cols l r p a n z k b = record { left = l; right = r; place = p; start = a; len = n; size = z; kind = k; bytes = b }
 
--- entry i, as a table has it
-abbrev pub entryBy : Cols → ℕ → Entry
-entryBy c i = record {
-  name = nameAt (namesIn (c .bytes) (c .start) (c .len)) i;
-  kind =
-      kindFor (getD (c .kind) i 0);
-  size = sizeIn (c .size) (c .kind) i;
+-- entry i as it is given, and as a table has it
+abbrev pub givenBy : Cols → ℕ → given.Entry
+givenBy c i = record {
+  start = getD (c .start) i 0;
+  len = getD (c .len) i 0;
+  kind = kindFor (getD (c .kind) i 0);
+  size = getD (c .size) i 0;
 }
+
+abbrev pub entryBy : Cols → ℕ → Entry
+entryBy c i = entryFor (c .bytes) (givenBy c i)
 
 -- the link to a child: its offset over 4, or 0 for none
 unfoldable pub linkBy : List ℕ → ℕ → ℕ

@@ -11,13 +11,14 @@ use Rattle.units.specs.Told.{refuses}
 use Rattle.units.specs.declared.Sector.{Sector}
 use Rattle.units.specs.declared.Offset.{Offset}
 use Rattle.units.specs.declared.Region.{Region}
+use Rattle.name_role.specs.Roles.{badSought}
 use Rattle.layout_node.specs.declared.Header.{Header}
 use Rattle.read_entry.specs.Links.{lookupAbsent}
 use Rattle.read_lookup.specs.declared.Step.{Step}
 use Rattle.read_lookup.specs.declared.Step.the-variants as step
 use Rattle.read_lookup.specs.declared.Looked.{Looked}
 use Rattle.read_lookup.specs.declared.Looked.the-variants as looked
-use Rattle.read_lookup.specs.Lookup.{Leads, stepAt, anyHigh, ending, chainFrom, lookupBy, lookupOf, told}
+use Rattle.read_lookup.specs.Lookup.{Leads, stepAt, ending, chainFrom, lookupBy, lookupOf, told}
 use Rattle.read_lookup.specs.inner.Lookup.{leading}
 use Rattle.read_lookup.proofs.look_in.Statement.{statement}
 use Rattle.read_lookup.proofs.look_in.Tie as tie
@@ -29,7 +30,7 @@ abbrev μ-loop : tie.MeasureT-loop
 μ-loop w first table name size at₀ headers₀ at headers = 65536 - headers
 
 -- before the loop
-module _ (w : List ℕ) (first : Sector) (t : Region) (name : List ℕ) (b : Bool) (high : b ≡ anyHigh name) where
+module _ (w : List ℕ) (first : Sector) (t : Region) (name : List ℕ) (b : Bool) (high : b ≡ badSought name) where
   bad : b ≡ true → told looked.BadByte ≡ lookupOf w first t name
   unfolding lookupBy
   bad e = rw (← high, e)

@@ -7,7 +7,7 @@ use Rattle.units.specs.declared.Offset.{Offset}
 use Rattle.units.specs.declared.Region.{Region}
 use Rattle.layout_name.specs.declared.Order.{Order}
 use Rattle.layout_name.specs.declared.Order.the-variants.{Less, Equal, Greater}
-use Rattle.layout_name.specs.Order.{nameOrder}
+use Rattle.name_role.proofs.Roles.{Compared, sought-compared}
 use Rattle.layout_node.specs.declared.Header.{Header}
 use Rattle.read_entry.specs.declared.Read.{Read}
 use Rattle.read_entry.specs.declared.Read.the-variants as read
@@ -22,18 +22,18 @@ use Rattle.read_lookup.proofs.step_at.Statement.{statement}
 use Rattle.read_lookup.proofs.step_at.Tie as tie
 
 module _ (w : List ℕ) (first : Sector) (t : Region) (name : List ℕ) (o : Offset) (r : Read) (reading : told r ≡ readAt w first t (o .0)) where
-  module _ (h : Header) (place : ℕ) (is-entry : r ≡ read.Entry h place) (nm : List ℕ) (named : nm ≡ nameOf w place (h .«name_len»)) (p : Order) (compared : p ≡ nameOrder name nm) where
+  module _ (h : Header) (place : ℕ) (is-entry : r ≡ read.Entry h place) (nm : List ℕ) (named : nm ≡ nameOf w place (h .«name_len»)) (p : Order) (compared : Compared p name nm) where
     less : (s : Step) → p ≡ Less → leading s ≡ byLink lookupAbsent (h .left .0) → leading s ≡ stepAt lookupAbsent w first t name (o .0)
     unfolding stepAt
-    less s l e = rw (← reading, is-entry, ← named, ← compared, l) e
+    less s l e = rw (← reading, is-entry, ← named, ← sought-compared name nm compared, l) e
 
     same : p ≡ Equal → leading (step.Found h place) ≡ stepAt lookupAbsent w first t name (o .0)
     unfolding stepAt
-    same l = rw (← reading, is-entry, ← named, ← compared, l)
+    same l = rw (← reading, is-entry, ← named, ← sought-compared name nm compared, l)
 
     greater : (s : Step) → p ≡ Greater → leading s ≡ byLink lookupAbsent (h .right .0) → leading s ≡ stepAt lookupAbsent w first t name (o .0)
     unfolding stepAt
-    greater s l e = rw (← reading, is-entry, ← named, ← compared, l) e
+    greater s l e = rw (← reading, is-entry, ← named, ← sought-compared name nm compared, l) e
 
   nothing : r ≡ read.Nothing → leading step.Absent ≡ stepAt lookupAbsent w first t name (o .0)
   unfolding stepAt

@@ -8,8 +8,8 @@ use borrow.Author.Needs.{needs}
 use lib.ListN.{length, drop}
 use Rattle.units.specs.declared.Sector.{Sector}
 use Rattle.units.specs.declared.Region.{Region}
+use Rattle.name_role.specs.Roles.{badSought}
 use Rattle.read_entry.specs.Links.{lookupAbsent}
-use Rattle.read_lookup.specs.Lookup.{anyHigh}
 use Rattle.read_path.specs.declared.PathFound.the-variants as path-found
 use Rattle.read_path.specs.Path.{trim, split, unended, partsFrom, pathBy, pathOf, told}
 use Rattle.read_path.proofs.Parts.{at-end, last, into, stop}
@@ -23,7 +23,7 @@ abbrev μ-loop : tie.MeasureT-loop
 μ-loop w first path t₀ i₀ t i = length path - i
 
 -- before the loop
-module _ (w : List ℕ) (first : Sector) (t : Region) (path : List ℕ) (b : Bool) (high : b ≡ anyHigh path) where
+module _ (w : List ℕ) (first : Sector) (t : Region) (path : List ℕ) (b : Bool) (high : b ≡ badSought path) where
   bad : b ≡ true → told path-found.BadByte ≡ pathOf w first t path
   unfolding pathBy
   bad e = rw (← high, e)

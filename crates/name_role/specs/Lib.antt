@@ -1,0 +1,3 @@
+-- Names by their role.
+pub mod Roles
+pub mod inner

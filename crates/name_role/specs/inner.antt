@@ -1,0 +1,2 @@
+-- What only laws cite.
+pub mod Storable
