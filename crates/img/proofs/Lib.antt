@@ -1,6 +1,4 @@
 -- Laws of the steps of planning.
-pub mod Adding
-pub mod Fewest
 pub mod Rooming
 pub mod Handing
 pub mod Planning

@@ -17,7 +17,8 @@ use Rattle.img_model.specs.Plan.{Plan, Taking, told, total, planOf, sizesDown, 
 use Rattle.img_model.proofs.Rule.{some-directory, share-inside}
 use Rattle.img_table.specs.declared.Arranged.{Arranged}
 use Rattle.img_table.specs.declared.Arranged.the-variants as arranged
-use Rattle.img_size.specs.inner.Sizing.{Sizeable, Roomy, TablesIn, toldSizes}
+use Rattle.img_model.specs.inner.Tables.{Sizeable, TablesIn}
+use Rattle.img_size.specs.inner.Sizing.{Roomy, toldSizes}
 use Rattle.img_size.proofs.Asked.{tree-sizeable, sizes-any}
 use Rattle.img_take.specs.inner.Forward.{Sized}
 use Rattle.img_model.specs.Image.{answerOf}

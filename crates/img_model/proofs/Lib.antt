@@ -8,3 +8,4 @@ pub mod Takings
 pub mod Cases
 pub mod Told
 pub mod Plans
+pub mod Orders

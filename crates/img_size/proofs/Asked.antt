@@ -14,7 +14,7 @@ use Rattle.img_model.specs.Shares.{Request, shareOf, directoriesOf, entriesOf, 
 use Rattle.img_model.specs.Plan.{tableIn, entryIn, treeIn, ifGrown, sizesDown}
 use Rattle.img_model.proofs.Rule.{share-inside, names-later, names-one}
 use Rattle.img_model.proofs.Trees.{tree-same, size-same}
-use Rattle.img_size.specs.inner.Sizing.{Sizeable}
+use Rattle.img_model.specs.inner.Tables.{Sizeable}
 
 pub tree-sizeable : (R : Request) → isTree R ≡ true → length (R .share) ≡ directoriesOf R →
     length (R .start) ≡ entriesOf R → length (R .len) ≡ entriesOf R → length (R .value) ≡ entriesOf R →

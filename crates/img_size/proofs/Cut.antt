@@ -3,15 +3,14 @@ use Prim.Native.Nat.{ℕ, _+_, _-_, _≤_, _<_}
 use native.Mathlib.Omega.{arith}
 use mathlib.Core.Path.{_≡_, sym, ap, subst, _∙_}
 use mathlib.Core.List.{List, _++_}
-use lib.ListN.{length, take, drop, length-drop}
+use lib.ListN.{length, take, drop}
 use lib.Seq.{length-take-le, take-at, drop-at}
 use Rattle.img_model.specs.Shares.{Request, Share, shareOf, directoriesOf, firstOf, countOf, entriesOf, part}
+use Rattle.img_model.proofs.Orders.{length-part}
 use Rattle.img_table.specs.declared.TableSized.{TableSized}
 use Rattle.img_table.specs.inner.Arranging.{shareBy, Fillable, Arrangeable, Sizing}
-use Rattle.img_size.specs.inner.Sizing.{Sizeable, Roomy}
-
-pub length-part : (f n : ℕ) (xs : List ℕ) → f + n ≤ length xs → length (part f n xs) ≡ n
-length-part f n xs h = length-take-le n (drop f xs) (let e : length (drop f xs) ≡ length xs - f = length-drop f xs in omega arith)
+use Rattle.img_model.specs.inner.Tables.{Sizeable}
+use Rattle.img_size.specs.inner.Sizing.{Roomy}
 
 back-to : (f n : ℕ) → f + n - f ≡ n
 back-to f n = omega arith

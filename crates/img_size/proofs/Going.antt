@@ -21,8 +21,9 @@ use Rattle.img_table.specs.declared.Arranged.the-variants as arranged
 use Rattle.img_table.specs.declared.TableSized.{TableSized}
 use Rattle.img_table.specs.declared.TableSized.the-variants as sized
 use Rattle.img_table.specs.inner.Arranging.{Measured, Sizing}
-use Rattle.img_size.specs.inner.Sizing.{orderFrom, TableIn, TablesIn, Sizeable, Roomy}
-use Rattle.img_size.proofs.Orders.{total-step, total-none, total-down, total-all, part-kept}
+use Rattle.img_model.specs.inner.Tables.{orderFrom, TableIn, TablesIn, Sizeable}
+use Rattle.img_size.specs.inner.Sizing.{Roomy}
+use Rattle.img_model.proofs.Orders.{total-step, total-none, total-down, total-all, part-kept}
 
 -- ---- what the answers of one table say
 

@@ -1,5 +1,4 @@
 -- Laws that sizing an image's tables goes by.
 pub mod Cut
-pub mod Orders
 pub mod Going
 pub mod Asked

@@ -11,7 +11,8 @@ ghost use Rattle.img_model.specs.inner.Shares.{columnsIn};
 ghost use Rattle.img_model.specs.Plan.{tableIn, sizesDown};
 ghost use Rattle.img_table.specs.declared.Arranged.the-variants.{Done};
 ghost use Rattle.img_table.specs.inner.Arranging.{Sizing};
-ghost use Rattle.img_size.specs.inner.Sizing.{Sizeable, Roomy, TablesIn, toldSizes};
+ghost use Rattle.img_model.specs.inner.Tables.{Sizeable, TablesIn};
+ghost use Rattle.img_size.specs.inner.Sizing.{Roomy, toldSizes};
 
 // The size of directory d's table, and its preorder into its places of `order`, which are those from `at` on.
 fn size_directory(

@@ -7,8 +7,7 @@ use lib.ListN.{length, getD, take, drop}
 use Rattle.img_model.specs.Shares.{Request, Share, shareOf, firstOf, countOf, part}
 use Rattle.img_model.specs.Plan.{total}
 use Rattle.img_table.specs.inner.Arranging.{shareBy}
-use Rattle.img_size.proofs.Cut.{length-part}
-use Rattle.img_size.proofs.Orders.{total-step, total-all}
+use Rattle.img_model.proofs.Orders.{total-step, total-all, length-part}
 use Rattle.img_take.specs.inner.Forward.{Sized, requestOf, Turn}
 
 -- the same tables, with a column of as many places for sizes

@@ -25,7 +25,7 @@ use Rattle.img_table.specs.inner.Arranging as arranging
 use Rattle.img_take.specs.inner.Forward.{Sized, requestOf, Turn, Treed, entriesOf, limited, taking, freeTold, toldFitting, takeAlong, Enters, EntersAll}
 use Rattle.img_table.proofs.Measuring.{listed-at}
 use Rattle.img_take.proofs.Trees.{all-filled, sized-at, same-at}
-use Rattle.img_size.proofs.Orders.{total-step}
+use Rattle.img_model.proofs.Orders.{total-step}
 use Rattle.img_take.proofs.Cut.{re-place, part-is, order-is, mine, share-is, mine-kind, mine-value}
 use Rattle.img_take.proofs.Steps.{andThen, then-given, at, split, split-free, same-free, none-left, far-step, near-step, given-step}
 use Rattle.img_take.proofs.Along.{along-is}

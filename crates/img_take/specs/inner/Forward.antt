@@ -15,7 +15,7 @@ use Rattle.dirtab_place.specs.inner.Places as places
 use Rattle.img_model.specs.Shares.{Request, columns}
 use Rattle.img_model.specs.Plan.{Taking, total, tableIn, entryIn, treeIn}
 use Rattle.img_table.specs.inner.Arranging.{shareBy, Fillable}
-use Rattle.img_size.specs.inner.Sizing.{Sizeable, TablesIn}
+use Rattle.img_model.specs.inner.Tables.{Sizeable, TablesIn}
 use Rattle.img_take.specs.declared.Fitting.{Fitting}
 use Rattle.img_take.specs.declared.Fitting.the-variants as fitting
 

@@ -2,9 +2,9 @@
 use Prim.Native.Nat.{_-_}
 use borrow.Author.Needs.{needs}
 use lib.ListN.{length}
-use Rattle.img.proofs.Adding.{Added, none-added, one-added, all-added}
-use Rattle.img.proofs.add_shares.Statement.{statement}
-use Rattle.img.proofs.add_shares.Tie as tie
+use Rattle.img_room.proofs.Adding.{Added, none-added, one-added, all-added}
+use Rattle.img_room.proofs.add_shares.Statement.{statement}
+use Rattle.img_room.proofs.add_shares.Tie as tie
 
 abbrev Inv-loop : tie.InvT-loop
 Inv-loop share sum₀ d₀ sum d = Added share d sum

@@ -3,10 +3,10 @@ use Prim.Native.Nat.{ℕ, zero, suc, _+_, _-_, _≤_, _<_}
 use native.Mathlib.Omega.{arith}
 use mathlib.Core.Path.{_≡_, refl, sym, ap, subst, _∙_}
 use mathlib.Core.List.{List, [], _∷_}
-use lib.ListN.{length, getD, take, drop}
-use lib.Seq.{drop-cons, drop-drop, drop-length, drop-nil, take-take}
+use lib.ListN.{length, getD, take, drop, length-drop}
+use lib.Seq.{drop-cons, drop-drop, drop-length, drop-nil, take-take, length-take-le}
 use Rattle.img_model.specs.Shares.{part}
 use Rattle.img_model.specs.Plan.{total}
 
 -- a list counts its element d, and those after it
 pub total-step : (l : List ℕ) (d : ℕ) → d < length l → total (drop d l) ≡ getD l d 0 + total (drop (suc d) l)
@@ -48,3 +48,7 @@ part-kept a n at xs ys h e =
     drop-take a n ys ∙
     ap (drop a) (sym (take-take (a + n) at ys h) ∙ ap (take (a + n)) e ∙ take-take (a + n) at xs h) ∙
     sym (drop-take a n xs)
+
+-- a part inside a list is as long as it is said to be
+pub length-part : (f n : ℕ) (xs : List ℕ) → f + n ≤ length xs → length (part f n xs) ≡ n
+length-part f n xs h = length-take-le n (drop f xs) (let e : length (drop f xs) ≡ length xs - f = length-drop f xs in omega arith)

@@ -9,7 +9,7 @@ use lib.Dec.{leb}
 use lib.ListN.{length, getD, drop}
 use lib.Seq.{drop-cons, drop-length}
 use Rattle.img_model.specs.Plan.{total}
-use Rattle.img_size.proofs.Orders.{total-step, total-none}
+use Rattle.img_model.proofs.Orders.{total-step, total-none}
 use Rattle.img_model.specs.Image.{fits}
 
 -- the first d shares are added up

@@ -2,9 +2,9 @@
 use Prim.Native.Nat.{_-_}
 use borrow.Author.Needs.{needs}
 use lib.ListN.{length}
-use Rattle.img.proofs.Adding.{Fitted, none-fitted, one-fitted, one-too-long, all-fitted}
-use Rattle.img.proofs.fit_shares.Statement.{statement}
-use Rattle.img.proofs.fit_shares.Tie as tie
+use Rattle.img_room.proofs.Adding.{Fitted, none-fitted, one-fitted, one-too-long, all-fitted}
+use Rattle.img_room.proofs.fit_shares.Statement.{statement}
+use Rattle.img_room.proofs.fit_shares.Tie as tie
 
 abbrev Inv-loop : tie.InvT-loop
 Inv-loop share entries n d₀ d = Fitted n entries share d

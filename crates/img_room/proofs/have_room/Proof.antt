@@ -3,9 +3,9 @@ use native.Mathlib.Omega.{arith}
 use mathlib.Core.Path.{sym}
 use lib.Seq.{length-take-le}
 use borrow.Author.Needs.{needs}
-use Rattle.img.proofs.Rooming.{few-directories, few-entries, enough-of-both}
-use Rattle.img.proofs.have_room.Statement.{statement}
-use Rattle.img.proofs.have_room.Tie as tie
+use Rattle.img_room.proofs.Rooming.{few-directories, few-entries, enough-of-both}
+use Rattle.img_room.proofs.have_room.Statement.{statement}
+use Rattle.img_room.proofs.have_room.Tie as tie
 
 slice-aggregate-fit-shares : tie.Need-slice-aggregate-fit-shares
 slice-aggregate-fit-shares c =
