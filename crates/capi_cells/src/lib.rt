@@ -1,22 +1,22 @@
 // An answer of `xdvdfs` as a number and cells: for each answer a function that puts its values into lent cells,
 // leaves the others unchanged, and gives the answer's number of docs/SCOPE.md, 0 for what is no refusal. Each
 // contract is over what the answer is told as (specs/Cells.antt).
+use dirtab::Serialised;
+use dirtab_add::Added;
 use dirtab_entry::number_of;
+use dirtab_list::ListWritten;
+use img_model::Planned;
+use layout_node::Header;
+use layout_sector::Taken;
+use layout_volume::DescriptorRead;
+use layout_volume::DescriptorWritten;
+use read_entry::Read;
+use read_lookup::Looked;
+use read_path::PathFound;
+use read_walk::Walked;
+use strict_rule::Checked;
 use widths::u8_as_u32;
 use widths::u16_as_u32;
-use xdvdfs::Added;
-use xdvdfs::Checked;
-use xdvdfs::DescriptorRead;
-use xdvdfs::DescriptorWritten;
-use xdvdfs::Header;
-use xdvdfs::ListWritten;
-use xdvdfs::Looked;
-use xdvdfs::PathFound;
-use xdvdfs::Planned;
-use xdvdfs::Read;
-use xdvdfs::Serialised;
-use xdvdfs::Taken;
-use xdvdfs::Walked;
 ghost use mathlib.Core.Path.{_≡_};
 ghost use Prim.Native.Nat.{min, _+_};
 ghost use lib.ListN.{length, take, drop};

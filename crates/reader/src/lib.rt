@@ -92,7 +92,7 @@ impl<'a> Reader<'a> {
         ensures { λ r. let s = self .entry in
             ⌜ lookup.told r ≡ lookup.lookupOf (now (s .window)) (s .first) (s .table) (was name) ⌝ }
     {
-        xdvdfs::look_up(self.window, self.first, self.table, name)
+        read_lookup::look_up(self.window, self.first, self.table, name)
     }
 
     // Follows a path from the table, wherever the position is. 2, 28, then for each part what its lookup gives, and
@@ -101,7 +101,7 @@ impl<'a> Reader<'a> {
         ensures { λ r. let s = self .entry in
             ⌜ following.told r ≡ following.pathOf (now (s .window)) (s .first) (s .table) (was path) ⌝ }
     {
-        xdvdfs::find_path(self.window, self.first, self.table, path)
+        read_path::find_path(self.window, self.first, self.table, path)
     }
 
     // The entry at the position: its header and place in the window, or that there is none. 23, 24 with the offset.
@@ -109,7 +109,7 @@ impl<'a> Reader<'a> {
         ensures { λ r. let s = self .entry in
             ⌜ reading.told r ≡ reading.readAt (now (s .window)) (s .first) (s .table) (s .at .0) ⌝ }
     {
-        xdvdfs::read_entry(self.window, self.first, self.table, self.at)
+        read_entry::read_at(self.window, self.first, self.table, self.at)
     }
 
     // The name of the entry at the position, as that part of the window itself; where there is no entry, the empty
