@@ -32,8 +32,9 @@ returns-6 c = let e = ap planning.told (c .before .r4 .given .1) in (refused-num
 
 returns-7 : tie.Need-returns-7
 returns-7 c =
-    let e = ap planning.told (c .before .before .r5 .given .1) in
-    (c .number-of .ensures ∙ refused-number e, (refused-cell itself _ e, (refused-value ofPlanned _ e (cause-planned _) refl, refused-other ofDirectory _ e (cause-no-directory _))))
+    let g = c .before .before .r5 .given in
+    let e = ap planning.told (g .1) in
+    (c .number-of .ensures ∙ refused-number e, (refused-cell itself _ e, (refused-value ofPlanned _ e (cause-planned (g .0 .0)) refl, refused-other ofDirectory _ e (cause-no-directory (g .0 .0)))))
 
 pub store-planned-spec : {M : Type 1} → statement M
 store-planned-spec = tie.close (tie.spec (λ c. search needs) (λ c κs. search needs) (λ c. search needs)
