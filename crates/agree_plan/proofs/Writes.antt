@@ -10,9 +10,9 @@ use lib.Dec.{eqb}
 use lib.ListN.{length, getD, drop, length-take, List·getD-eq-default}
 use borrow.Author.Tests.{le-leb}
 use Rattle.units.specs.Told.{Told, gives, refuses, pick}
-use Rattle.dirtab_entry.specs.Entry.{rounded, kindFor, storedSize, nameIn, checkOf}
+use Rattle.dirtab_entry.specs.Entry.{rounded, kindFor, checkOf}
 use Rattle.avl_model.specs.Tree.{Tree, leaf}
-use Rattle.table_model.specs.Entry.{Entry}
+use Rattle.table_model.specs.Entry.{Entry, entryFor}
 use Rattle.table_model.specs.Table.{Placing, placeOf, tableBytes}
 use Rattle.dirtab_grow.specs.Listing.{Listing, givenIn}
 use Rattle.dirtab_grow.specs.Grow.{orderIn, grow}
@@ -51,15 +51,11 @@ module _ (R : Request) (places : ℕ) (tables sectors : List ℕ) (p : Plan) (g 
     | no k ↦ List·getD-eq-default size 0 (omega (arith, k, z .long)) ∙ sym (none-past i (omega (arith, k)))
   ]
 
-  entries-are : entryIn L ≡ entriesAt R (p .sizes) d
-  entries-are = λ k i. record {
-    name = nameIn (R .bytes) (givenAt S tab i);
-    kind = kindFor (getD (S .kind) i 0);
-    size = storedSize (kindFor (getD (S .kind) i 0)) (size-is i k);
-  }
-
   given-is : (i : ℕ) → givenIn L i ≡ givenAt S tab i
   given-is i = λ k. record { start = getD (S .start) i 0; len = getD (S .len) i 0; kind = kindFor (getD (S .kind) i 0); size = size-is i k }
+
+  entries-are : entryIn L ≡ entriesAt R (p .sizes) d
+  entries-are = λ k i. entryFor (R .bytes) (given-is i k)
 
   check-is : (i : ℕ) → i < countOf R d → checkOf (R .bytes) (givenIn L i) ≡ checkIn S tab i
   check-is i k =
