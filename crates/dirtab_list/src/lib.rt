@@ -9,6 +9,7 @@ use scratch::clear_bytes;
 use scratch::clear_shorts;
 use scratch::clear_words;
 use units::Sector;
+use widths::u32_as_usize;
 ghost use mathlib.Core.Path.{_≡_};
 ghost use mathlib.Core.Bool.{_&&_};
 ghost use mathlib.Core.List.{[], _∷_};
@@ -71,12 +72,6 @@ fn least(a: usize, b: usize) -> usize
     ensures { λ r. ⌜ r ≡ min a b ⌝ }
 {
     if a <= b { a } else { b }
-}
-
-fn widen(n: u32) -> usize
-    ensures { λ r. ⌜ r ≡ n ⌝ }
-{
-    n as usize
 }
 
 // Each of five lengths is at least n.
@@ -295,7 +290,7 @@ pub fn write_list(
 {
     let scratch = measure(left, right, parent, height, key, order, place);
     if have_places(
-        widen(count),
+        u32_as_usize(count),
         start.len(),
         len.len(),
         size.len(),

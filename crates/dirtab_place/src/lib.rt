@@ -1,4 +1,5 @@
-// Places of entries that are given in an order of their numbers: offsets over 4 into a column, and sectors counted.
+// Places of entries that are given in an order of their numbers: offsets over 4 into a column, the size of their
+// table, and sectors counted.
 use dirtab_entry::kind_of;
 use dirtab_entry::stored_size;
 use layout_node::entry_length;
@@ -6,14 +7,16 @@ use layout_sector::SectorCounter;
 use layout_sector::Taken;
 use units::Offset;
 use units::Sector;
+use widths::u16_as_usize;
+use widths::u32_as_u64;
 ghost use mathlib.Core.Path.{_≡_};
 ghost use Prim.Native.Nat.{_/_, _≤_, _<_};
 ghost use lib.ListN.{length};
 ghost use Rattle.units.specs.Lent.{was, is};
 ghost use Rattle.layout_node.specs.Header.{entryLength};
 ghost use Rattle.table_model.specs.Place.{startAfter};
-ghost use Rattle.dirtab_place.specs.inner.Places.{Placeable, Countable, Sized, sizeIn, toldEnd, endsOver};
-ghost use Rattle.dirtab_place.specs.inner.Places.{placesOver, toldFree, freeOver};
+ghost use Rattle.dirtab_place.specs.inner.Places.{Placeable, Measurable, Countable, Sized, sizeIn};
+ghost use Rattle.dirtab_place.specs.inner.Places.{toldEnd, endsOver, placesOver, sizeAlong, toldFree, freeOver};
 
 // What placing answers.
 pub enum Ends {
@@ -29,12 +32,6 @@ pub enum Counted {
     Free(Sector),
     // 8: the next free sector would exceed 4,294,967,295.
     SectorOverflow,
-}
-
-fn widen(x: u16) -> usize
-    ensures { λ r. ⌜ (r ≡ x) × (r < 65536) ⌝ }
-{
-    x as usize
 }
 
 // The length of an entry whose name has so many bytes.
@@ -73,7 +70,7 @@ pub fn place_entries(order: &[u16], len: &[u32], place: &mut [u16]) -> Ends
     let mut e: u32 = 0;
     let mut k: usize = 0;
     while k < order.len() {
-        let i = widen(order[k]);
+        let i = u16_as_usize(order[k]);
         let n = length_for(len[i]);
         let o = start_after(e, n);
         if 65535 < o / 4 {
@@ -84,6 +81,25 @@ pub fn place_entries(order: &[u16], len: &[u32], place: &mut [u16]) -> Ends
         k += 1;
     }
     Ends::At(e)
+}
+
+// The reported size of a table with entries in this order: the last end, or 2,048 for an empty one.
+pub fn measure(order: &[u16], len: &[u32]) -> u32
+    requires { ⌜ Measurable (now order) (now len) ⌝ }
+    ensures { λ r. ⌜ r ≡ sizeAlong (was len) (was order) ⌝ }
+{
+    if order.len() == 0 {
+        return 2048;
+    }
+    let mut e: u32 = 0;
+    let mut k: usize = 0;
+    while k < order.len() {
+        let i = u16_as_usize(order[k]);
+        let n = length_for(len[i]);
+        e = start_after(e, n) + n;
+        k += 1;
+    }
+    e
 }
 
 // The size that an entry is stored with.
@@ -102,8 +118,8 @@ pub fn count_sectors(order: &[u16], size: &[u32], kind: &[u8], first: Sector) ->
     let mut counter = SectorCounter::starting_at(first);
     let mut k: usize = 0;
     while k < order.len() {
-        let bytes = stored_at(size, kind, widen(order[k]));
-        match counter.take(bytes as u64) {
+        let bytes = stored_at(size, kind, u16_as_usize(order[k]));
+        match counter.take(u32_as_u64(bytes)) {
             Taken::Start(_, next) => {
                 counter = next;
             }

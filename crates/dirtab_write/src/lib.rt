@@ -12,6 +12,8 @@ use layout_sector::SectorCounter;
 use layout_sector::Taken;
 use units::Link;
 use units::Sector;
+use widths::u16_as_usize;
+use widths::u32_as_u64;
 ghost use mathlib.Core.Path.{_≡_};
 ghost use mathlib.Core.List.{_++_};
 ghost use Prim.Native.Nat.{_+_, _*_, _≤_, _<_};
@@ -29,12 +31,6 @@ ghost use Rattle.dirtab_write.specs.inner.Columns.{Numbered, Writes, Spa
 // The number that stands for no node.
 const NONE: u16 = 65535;
 
-fn widen(x: u16) -> usize
-    ensures { λ r. ⌜ (r ≡ x) × (r < 65536) ⌝ }
-{
-    x as usize
-}
-
 // The link to a child: 0 where there is none.
 fn link_of(place: &[u16], child: u16) -> u16
     requires { ⌜ LinkIn (now place) child ⌝ }
@@ -43,7 +39,7 @@ fn link_of(place: &[u16], child: u16) -> u16
     if child == NONE {
         return 0;
     }
-    place[widen(child)]
+    place[u16_as_usize(child)]
 }
 
 // The attributes of a kind.
@@ -109,11 +105,11 @@ fn put_item(
         (stored (itemBy (cols (was left) (was right) (was place) (was start) (was len) (was size) (was kind)
         (was names)) (sector .0) number)) ⌝ }
 {
-    let i = widen(number);
+    let i = u16_as_usize(number);
     let name = name_of(names, start, len, number);
     let n = name.len() as u8;
     let header = header_by(i, left, right, place, size, kind, sector, n);
-    put_entry(out, 4 * widen(place[i]), header, name);
+    put_entry(out, 4 * u16_as_usize(place[i]), header, name);
 }
 
 // Entry i, at its offset and with the sectors that it takes; the answer is the counter past them. (That they can be
@@ -139,8 +135,8 @@ fn put_node(
         (stored (itemBy (cols (was left) (was right) (was place) (was start) (was len) (was size) (was kind)
         (was names)) (alignedUp 1 (counter .next .0)) number)) ⌝ }
 {
-    let bytes = stored_at(size, kind, widen(number));
-    match counter.take(bytes as u64) {
+    let bytes = stored_at(size, kind, u16_as_usize(number));
+    match counter.take(u32_as_u64(bytes)) {
         Taken::Start(sector, next) => {
             put_item(
                 out,

@@ -14,7 +14,7 @@ write-checked-requires c κs =
     let a = s .args in
     let L = listing (a .count) (a .start .now) (a .len .now) (a .size .now) (a .kind .now) (a .names .now) in
     let n = shortest (a .left .now) (a .right .now) (a .parent .now) (a .height .now) (a .key .now) (a .order .now) (a .place .now) in
-    let e = places-are L n (c .before .before .before .before .before .before .before .before .before .before .widen .ensures)
+    let e = places-are L n (c .before .before .before .before .before .before .before .before .before .before .u32-as-usize .ensures .0)
     (c .before .before .before .before .before .before .before .before .before .before .before .measure .ensures)
     (c .before .before .before .before .before .before .before .before .before .have-places .ensures)
     (c .before .before .before .before .before .before .before .before .if1 .taken) in
@@ -32,7 +32,7 @@ returns c =
     let e = places-are L n
     (c .before .before .before .before .before .before .before .before .before .before .before .before .before .before .before .before .before .before
     .before .before .before .before .before .before .before .before .before .before .before .before .before .before .before .before .before .before .before
-    .before .before .before .before .before .before .before .before .before .before .before .before .before .widen .ensures)
+    .before .before .before .before .before .before .before .before .before .before .before .before .before .u32-as-usize .ensures .0)
     (c .before .before .before .before .before .before .before .before .before .before .before .before .before .before .before .before .before .before
     .before .before .before .before .before .before .before .before .before .before .before .before .before .before .before .before .before .before .before
     .before .before .before .before .before .before .before .before .before .before .before .before .before .before .measure .ensures)
@@ -72,7 +72,7 @@ returns-2 c =
     let a = s .args in
     let L = listing (a .count) (a .start .now) (a .len .now) (a .size .now) (a .kind .now) (a .names .now) in
     let n = shortest (a .left .now) (a .right .now) (a .parent .now) (a .height .now) (a .key .now) (a .order .now) (a .place .now) in
-    let e = places-are L n (c .before .before .widen .ensures) (c .before .before .before .measure .ensures) (c .before .have-places .ensures) (c .if1 .left) in
+    let e = places-are L n (c .before .before .u32-as-usize .ensures .0) (c .before .before .before .measure .ensures) (c .before .have-places .ensures) (c .if1 .left) in
     (short-answer L n (a .first .0) _ e, short-lent L (a .first .0) (lent (a .left .now) (a .right .now) (a .parent .now) (a .height .now) (a .key .now) (a .order .now) (a .place .now) (a .out .now)) e)
 
 pub write-list-spec : {M : Type 1} → statement M

@@ -21,7 +21,7 @@ header-by-requires c κs =
     let z = c .before .before .before .before .before .before .before .before .before .before .before in
     let a = z .args in
     headed-at (cols (a .left .now) (a .right .now) (a .place .now) (a .start .now) (a .len .now) (a .size .now) (a .kind .now) (a .names .now))
-    (length (a .out .now)) (a .number) (c .before .widen .result) (z .pre) (c .before .widen .ensures .0)
+    (length (a .out .now)) (a .number) (c .before .u16-as-usize .result) (z .pre) (c .before .u16-as-usize .ensures .0)
 
 returns : tie.Need-returns
 returns c =
@@ -30,9 +30,9 @@ returns c =
     let z = c .before .before .before .before .before .before .before .before .before .before .before .before .before .before .before .before .before .before in
     let a = z .args in
     item-put (a .out .now) _ (cols (a .left .now) (a .right .now) (a .place .now) (a .start .now) (a .len .now) (a .size .now) (a .kind .now) (a .names .now))
-    (a .number) (c .before .before .before .before .before .before .before .before .widen .result) (a .sector .0) _ (w .widen2 .result) _
+    (a .number) (c .before .before .before .before .before .before .before .before .u16-as-usize .result) (a .sector .0) _ (w .u16-as-usize2 .result) _
     (k .header-by .result) (c .before .before .before .before .before .before .before .name-of .result .now)
-    (c .before .before .before .before .before .before .before .before .widen .ensures .0) (w .widen2 .ensures .0) refl
+    (c .before .before .before .before .before .before .before .before .u16-as-usize .ensures .0) (w .u16-as-usize2 .ensures .0) refl
     (c .before .before .before .before .before .before .before .name-of .ensures) refl (k .header-by .ensures) (c .before .before .put-entry .ensures)
 
 pub put-item-spec : {M : Type 1} → statement M
