@@ -22,7 +22,7 @@ use Rattle.table_model.proofs.Geometry as geometry
 use Rattle.table_model.proofs.Places.{FitsAt}
 use Rattle.table_model.proofs.Placing as placing
 use Rattle.table_model.proofs.Placing.{none-far, outcome}
-use Rattle.img_take.proofs.Far.{far-is}
+use Rattle.table_model.proofs.Far.{far-is}
 use Rattle.dirtab_arena.specs.Arena.{Columns}
 use Rattle.dirtab.specs.Serialise as serialise
 use Rattle.dirtab_grow.specs.Grow.{grow}
@@ -134,5 +134,5 @@ module _ (L : Listing) (f : FairList L) where
     pub turn-outcome : (c : Columns) (m : serialise.Lent) → EnoughInTurn L c m
         → WriteOutcome L s (thenAnswer (addAll (givenIn L) (L .count) 0 (emptyIn c (L .bytes))) (λ A. serialise.answerIn A s m))
     turn-outcome c m e =
-        subst (WriteOutcome L s) (same-answer L (length (m .order)) (length (m .place)) (e .order) (e .place) s (L .count) (e .places) c (e .wide) (length (m .out)))
+        subst (WriteOutcome L s) (same-answer L (serialise.placesIn m) (e .scratch) s (L .count) (e .places) c (e .wide) (length (m .out)))
         (whole-outcome (L .count) (m .out) (e .places) (e .output))

@@ -13,6 +13,6 @@ passed : (b : Bool) (x : Told Placing) (p : Placing) → pick b x (refuses 12 []
 passed true x p e = refl
 passed false x p e = let z : _≡_ {A = ℕ} 0 1 = cc in absurd (omega arith)
 
-pub serialised-arena : (A : Arena) (s n m bytes : ℕ) (p : Placing) → serialiseOf A s n m bytes ≡ gives p → isArena A ≡ true
+pub serialised-arena : (A : Arena) (s n bytes : ℕ) (p : Placing) → serialiseOf A s n bytes ≡ gives p → isArena A ≡ true
 unfolding serialiseOf
-serialised-arena A s n m bytes p e = passed (isArena A) _ p e
+serialised-arena A s n bytes p e = passed (isArena A) _ p e

@@ -59,8 +59,7 @@ pub record Enough (L : Listing) (m : Lent) : Type 0 where
 pub record EnoughInTurn (L : Listing) (c : Columns) (m : serialise.Lent) : Type 0 where
   pub places : hasPlaces L (L .count) ≡ true
   pub wide : Wide (L .count) c
-  pub order : L .count ≤ length (m .order)
-  pub place : L .count ≤ length (m .place)
+  pub scratch : L .count ≤ serialise.placesIn m
   pub output : Roomy L (m .out)
 
 -- the sectors that the first n entries take together, and the next free sector after all of a list's, from s on

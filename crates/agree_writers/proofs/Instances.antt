@@ -66,17 +66,17 @@ abc-wrote = record {
 }
 
 -- an arena can be serialised, and its output read where all of it stands
-arena-answer : serialiseOf held 34 3 3 2560 ≡ gives answer
+arena-answer : serialiseOf held 34 3 2560 ≡ gives answer
 unfolding serialiseOf isArena isTaken holdsTree places inside wholeTree decoded treeAt between cellOk toName checkOf anyBad placeOf anyFar items endOf freeOf
     startAfter sectorsFor raised numberOrder listOrder givenOrder givenKeys storedOf
 arena-answer = refl
 
-pub held-wrote : WroteArena held 34 3 3 out answer (serialise.outAfter held 34 3 3 out) (record { 0 = 33 }) region
+pub held-wrote : WroteArena held 34 3 out answer (serialise.outAfter held 34 3 out) (record { 0 = 33 }) region
 held-wrote = record {
   sizes = ones;
   answer = arena-answer;
-  stand = first-stand (serialise.outAfter held 34 3 3 out) (record { 0 = 33 }) (record { 0 = 33 }) 2048 (serialise.outAfter held 34 3 3 out)
-      (record { place = 0; at-sector = refl; rest = []; here = sym (append-nil (serialise.outAfter held 34 3 3 out)) });
+  stand = first-stand (serialise.outAfter held 34 3 out) (record { 0 = 33 }) (record { 0 = 33 }) 2048 (serialise.outAfter held 34 3 out)
+      (record { place = 0; at-sector = refl; rest = []; here = sym (append-nil (serialise.outAfter held 34 3 out)) });
   sized = refl;
 }
 

@@ -74,15 +74,15 @@ module _ (A : Arena) (is : isArena A ≡ true) where
     others = λ i h. times-order i (treeOf A) ∙ all-below (A .count) (treeOf A) i below h;
   }
 
-module _ (A : Arena) (s n m : ℕ) (out : List ℕ) (p : Placing) (w : List ℕ) (first : Sector) (t : Region) (g : WroteArena A s n m out p w first t) where
+module _ (A : Arena) (s n : ℕ) (out : List ℕ) (p : Placing) (w : List ℕ) (first : Sector) (t : Region) (g : WroteArena A s n out p w first t) where
   told : (isArena A ≡ true) × (ifFits (length out) (placeOf (entryAt A) 1 s (treeOf A)) ≡ gives p)
   unfolding serialiseOf
-  told = if-arena (isArena A) (scratchFits A n m) _ p (g .answer)
+  told = if-arena (isArena A) (scratchFits A n) _ p (g .answer)
 
   placed : placeOf (entryAt A) 1 s (treeOf A) ≡ gives p
   placed = fits-gives ifFits (λ k q. refl) (λ k j vs. refl) (length out) (placeOf (entryAt A) 1 s (treeOf A)) p (told .1)
 
-  bytes-are : outAfter A s n m out ≡ tableBytes (entryAt A) 1 s (treeOf A) ++ drop (rounded (p .size)) out
+  bytes-are : outAfter A s n out ≡ tableBytes (entryAt A) 1 s (treeOf A) ++ drop (rounded (p .size)) out
   unfolding outAfter
   bytes-are = rw (g .answer)
 

@@ -26,12 +26,12 @@ pub record WroteList (L : Listing) (shortest s : ℕ) (out : List ℕ) (p : Plac
   pub stand : Stand w first (t .sector) (take (rounded (p .size)) (whole.outAfter L shortest s out))
   pub sized : t .size ≡ p .size
 
--- AN ARENA WAS SERIALISED, the same; n and m are the lengths of the scratch
-pub record WroteArena (A : Arena) (s n m : ℕ) (out : List ℕ) (p : Placing) (w : List ℕ) (first : Sector) (t : Region) :
+-- AN ARENA WAS SERIALISED, the same; n is the length of the shortest column of scratch
+pub record WroteArena (A : Arena) (s n : ℕ) (out : List ℕ) (p : Placing) (w : List ℕ) (first : Sector) (t : Region) :
     Type 0 where
   pub sizes : (i : ℕ) → getD (A .columns .size) i 0 ≤ 4294967295
-  pub answer : serialise.serialiseOf A s n m (length out) ≡ gives p
-  pub stand : Stand w first (t .sector) (take (rounded (p .size)) (serialise.outAfter A s n m out))
+  pub answer : serialise.serialiseOf A s n (length out) ≡ gives p
+  pub stand : Stand w first (t .sector) (take (rounded (p .size)) (serialise.outAfter A s n out))
   pub sized : t .size ≡ p .size
 
 -- a list that adding takes, with a place for each entry in every column

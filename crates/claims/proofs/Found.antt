@@ -91,23 +91,22 @@ turn-kept L s c m p w first t g =
     of-list L (L .count) s (m .out) p w first t
     (record {
       sizes = g .sizes;
-      answer = same-answer L (length (m .order)) (length (m .place)) (g .order) (g .place) s (L .count) (g .places) c (g .wide) (length (m .out)) ∙ g .answer;
+      answer = same-answer L (serialise.placesIn m) (g .scratch) s (L .count) (g .places) c (g .wide) (length (m .out)) ∙ g .answer;
       stand = record {
         place = g .stand .place;
         at-sector = g .stand .at-sector;
         rest = g .stand .rest;
         here = g .stand .here ∙ ap (λ (z : List ℕ). take (rounded (p .size)) z ++ g .stand .rest)
-            (sym (same-output L (length (m .order)) (length (m .place)) (g .order) (g .place) s (L .count) (g .places) c (g .wide) (m .out)));
+            (sym (same-output L (serialise.placesIn m) (g .scratch) s (L .count) (g .places) c (g .wide) (m .out)));
       };
       sized = g .sized;
     })
 
 pub arena-kept : ArenaKept
 arena-kept A s m p w first t g =
-    let n : ℕ = length (m .order) in
-    let k : ℕ = length (m .place) in
-    let q : WroteArena A s n k (m .out) p w first t = record { sizes = g .sizes; answer = g .answer; stand = g .stand; sized = g .sized } in
-    let a = serialised-arena A s n k (length (m .out)) p (g .answer) in
+    let n : ℕ = serialise.placesIn m in
+    let q : WroteArena A s n (m .out) p w first t = record { sizes = g .sizes; answer = g .answer; stand = g .stand; sized = g .sized } in
+    let a = serialised-arena A s n (length (m .out)) p (g .answer) in
     kept w first t (g .stand .place) (A .count) (entryAt A) (items (entryAt A) 1 0 s (treeOf A))
-    (items-length (entryAt A) 1 (treeOf A) 0 s ∙ held A a .size-is) (arena-agrees A s n k (m .out) p w first t q) (arena-each A a s)
-    (arena-strict A s n k (m .out) p w first t q)
+    (items-length (entryAt A) 1 (treeOf A) 0 s ∙ held A a .size-is) (arena-agrees A s n (m .out) p w first t q) (arena-each A a s)
+    (arena-strict A s n (m .out) p w first t q)

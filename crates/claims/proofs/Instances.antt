@@ -168,7 +168,7 @@ wide = record {
 }
 
 pub turn-enough : EnoughInTurn abc cells scratch
-turn-enough = record { places = refl; wide = wide; order = omega arith; place = omega arith; output = inr roomy }
+turn-enough = record { places = refl; wide = wide; scratch = omega arith; output = inr roomy }
 
 abbrev turn-out : List ℕ
 turn-out = thenOutput (addAll (givenIn abc) 3 0 (emptyIn cells (abc .bytes))) (λ A. serialise.lentAfter A 34 scratch .out) out
@@ -178,9 +178,8 @@ turn-read = record {
   sizes = ones;
   places = refl;
   wide = wide;
-  order = omega arith;
-  place = omega arith;
-  answer = sym (same-answer abc 3 3 (omega arith) (omega arith) 34 3 refl cells wide 2048) ∙ abc-answer;
+  scratch = omega arith;
+  answer = sym (same-answer abc 3 (omega arith) 34 3 refl cells wide 2048) ∙ abc-answer;
   stand = first-stand turn-out window-first (record { 0 = 33 }) 2048 turn-out
       (record { place = 0; at-sector = refl; rest = []; here = sym (append-nil turn-out) });
   sized = refl;
@@ -193,7 +192,7 @@ held = arena 1 3
     (columns (65535 ∷ 0 ∷ 65535 ∷ []) (65535 ∷ 2 ∷ 65535 ∷ []) (1 ∷ 65535 ∷ 1 ∷ []) (1 ∷ 2 ∷ 1 ∷ []) (0 ∷ 1 ∷ 2 ∷ []) (1 ∷ 1 ∷ 1 ∷ []) (1 ∷ 1 ∷ 1 ∷ []) (0 ∷ 0 ∷ 0 ∷ []))
     (0x61 ∷ 0x62 ∷ 0x63 ∷ [])
 
-held-answer : serialiseOf held 34 3 3 2048 ≡ gives answer
+held-answer : serialiseOf held 34 3 2048 ≡ gives answer
 unfolding serialiseOf isArena isTaken holdsTree places inside wholeTree decoded treeAt between cellOk toName checkOf anyBad placeOf anyFar items endOf freeOf
     startAfter sectorsFor raised numberOrder listOrder givenOrder givenKeys storedOf
 held-answer = refl

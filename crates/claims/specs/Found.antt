@@ -90,8 +90,7 @@ pub record TurnRead (L : Listing) (s : ℕ) (c : Columns) (m : serialise.Lent) (
   pub sizes : (i : ℕ) → getD (L .size) i 0 ≤ 4294967295
   pub places : hasPlaces L (L .count) ≡ true
   pub wide : Wide (L .count) c
-  pub order : L .count ≤ length (m .order)
-  pub place : L .count ≤ length (m .place)
+  pub scratch : L .count ≤ serialise.placesIn m
   pub answer : thenAnswer (addAll (givenIn L) (L .count) 0 (emptyIn c (L .bytes))) (λ A. serialise.answerIn A s m)
       ≡ gives p
   pub stand : Stand w first (t .sector) (take (rounded (p .size))

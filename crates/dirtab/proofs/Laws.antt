@@ -25,48 +25,48 @@ use Rattle.table_model.proofs.Placing.{place-gives, free-given}
 use Rattle.dirtab_arena.specs.Arena.{Arena, entryAt, isArena, treeOf}
 use Rattle.dirtab.specs.Serialise.{scratchFits, ifFits, ifWritten, serialiseOf, outAfter}
 
-module _ (A : Arena) (s n m bytes : ℕ) where
+module _ (A : Arena) (s n bytes : ℕ) where
   abbrev entry : ℕ → Entry
   entry = entryAt A
 
   abbrev t : Tree
   t = treeOf A
 
-  pub first-12 : isArena A ≡ false → serialiseOf A s n m bytes ≡ refuses 12 []
+  pub first-12 : isArena A ≡ false → serialiseOf A s n bytes ≡ refuses 12 []
   unfolding serialiseOf
   first-12 e = rw e
 
   module _ (is : isArena A ≡ true) where
-    pub then-6 : scratchFits A n m ≡ false → serialiseOf A s n m bytes ≡ refuses 6 []
+    pub then-6 : scratchFits A n ≡ false → serialiseOf A s n bytes ≡ refuses 6 []
     unfolding serialiseOf
-    then-6 e = ap (λ (b : Bool). pick b (pick (scratchFits A n m) (ifFits bytes (placeOf entry 1 s t)) (refuses 6 [])) (refuses 12 [])) is
+    then-6 e = ap (λ (b : Bool). pick b (pick (scratchFits A n) (ifFits bytes (placeOf entry 1 s t)) (refuses 6 [])) (refuses 12 [])) is
         ∙ ap (λ (b : Bool). pick b (ifFits bytes (placeOf entry 1 s t)) (refuses 6 [])) e
 
-    module _ (fit : scratchFits A n m ≡ true) where
-      placing : serialiseOf A s n m bytes ≡ ifFits bytes (placeOf entry 1 s t)
+    module _ (fit : scratchFits A n ≡ true) where
+      placing : serialiseOf A s n bytes ≡ ifFits bytes (placeOf entry 1 s t)
       unfolding serialiseOf
-      placing = ap (λ (b : Bool). pick b (pick (scratchFits A n m) (ifFits bytes (placeOf entry 1 s t)) (refuses 6 [])) (refuses 12 [])) is
+      placing = ap (λ (b : Bool). pick b (pick (scratchFits A n) (ifFits bytes (placeOf entry 1 s t)) (refuses 6 [])) (refuses 12 [])) is
           ∙ ap (λ (b : Bool). pick b (ifFits bytes (placeOf entry 1 s t)) (refuses 6 [])) fit
 
       -- an offset over 4 exceeds 65,535
-      pub then-7 : anyFar (items entry 1 0 s t) ≡ true → serialiseOf A s n m bytes ≡ refuses 7 []
+      pub then-7 : anyFar (items entry 1 0 s t) ≡ true → serialiseOf A s n bytes ≡ refuses 7 []
       unfolding placeOf
       then-7 e = placing ∙ ap (ifFits bytes) {x = placeOf entry 1 s t} {y = refuses 7 []} (rw e)
 
       module _ (near : anyFar (items entry 1 0 s t) ≡ false) where
-        pub then-8 : 4294967295 < freeOf entry 1 s t → serialiseOf A s n m bytes ≡ refuses 8 []
+        pub then-8 : 4294967295 < freeOf entry 1 s t → serialiseOf A s n bytes ≡ refuses 8 []
         unfolding placeOf
         then-8 h = placing ∙ ap (ifFits bytes) {x = placeOf entry 1 s t} {y = refuses 8 []} (rw (near, lt-ltb 4294967295 (freeOf entry 1 s t) h))
 
       module _ (links : AllIn LinkFits (items entry 1 0 s t)) (low : freeOf entry 1 s t ≤ 4294967295) where
-        pub then-9 : bytes < rounded (sizeOf entry t) → serialiseOf A s n m bytes ≡ refuses 9 []
+        pub then-9 : bytes < rounded (sizeOf entry t) → serialiseOf A s n bytes ≡ refuses 9 []
         then-9 h = placing ∙ ap (ifFits bytes) (place-gives entry 1 s t links low) ∙ rw (lt-leb (rounded (sizeOf entry t)) bytes h)
 
-        pub else-given : rounded (sizeOf entry t) ≤ bytes → serialiseOf A s n m bytes ≡ gives (record { size = sizeOf entry t; free = freeOf entry 1 s t })
+        pub else-given : rounded (sizeOf entry t) ≤ bytes → serialiseOf A s n bytes ≡ gives (record { size = sizeOf entry t; free = freeOf entry 1 s t })
         else-given h = placing ∙ ap (ifFits bytes) (place-gives entry 1 s t links low) ∙ rw (le-leb (rounded (sizeOf entry t)) bytes h)
 
   -- where it gives
-  module _ (p : Placing) (given : serialiseOf A s n m bytes ≡ gives p) where
+  module _ (p : Placing) (given : serialiseOf A s n bytes ≡ gives p) where
     fitted : (x : Told Placing) → ifFits bytes x ≡ gives p → (x ≡ gives p) × (rounded (p .size) ≤ bytes)
     fitted (gives q) e = go (leb (rounded (q .size)) bytes) refl e
       where
@@ -80,10 +80,10 @@ module _ (A : Arena) (s n m bytes : ℕ) where
     tests true false x e = let z : _≡_ {A = ℕ} 0 1 = cc in absurd (omega arith)
     tests false b x e = let z : _≡_ {A = ℕ} 0 1 = cc in absurd (omega arith)
 
-    pub given-parts : (isArena A ≡ true) × (scratchFits A n m ≡ true) × (placeOf entry 1 s t ≡ gives p) × (rounded (p .size) ≤ bytes)
+    pub given-parts : (isArena A ≡ true) × (scratchFits A n ≡ true) × (placeOf entry 1 s t ≡ gives p) × (rounded (p .size) ≤ bytes)
     unfolding serialiseOf
     given-parts =
-        let a = tests (isArena A) (scratchFits A n m) (ifFits bytes (placeOf entry 1 s t)) given in
+        let a = tests (isArena A) (scratchFits A n) (ifFits bytes (placeOf entry 1 s t)) given in
         let b = fitted (placeOf entry 1 s t) (a .2) in
         (a .0, a .1, b .0, b .1)
 
@@ -99,11 +99,11 @@ module _ (A : Arena) (s n m bytes : ℕ) where
     sectors-apart = geometry.sectors-apart entry 1 (omega arith) t 0 s
 
 -- THE OUTPUT: the table's bytes and what was past them; unchanged after a refusal
-module _ (A : Arena) (s n m : ℕ) (out : List ℕ) where
-  pub out-given : (p : Placing) → serialiseOf A s n m (length out) ≡ gives p → outAfter A s n m out ≡ tableBytes (entryAt A) 1 s (treeOf A) ++ drop (rounded (p .size)) out
+module _ (A : Arena) (s n : ℕ) (out : List ℕ) where
+  pub out-given : (p : Placing) → serialiseOf A s n (length out) ≡ gives p → outAfter A s n out ≡ tableBytes (entryAt A) 1 s (treeOf A) ++ drop (rounded (p .size)) out
   unfolding outAfter
   out-given p e = ap (λ (x : Told Placing). ifWritten x (tableBytes (entryAt A) 1 s (treeOf A)) out) e
 
-  pub out-refused : (k : ℕ) (vs : List ℕ) → serialiseOf A s n m (length out) ≡ refuses k vs → outAfter A s n m out ≡ out
+  pub out-refused : (k : ℕ) (vs : List ℕ) → serialiseOf A s n (length out) ≡ refuses k vs → outAfter A s n out ≡ out
   unfolding outAfter
   out-refused k vs e = ap (λ (x : Told Placing). ifWritten x (tableBytes (entryAt A) 1 s (treeOf A)) out) e

@@ -11,9 +11,8 @@ use scratch::clear_shorts;
 use units::Sector;
 use widths::u16_as_usize;
 ghost use mathlib.Core.Path.{_≡_};
-ghost use mathlib.Core.Bool.{_&&_};
 ghost use mathlib.Core.List.{[]};
-ghost use Prim.Native.Nat.{_≤_, _<_};
+ghost use Prim.Native.Nat.{_≤_, min};
 ghost use lib.Dec.{leb};
 ghost use lib.ListN.{length, replicate};
 ghost use Rattle.units.specs.Told.{refuses, pick};
@@ -165,7 +164,7 @@ fn clear_both(order: &mut [u16], place: &mut [u16])
 
 // Both columns of scratch have a place for each held node.
 fn has_room(count: u16, n: usize, m: usize) -> bool
-    ensures { λ r. ⌜ r ≡ (leb count n && leb count m) ⌝ }
+    ensures { λ r. ⌜ r ≡ leb count (min n m) ⌝ }
 {
     let k = u16_as_usize(count);
     if n < k {

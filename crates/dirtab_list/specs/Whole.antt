@@ -3,10 +3,10 @@ use Prim.Native.Nat.{ℕ, min}
 use mathlib.Core.Bool.{Bool, _&&_}
 use mathlib.Core.List.{List, [], _∷_}
 use lib.Dec.{leb}
-use lib.ListN.{length, replicate}
+use lib.ListN.{length}
 use denote.Triple.Both.{Both}
 use Rattle.units.specs.Told.{Told, gives, refuses, pick}
-use Rattle.units.specs.Lent.{Slice, was, is}
+use Rattle.units.specs.Lent.{Slice, was, is, clearedIf}
 use Rattle.dirtab_entry.specs.Entry.{numberOf}
 use Rattle.avl_model.specs.Tree.{Tree}
 use Rattle.table_model.specs.Entry.{Entry, entryFor}
@@ -58,7 +58,7 @@ outAfter L n s out =
 
 -- EACH COLUMN OF SCRATCH AFTERWARDS: unchanged after the first 6, else all zero
 unfoldable pub scratchAfter : Listing → ℕ → List ℕ → List ℕ
-scratchAfter L n xs = pick (hasPlaces L n) (replicate (length xs) 0) xs
+scratchAfter L n xs = clearedIf (hasPlaces L n) xs
 
 -- what is lent: seven columns of scratch, and the output
 pub record Lent : Type 0 where

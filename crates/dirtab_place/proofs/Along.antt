@@ -20,20 +20,12 @@ use Rattle.avl_model.specs.Tree.{Tree, leaf, node, δ, cnt}
 use Rattle.avl_model.specs.Laws.{All}
 use Rattle.avl_model.specs.Order.{order}
 use Rattle.avl_model.proofs.Frame.{δ-same, δ-apart}
-use Rattle.table_model.specs.Entry.{Entry, Item, lengthOf}
+use Rattle.table_model.specs.Entry.{Entry, lengthOf}
 use Rattle.table_model.specs.Place.{startAfter, startOf, stopOf, endOf, freeAfter, freeOf, items}
 use Rattle.table_model.specs.Table.{anyFar}
 use Rattle.table_model.proofs.Places.{free-next, free-after}
+use Rattle.table_model.proofs.Far.{far-append}
 use Rattle.dirtab_place.specs.inner.Places.{startIn, stopIn, isFar, endsOver, placesOver, sizeIn, freeIn, freeOver}
-
-pub far-append : (xs ys : List Item) → anyFar (xs ++ ys) ≡ pick (anyFar xs) true (anyFar ys)
-unfolding anyFar
-far-append [] ys = refl
-far-append (x ∷ xs) ys = go (ltb 65535 (x .offset / 4)) (far-append xs ys)
-  where
-    go : (b : Bool) → anyFar (xs ++ ys) ≡ pick (anyFar xs) true (anyFar ys) → pick b true (anyFar (xs ++ ys)) ≡ pick (pick b true (anyFar xs)) true (anyFar ys)
-    go true e = refl
-    go false e = e
 
 three : {A : Type 0} (a b d : Bool) (x y : A) → pick a x (pick b x (pick d x y)) ≡ pick (pick a true (pick b true d)) x y
 three true b d x y = refl

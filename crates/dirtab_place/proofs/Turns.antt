@@ -32,7 +32,7 @@ unfolding startAfter
 moves e n h = rw (lt-leb (e % 2048 + n) 2048 h)
 
 -- what is left of the order, at a number i that was read from it
-cut : (order : List ℕ) (k i : ℕ) → k < length order → i ≡ getD order k 0 → drop k order ≡ i ∷ drop (k + 1) order
+pub cut : (order : List ℕ) (k i : ℕ) → k < length order → i ≡ getD order k 0 → drop k order ≡ i ∷ drop (k + 1) order
 cut order k i h e = rw (e, add-one) (drop-cons order k 0 h)
 
 module _ (len order p₀ p : List ℕ) (e k i n o : ℕ)
@@ -87,20 +87,21 @@ given-low s n r e = low-of (ltb 4294967295 (alignedUp 1 s + sectorsFor n)) _ r _
 
 -- `first` is the counter's number before the loop, and `from` the sector that it was made of
 module _ (size kind order : List ℕ) (first from s k : ℕ) (so-far : freeOver size kind first order ≡ freeOver size kind s (drop k order)) (start : first ≡ from) where
-  module _ (i n : ℕ) (r : Taken) (h : k < length order) (ei : i ≡ getD order k 0) (en : n ≡ sizeIn size kind i) (taken : told r ≡ takeOf 1 s n) where
+  -- b is the size of the entry i, and n the same as a longer number
+  module _ (i b n : ℕ) (r : Taken) (h : k < length order) (ei : i ≡ getD order k 0) (eb : b ≡ sizeIn size kind i) (en : n ≡ b) (taken : told r ≡ takeOf 1 s n) where
     pub overflows : r ≡ SectorOverflow → refuses 8 [] ≡ freeOver size kind from order
     unfolding freeOver
     overflows er =
         let e : refuses 8 [] ≡ takeOf 1 s n = ap told (sym er) ∙ taken in
-        let t : ltb 4294967295 (freeIn size kind s i) ≡ true = lt-ltb _ _ (rw en at (overflow-where-8 1 s n (sym e))) in
+        let t : ltb 4294967295 (freeIn size kind s i) ≡ true = lt-ltb _ _ (rw (en, eb) at (overflow-where-8 1 s n (sym e))) in
         sym (ap (λ (m : ℕ). freeOver size kind m order) (sym start) ∙ so-far ∙ rw (cut order k i h ei, t))
 
     pub next-free : (j : ℕ) (a : Sector) (c : SectorCounter) → j ≡ k + 1 → r ≡ Start a c → freeOver size kind first order ≡ freeOver size kind (c .next .0) (drop j order)
     unfolding freeOver
     next-free j a c ej er =
         let e : takeOf 1 s n ≡ gives (record { start = a .0; free = c .next .0 }) = sym taken ∙ ap told er in
-        let t : ltb 4294967295 (freeIn size kind s i) ≡ false = le-ltb _ _ (rw en at (given-low s n _ e)) in
-        let q : c .next .0 ≡ freeIn size kind s i = rw en at (given-free 1 s n _ e) in
+        let t : ltb 4294967295 (freeIn size kind s i) ≡ false = le-ltb _ _ (rw (en, eb) at (given-low s n _ e)) in
+        let q : c .next .0 ≡ freeIn size kind s i = rw (en, eb) at (given-free 1 s n _ e) in
         so-far ∙ rw (cut order k i h ei, t, ej, q)
 
   pub last-free : (x : ℕ) → x ≡ s → length order ≤ k → gives x ≡ freeOver size kind from order

@@ -1,4 +1,5 @@
-// Places of entries that are given in an order of their numbers: offsets over 4 into a column, and sectors counted.
+// Places of entries that are given in an order of their numbers: offsets over 4 into a column, the size of their
+// table, and sectors counted.
 use dirtab_entry::kind_of;
 use dirtab_entry::stored_size;
 use layout_node::entry_length;
@@ -7,14 +8,15 @@ use layout_sector::Taken;
 use units::Offset;
 use units::Sector;
 use widths::u16_as_usize;
+use widths::u32_as_u64;
 ghost use mathlib.Core.Path.{_≡_};
 ghost use Prim.Native.Nat.{_/_, _≤_, _<_};
 ghost use lib.ListN.{length};
 ghost use Rattle.units.specs.Lent.{was, is};
 ghost use Rattle.layout_node.specs.Header.{entryLength};
 ghost use Rattle.table_model.specs.Place.{startAfter};
-ghost use Rattle.dirtab_place.specs.inner.Places.{Placeable, Countable, Sized, sizeIn, toldEnd, endsOver};
-ghost use Rattle.dirtab_place.specs.inner.Places.{placesOver, toldFree, freeOver};
+ghost use Rattle.dirtab_place.specs.inner.Places.{Placeable, Measurable, Countable, Sized, sizeIn};
+ghost use Rattle.dirtab_place.specs.inner.Places.{toldEnd, endsOver, placesOver, sizeAlong, toldFree, freeOver};
 
 // What placing answers.
 pub enum Ends {
@@ -81,6 +83,25 @@ pub fn place_entries(order: &[u16], len: &[u32], place: &mut [u16]) -> Ends
     Ends::At(e)
 }
 
+// The reported size of a table with entries in this order: the last end, or 2,048 for an empty one.
+pub fn measure(order: &[u16], len: &[u32]) -> u32
+    requires { ⌜ Measurable (now order) (now len) ⌝ }
+    ensures { λ r. ⌜ r ≡ sizeAlong (was len) (was order) ⌝ }
+{
+    if order.len() == 0 {
+        return 2048;
+    }
+    let mut e: u32 = 0;
+    let mut k: usize = 0;
+    while k < order.len() {
+        let i = u16_as_usize(order[k]);
+        let n = length_for(len[i]);
+        e = start_after(e, n) + n;
+        k += 1;
+    }
+    e
+}
+
 // The size that an entry is stored with.
 pub fn stored_at(size: &[u32], kind: &[u8], i: usize) -> u32
     requires { ⌜ Sized (now size) (now kind) i ⌝ }
@@ -98,7 +119,7 @@ pub fn count_sectors(order: &[u16], size: &[u32], kind: &[u8], first: Sector) ->
     let mut k: usize = 0;
     while k < order.len() {
         let bytes = stored_at(size, kind, u16_as_usize(order[k]));
-        match counter.take(bytes as u64) {
+        match counter.take(u32_as_u64(bytes)) {
             Taken::Start(_, next) => {
                 counter = next;
             }

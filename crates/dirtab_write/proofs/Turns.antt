@@ -1,4 +1,4 @@
--- Taking an entry's sectors, a turn of the writing loop and its end, and what a filled buffer comes to. Assumes nothing.
+-- A turn of the writing loop and its end, and what a filled buffer comes to. Assumes nothing.
 use Prim.Native.Nat.{ℕ, suc, _+_, _-_, _*_, _≤_, _<_}
 use mathlib.Core.Path.{_≡_, refl, sym, ap, ap₂, _∙_}
 use mathlib.Core.Bool.{Bool, true, false}
@@ -10,39 +10,13 @@ use lib.ListN.{length, getD, drop, replicate, drop-of-length-le}
 use lib.Seq.{drop-cons}
 use borrow.Author.Tests.{le-ltb, ltb-false}
 use Rattle.units.specs.Told.{Told, gives, refuses, pick}
-use Rattle.units.specs.declared.Sector.{Sector}
 use Rattle.layout_bytes.specs.inner.Bytes.{putAt}
-use Rattle.layout_sector.specs.declared.SectorCounter.{SectorCounter}
-use Rattle.layout_sector.specs.declared.Taken.{Taken}
-use Rattle.layout_sector.specs.declared.Taken.the-variants.{Start, SectorOverflow}
-use Rattle.layout_sector.specs.Counter.{Run, sectorsFor, alignedUp, told, takeOf}
-use Rattle.layout_sector.proofs.Laws.{given-start, given-free, overflow-where-8}
+use Rattle.layout_sector.specs.Counter.{alignedUp}
 use Rattle.table_model.specs.Entry.{Item}
 use Rattle.table_model.specs.inner.Writing.{stored, Spaced, writtenOver}
 use Rattle.table_model.proofs.Writing.{written-none, written-next}
-use Rattle.dirtab_place.specs.inner.Places.{sizeIn, freeIn, freeOver}
+use Rattle.dirtab_place.specs.inner.Places.{freeIn, freeOver}
 use Rattle.dirtab_write.specs.inner.Columns.{Cols, itemBy, itemsBy, putAll, Numbered, Writes}
-
--- taking what an entry's size takes; j is its number as an index
-module _ (size kind : List ℕ) (s i j n : ℕ) (r : Taken) (ej : j ≡ i) (en : n ≡ sizeIn size kind j) (taken : told r ≡ takeOf 1 s n) where
-  size-is : n ≡ sizeIn size kind i
-  size-is = en ∙ ap (sizeIn size kind) ej
-
-  module _ (a : Sector) (c : SectorCounter) (er : r ≡ Start a c) where
-    gave : takeOf 1 s n ≡ gives (record { start = a .0; free = c .next .0 })
-    gave = sym taken ∙ ap told er
-
-    pub taken-start : a .0 ≡ alignedUp 1 s
-    taken-start = given-start 1 s n _ gave
-
-    pub taken-free : c .next .0 ≡ freeIn size kind s i
-    taken-free = given-free 1 s n _ gave ∙ ap (λ (m : ℕ). alignedUp 1 s + sectorsFor m) size-is
-
-  -- where they can be taken, it is not refused
-  pub never-over : freeIn size kind s i ≤ 4294967295 → r ≡ SectorOverflow → ⊥
-  never-over h er =
-      let over : 4294967295 < alignedUp 1 s + sectorsFor n = overflow-where-8 1 s n (sym taken ∙ ap told er) in
-      omega (arith, ap (λ (m : ℕ). alignedUp 1 s + sectorsFor m) size-is)
 
 -- what is left of the order at its next number
 cut : (order : List ℕ) (k : ℕ) → k < length order → drop k order ≡ getD order k 0 ∷ drop (k + 1) order

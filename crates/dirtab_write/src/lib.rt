@@ -13,6 +13,7 @@ use layout_sector::Taken;
 use units::Link;
 use units::Sector;
 use widths::u16_as_usize;
+use widths::u32_as_u64;
 ghost use mathlib.Core.Path.{_≡_};
 ghost use mathlib.Core.List.{_++_};
 ghost use Prim.Native.Nat.{_+_, _*_, _≤_, _<_};
@@ -135,7 +136,7 @@ fn put_node(
         (was names)) (alignedUp 1 (counter .next .0)) number)) ⌝ }
 {
     let bytes = stored_at(size, kind, u16_as_usize(number));
-    match counter.take(bytes as u64) {
+    match counter.take(u32_as_u64(bytes)) {
         Taken::Start(sector, next) => {
             put_item(
                 out,

@@ -1,7 +1,6 @@
 -- What the proofs of sizing one table stand on.
 pub mod Sizes
 pub mod Fitting
-pub mod Lengths
 pub mod Treed
 pub mod Outcomes
 pub mod Measuring

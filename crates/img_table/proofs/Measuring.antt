@@ -11,16 +11,17 @@ use Rattle.avl_model.specs.Order.{order}
 use Rattle.avl_model.proofs.Avl.{all-map}
 use Rattle.dirtab_entry.specs.declared.Cause.{Cause}
 use Rattle.dirtab_entry.specs.Entry.{numberOf}
+use Rattle.dirtab_place.specs.inner.Places.{sizeAlong, Measurable}
 use Rattle.dirtab_place.proofs.Along.{SameLength}
 use Rattle.dirtab_place.proofs.Named.{name-long}
+use Rattle.dirtab_place.proofs.Lengths.{size-along}
 use Rattle.dirtab_write.proofs.Bridge.{in-order}
 use Rattle.img_model.specs.Shares.{Share}
 use Rattle.img_model.specs.Plan.{givenAt, entryIn, treeIn}
 use Rattle.img_model.proofs.Passed.{fine, count-few, numbers}
 use Rattle.img_table.specs.declared.Arranged.{Arranged}
 use Rattle.img_table.specs.declared.Arranged.the-variants as arranged
-use Rattle.img_table.specs.inner.Arranging.{sizeAlong, Measurable, Ordered, Arrangement, Measured}
-use Rattle.img_table.proofs.Lengths.{size-along}
+use Rattle.img_table.specs.inner.Arranging.{Ordered, Arrangement, Measured}
 
 -- what was arranged
 pub was-done : {r : Arranged} (g : Told Tree) (listed : List ℕ) → r ≡ arranged.Done → Arrangement r g listed → Ordered g listed

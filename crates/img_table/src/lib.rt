@@ -3,8 +3,7 @@ use avl_order::preorder;
 use dirtab_entry::Cause;
 use dirtab_grow::Built;
 use dirtab_grow::build;
-use layout_node::entry_length;
-use widths::u16_as_usize;
+use dirtab_place::measure;
 use widths::u32_as_u64;
 use widths::u64_as_usize;
 ghost use mathlib.Core.Path.{_≡_};
@@ -15,10 +14,8 @@ ghost use lib.Dec.{eqb};
 ghost use lib.ListN.{length, getD};
 ghost use Rattle.units.specs.Told.{pick};
 ghost use Rattle.units.specs.Lent.{was, is};
-ghost use Rattle.layout_node.specs.Header.{entryLength};
-ghost use Rattle.table_model.specs.Place.{startAfter};
 ghost use Rattle.img_model.specs.Plan.{tableIn, sizeAt, treeIn};
-ghost use Rattle.img_table.specs.inner.Arranging.{shareBy, fitting, sizeAlong, Fillable, Arrangeable, Measurable};
+ghost use Rattle.img_table.specs.inner.Arranging.{shareBy, fitting, Fillable, Arrangeable};
 ghost use Rattle.img_table.specs.inner.Arranging.{Arrangement, Sizing};
 
 // What arranging a directory's entries answers: their preorder is there, or one of them is refused, by its number.
@@ -117,44 +114,6 @@ fn arrange(
             Arranged::Done
         }
     }
-}
-
-// Where an entry of n bytes ends after what ends at e.
-fn stop_after(e: u32, n: u32) -> u32
-    requires { ⌜ (e ≤ 4294960000) × (n ≤ 272) ⌝ }
-    ensures { λ r. ⌜ r ≡ startAfter e n + n ⌝ }
-{
-    if e % 2048 + n <= 2048 {
-        return e + n;
-    }
-    (e + 2047) / 2048 * 2048 + n
-}
-
-// The length of an entry whose name has so many bytes.
-fn length_for(n: u32) -> u32
-    requires { ⌜ n ≤ 255 ⌝ }
-    ensures { λ r. ⌜ (r ≡ entryLength n) × (r ≤ 272) ⌝ }
-{
-    entry_length(n as u8)
-}
-
-// The reported size of a table with entries in this order: the last end, or 2,048 for an empty one.
-fn measure(order: &[u16], len: &[u32]) -> u32
-    requires { ⌜ Measurable (now order) (now len) ⌝ }
-    ensures { λ r. ⌜ r ≡ sizeAlong (was len) (was order) ⌝ }
-{
-    if order.len() == 0 {
-        return 2048;
-    }
-    let mut e: u32 = 0;
-    let mut k: usize = 0;
-    while k < order.len() {
-        let i = u16_as_usize(order[k]);
-        let n = length_for(len[i]);
-        e = stop_after(e, n);
-        k += 1;
-    }
-    e
 }
 
 // The size of a directory's table, and its preorder into `order`.

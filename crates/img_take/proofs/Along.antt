@@ -10,9 +10,14 @@ use lib.ListN.{length, getD, set, drop, drop-of-length-le}
 use lib.Seq.{drop-cons}
 use borrow.Author.Tests.{eq-eqb, ne-eqb}
 use Rattle.units.specs.Told.{pick}
-use Rattle.layout_sector.specs.Counter.{sectorsFor}
-use Rattle.layout_sector.proofs.Laws.{aligned-one}
-use Rattle.dirtab_place.specs.inner.Places.{sizeIn}
+use Rattle.units.specs.declared.Sector.{Sector}
+use Rattle.layout_sector.specs.declared.SectorCounter.{SectorCounter}
+use Rattle.layout_sector.specs.declared.Taken.{Taken}
+use Rattle.layout_sector.specs.declared.Taken.the-variants.{Start, SectorOverflow}
+use Rattle.layout_sector.specs.Counter.{sectorsFor, alignedUp, told, takeOf}
+use Rattle.layout_sector.proofs.Laws.{aligned-above, given-free, overflow-where-8}
+use Rattle.dirtab_place.specs.inner.Places.{sizeIn, freeIn}
+use Rattle.dirtab_place.proofs.Taking.{taken-start, taken-free, never-over}
 use Rattle.dirtab_place.proofs.Along.{SameSize}
 use Rattle.img_model.specs.Shares.{Request, shareOf, firstOf}
 use Rattle.img_model.specs.Plan.{Taking, entriesAt, takingAll}
@@ -29,6 +34,17 @@ pub few-sectors : (n : ℕ) → n ≤ 4294967295 → sectorsFor n ≤ 2097152
 unfolding sectorsFor
 few-sectors n h = few-by n (eqb n 0) h
 
+-- ---- the root table
+
+module _ (n m : ℕ) (r : Taken) (s : ℕ) (first : s ≡ 33) (en : n ≡ m) (taken : told r ≡ takeOf 1 s n) where
+  pub root-free : (a : Sector) (c : SectorCounter) → r ≡ Start a c → c .next .0 ≡ 33 + sectorsFor m
+  root-free a c er = given-free 1 s n _ (sym taken ∙ ap told er) ∙ ap₂ (λ (s n : ℕ). alignedUp 1 s + sectorsFor n) first en
+
+  pub root-fits : n < 4294967296 → r ≡ SectorOverflow → ⊥
+  root-fits h er =
+      let over : 4294967295 < alignedUp 1 s + sectorsFor n = overflow-where-8 1 s n (sym taken ∙ ap told er) in
+      omega (arith, few-sectors n (omega arith))
+
 -- ---- an entry that names a directory
 
 pub named-is : (tables : List ℕ) (kind value sector at : ℕ) → kind ≡ 1 → at ≡ value → set tables at sector ≡ pick (eqb kind 1) (set tables value sector) tables
@@ -39,12 +55,20 @@ named-none tables new kind k = sym (ap (λ (b : Bool). pick b new tables) (ne-eq
 
 -- ---- one entry
 
-pub one-taken : (kind value size tables sectors tables₁ sectors₁ : List ℕ) (f i free k v z n r : ℕ) → tables₁ ≡ pick (eqb k 1) (set tables v free) tables → k ≡ getD kind i 0 → v ≡ getD value i 0
-    → sectors₁ ≡ set sectors (f + i) free → z ≡ sizeIn size kind i → n ≡ sectorsFor z → r ≡ free + n → taking tables₁ sectors₁ r ≡ takeOne kind value size f (taking tables sectors free) i
-one-taken kind value size tables sectors tables₁ sectors₁ f i free k v z n r et ek ev es ez en er = rw (et, ek, ev, es, er, en, ez)
+-- b is its size, n the same as a longer number, and r what taking answered
+module _ (kind value size : List ℕ) (f i s b n : ℕ) (r : Taken) (eb : b ≡ sizeIn size kind i) (en : n ≡ b) (taken : told r ≡ takeOf 1 s n) where
+  pub one-taken : (tables sectors tables₁ sectors₁ : List ℕ) (x y k v : ℕ) (a : Sector) (c : SectorCounter) → r ≡ Start a c → x ≡ a .0 → y ≡ a .0
+      → tables₁ ≡ pick (eqb k 1) (set tables v y) tables → k ≡ getD kind i 0 → v ≡ getD value i 0 → sectors₁ ≡ set sectors (f + i) x
+      → taking tables₁ sectors₁ (c .next .0) ≡ takeOne kind value size f (taking tables sectors s) i
+  one-taken tables sectors tables₁ sectors₁ x y k v a c er ex ey et ek ev es =
+      let start : a .0 ≡ alignedUp 1 s = taken-start size kind s i i b n r refl eb en taken a c er in
+      let x-is : x ≡ alignedUp 1 s = ex ∙ start in
+      let y-is : y ≡ alignedUp 1 s = ey ∙ start in
+      let free : c .next .0 ≡ freeIn size kind s i = taken-free size kind s i i b n r refl eb en taken a c er in
+      rw (et, ek, ev, es, x-is, y-is, free)
 
-pub one-low : (free n z s : ℕ) → n ≡ sectorsFor z → z ≡ s → free + sectorsFor s ≤ 4294967295 → free + n ≤ 4294967295
-one-low free n z s en ez h = let e : n ≡ sectorsFor s = en ∙ ap sectorsFor ez in omega arith
+  pub one-over : freeIn size kind s i ≤ 4294967295 → r ≡ SectorOverflow → ⊥
+  one-over = never-over size kind s i i b n r refl eb en taken
 
 -- ---- turn by turn
 
@@ -60,7 +84,7 @@ module _ (kind value size : List ℕ) (f : ℕ) where
   pub along-more : (p : Taking) (is : List ℕ) → p .free ≤ takeAlong kind value size f p is .free
   unfolding takeAlong
   along-more p [] = omega arith
-  along-more p (i ∷ is) = omega (arith, along-more (takeOne kind value size f p i) is)
+  along-more p (i ∷ is) = omega (arith, along-more (takeOne kind value size f p i) is, aligned-above 1 (p .free) (omega arith))
 
   -- `so-far`: what is left of the order is taken from p on
   module _ (order : List ℕ) (p₀ p : Taking) (k i : ℕ) (so-far : takeAlong kind value size f p₀ order ≡ takeAlong kind value size f p (drop k order)) (i-is : i ≡ getD order k 0) where
@@ -87,11 +111,11 @@ module _ (R : Request) (s : List ℕ) (d : ℕ) (size : List ℕ) where
   one-is : (p : Taking) (i : ℕ) → SameSize (entriesAt R s d) size (shareOf R d .kind) i
       → plan.taking R s d p i ≡ takeOne (shareOf R d .kind) (shareOf R d .value) size (firstOf R d) p i
   one-is p i e =
-      ap₂ (λ (a n : ℕ). record {
-        tables = pick (eqb (getD (shareOf R d .kind) i 0) 1) (set (p .tables) (getD (shareOf R d .value) i 0) a) (p .tables);
-        sectors = set (p .sectors) (firstOf R d + i) a;
-        free = a + sectorsFor n;
-      }) (aligned-one (p .free)) e
+      ap (λ (n : ℕ). record {
+        tables = pick (eqb (getD (shareOf R d .kind) i 0) 1) (set (p .tables) (getD (shareOf R d .value) i 0) (alignedUp 1 (p .free))) (p .tables);
+        sectors = set (p .sectors) (firstOf R d + i) (alignedUp 1 (p .free));
+        free = alignedUp 1 (p .free) + sectorsFor n;
+      }) e
 
   pub along-is : (p : Taking) (is : List ℕ) → ((k : ℕ) → k < length is → SameSize (entriesAt R s d) size (shareOf R d .kind) (getD is k 0))
       → takingAll R s d p is ≡ takeAlong (shareOf R d .kind) (shareOf R d .value) size (firstOf R d) p is

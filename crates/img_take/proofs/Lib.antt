@@ -1,5 +1,4 @@
 -- Laws that going forward over an image's directories goes by, and that its answers are told one-to-one.
-pub mod Far
 pub mod Trees
 pub mod Counting
 pub mod Cut

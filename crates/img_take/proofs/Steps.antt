@@ -11,12 +11,12 @@ use Rattle.avl_model.specs.Tree.{Tree}
 use Rattle.avl_model.specs.Order.{order}
 use Rattle.table_model.specs.Place.{freeOf, items}
 use Rattle.table_model.specs.Table.{Placing, anyFar, sizeOf, placeOf}
+use Rattle.table_model.proofs.Far.{far-is}
 use Rattle.img_model.specs.Shares.{Request, shareOf}
 use Rattle.img_model.specs.Plan.{tableIn, treeIn, ifGrown, Taking, entriesAt, takingAll, ifPlaced, takingUp}
 use Rattle.img_model.proofs.Passed.{all-fit}
 use Rattle.img_model.proofs.Takings.{free-taken}
 use Rattle.img_take.specs.inner.Forward.{taking, freeTold, limited}
-use Rattle.img_take.proofs.Far.{far-is}
 
 -- go on with what is given
 abbrev pub andThen : {A B : Type 0} → Told A → (A → Told B) → Told B

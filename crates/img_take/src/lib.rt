@@ -5,7 +5,7 @@ use dirtab_place::count_sectors;
 use dirtab_place::stored_at;
 use img_table::fill_sizes;
 use layout_sector::SectorCounter;
-use layout_sector::required_sectors;
+use layout_sector::Taken;
 use units::Sector;
 use widths::u16_as_usize;
 use widths::u32_as_u64;
@@ -44,18 +44,15 @@ fn entry_at(order: &[u16], k: usize) -> usize
     u16_as_usize(order[k])
 }
 
-// The sectors that a size of four bytes takes.
-fn sectors_for(size: u32) -> u32
-    ensures { λ r. ⌜ (r ≡ sectorsFor size) × (r ≤ 2097152) ⌝ }
+// The counter past the root table, which stands first. (Four bytes hold no size with which the last arm is met.)
+fn take_root(size: u32) -> SectorCounter
+    ensures { λ r. ⌜ r .next .0 ≡ 33 + sectorsFor size ⌝ }
 {
-    required_sectors(u32_as_u64(size)) as u32
-}
-
-// The next free sector after the root table, which stands first.
-fn free_after_root(size: u32) -> Sector
-    ensures { λ r. ⌜ r .0 ≡ 33 + sectorsFor size ⌝ }
-{
-    Sector::new(SectorCounter::FIRST + sectors_for(size))
+    let first = SectorCounter::new();
+    match first.take(u32_as_u64(size)) {
+        Taken::Start(_, next) => next,
+        Taken::SectorOverflow => first,
+    }
 }
 
 // The next free sector after the entries of one directory, which are in preorder.
@@ -133,7 +130,7 @@ pub fn check_tables(
         toldFitting r ≡ freeTold (takingUp (requestOf w) (was sized) (length (was from)) 0
         (rooted (requestOf w) (was sized) tables sectors))) ⌝ }
 {
-    let mut free = free_after_root(sized[0]);
+    let mut free = take_root(sized[0]).next_free();
     let mut to = end;
     let mut d = 0;
     while d < from.len() {
@@ -160,48 +157,55 @@ fn name_table(kind: u8, value: u64, sector: u32, tables: &mut [u32])
     }
 }
 
-// The entry i of the directory whose first stands at f takes its sectors from `free` on: the next free sector.
+// The entry i of the directory whose first stands at f takes its sectors: the counter past them. (That they can be
+// taken is asked, so that the last arm is never met.)
 fn take_entry(
     i: usize,
     kind: &[u8],
     value: &[u64],
     size: &[u32],
     f: usize,
-    free: u32,
+    counter: SectorCounter,
     tables: &mut [u32],
     sectors: &mut [u32],
-) -> u32
+) -> SectorCounter
     requires { ⌜ Enters (now kind) (now value) (now size) f i (length (now tables)) (length (now sectors)) ⌝ }
-    requires { ⌜ takeOne (now kind) (now value) (now size) f (taking (now tables) (now sectors) free) i .free ≤
-        4294967295 ⌝ }
-    ensures { λ r. ⌜ taking (is tables) (is sectors) r
-        ≡ takeOne (was kind) (was value) (was size) f (taking (was tables) (was sectors) free) i ⌝ }
+    requires { ⌜ takeOne (now kind) (now value) (now size) f (taking (now tables) (now sectors) (counter .next .0)) i
+        .free ≤ 4294967295 ⌝ }
+    ensures { λ r. ⌜ taking (is tables) (is sectors) (r .next .0)
+        ≡ takeOne (was kind) (was value) (was size) f (taking (was tables) (was sectors) (counter .next .0)) i ⌝ }
 {
-    sectors[f + i] = free;
-    name_table(kind[i], value[i], free, tables);
-    free + sectors_for(stored_at(size, kind, i))
+    let bytes = stored_at(size, kind, i);
+    match counter.take(u32_as_u64(bytes)) {
+        Taken::Start(start, next) => {
+            sectors[f + i] = start.number();
+            name_table(kind[i], value[i], start.number(), tables);
+            next
+        }
+        Taken::SectorOverflow => counter,
+    }
 }
 
-// The entries of the directory whose first stands at f take their sectors in the order given, from `free` on: the
-// next free sector.
+// The entries of the directory whose first stands at f take their sectors in the order given: the counter past them.
 fn take_entries(
     order: &[u16],
     kind: &[u8],
     value: &[u64],
     size: &[u32],
     f: usize,
-    free: u32,
+    counter: SectorCounter,
     tables: &mut [u32],
     sectors: &mut [u32],
-) -> u32
+) -> SectorCounter
     requires { ⌜ EntersAll (now order) (now kind) (now value) (now size) f (length (now tables))
         (length (now sectors)) ⌝ }
-    requires { ⌜ takeAlong (now kind) (now value) (now size) f (taking (now tables) (now sectors) free) (now order)
-        .free ≤ 4294967295 ⌝ }
-    ensures { λ r. ⌜ taking (is tables) (is sectors) r
-        ≡ takeAlong (was kind) (was value) (was size) f (taking (was tables) (was sectors) free) (was order) ⌝ }
+    requires { ⌜ takeAlong (now kind) (now value) (now size) f (taking (now tables) (now sectors) (counter .next .0))
+        (now order) .free ≤ 4294967295 ⌝ }
+    ensures { λ r. ⌜ taking (is tables) (is sectors) (r .next .0)
+        ≡ takeAlong (was kind) (was value) (was size) f (taking (was tables) (was sectors) (counter .next .0))
+        (was order) ⌝ }
 {
-    let mut next = free;
+    let mut next = counter;
     let mut k: usize = 0;
     while k < order.len() {
         next = take_entry(
@@ -230,19 +234,20 @@ fn take_table(
     sized: &[u32],
     order: &[u16],
     size: &mut [u32],
-    free: u32,
+    counter: SectorCounter,
     tables: &mut [u32],
     sectors: &mut [u32],
-) -> u32
+) -> SectorCounter
     requires { ⌜ Turn (now from) (now share) (now kind) (now value) (now sized) (now order) (length (now size)) d to
         × ((length (now tables) ≡ length (now from)) × (length (now sectors) ≡ length (now kind))) ⌝ }
     requires { ⌜ ((w : Sized (now from) (now share) (now kind) (now value) (now sized) (now order)
         (length (now size))) × ((p : Taking)
-        × (takingUp (requestOf w) (now sized) 1 d (taking (now tables) (now sectors) free) ≡ gives p))) ⌝ }
+        × (takingUp (requestOf w) (now sized) 1 d (taking (now tables) (now sectors) (counter .next .0))
+        ≡ gives p))) ⌝ }
     ensures { λ r. ⌜ ((w : Sized (was from) (was share) (was kind) (was value) (was sized) (was order)
         (length (was size))) (p : Taking) →
-        takingUp (requestOf w) (was sized) 1 d (taking (was tables) (was sectors) free) ≡ gives p →
-        taking (is tables) (is sectors) r ≡ p) ⌝ }
+        takingUp (requestOf w) (was sized) 1 d (taking (was tables) (was sectors) (counter .next .0)) ≡ gives p →
+        taking (is tables) (is sectors) (r .next .0) ≡ p) ⌝ }
 {
     let f = u32_as_usize(from[d]);
     let n = u32_as_usize(share[d]);
@@ -253,7 +258,7 @@ fn take_table(
         &value[f..f + n],
         size,
         f,
-        free,
+        counter,
         tables,
         sectors,
     )
@@ -285,11 +290,11 @@ pub fn take_tables(
         (is tables ≡ p .tables) × (is sectors ≡ p .sectors)) ⌝ }
 {
     tables[0] = SectorCounter::FIRST;
-    let mut free = free_after_root(sized[0]).number();
+    let mut counter = take_root(sized[0]);
     let mut to = end;
     let mut d: usize = 0;
     while d < from.len() {
-        free = take_table(
+        counter = take_table(
             d,
             to,
             from,
@@ -299,7 +304,7 @@ pub fn take_tables(
             sized,
             order,
             size,
-            free,
+            counter,
             tables,
             sectors,
         );

@@ -1,5 +1,5 @@
 -- `serialise` meets its contract: each way out is one of what the arena test and the room of the scratch say.
-use Prim.Native.Nat.{ℕ, _≤_}
+use Prim.Native.Nat.{ℕ, min, _≤_}
 use mathlib.Core.Path.{_≡_, refl, sym, _∙_}
 use native.Mathlib.Omega.{arith}
 use lib.ListN.{length}
@@ -33,8 +33,7 @@ returns c =
     let is = c .before .before .before .before .before .before .before .before .before .before .before .before .before .before .before .before .before .before .before .before .is-arena in
     let fit = c .before .before .before .before .before .before .before .before .before .before .before .before .before .before .before .before .before .before .before .has-room in
     let s = a .first .0 in
-    let n = length (a .order .now) in
-    let m = length (a .place .now) in
+    let n = min (length (a .order .now)) (length (a .place .now)) in
     let y = is .result in
     let f = fit .result in
     let ye = is .ensures in
@@ -51,11 +50,11 @@ returns c =
     )) in
     let w = c .before .before .before .before .before .before .before .before .before .before .before .before .before .write-held in
     let k = c .before .before .before .before .clear-both in (
-      held-answer A s n m y f ye fe room yes (w .result) (length (a .out .now)) (w .ensures .0 (treeOf A) held),
+      held-answer A s n y f ye fe room yes (w .result) (length (a .out .now)) (w .ensures .0 (treeOf A) held),
       join
-          (cleared A s n m y f ye fe room (a .order .now) _ (length (w .last .1 .1 .1 .1 .1 .1 .1 .1 .1 .0)) (w .kept .1 .1 .1 .1 .1 .1 .1 .1 .1 .0) (k .ensures .0))
-          (cleared A s n m y f ye fe room (a .place .now) _ (length (w .last .1 .1 .1 .1 .1 .1 .1 .1 .1 .1 .0)) (w .kept .1 .1 .1 .1 .1 .1 .1 .1 .1 .1 .0) (k .ensures .1))
-          (held-out A s n m y f ye fe room yes (a .out .now) _ (w .ensures .1 (treeOf A) held)),
+          (cleared A s n y f ye fe room (a .order .now) _ (length (w .last .1 .1 .1 .1 .1 .1 .1 .1 .1 .0)) (w .kept .1 .1 .1 .1 .1 .1 .1 .1 .1 .0) (k .ensures .0))
+          (cleared A s n y f ye fe room (a .place .now) _ (length (w .last .1 .1 .1 .1 .1 .1 .1 .1 .1 .1 .0)) (w .kept .1 .1 .1 .1 .1 .1 .1 .1 .1 .1 .0) (k .ensures .1))
+          (held-out A s n y f ye fe room yes (a .out .now) _ (w .ensures .1 (treeOf A) held)),
     )
 
 returns-2 : tie.Need-returns-2
@@ -66,8 +65,7 @@ returns-2 c =
     let is = c .before .before .before .before .before .before .before .before .before .before .is-arena in
     let fit = c .before .before .before .before .before .before .before .before .before .has-room in
     let s = a .first .0 in
-    let n = length (a .order .now) in
-    let m = length (a .place .now) in
+    let n = min (length (a .order .now)) (length (a .place .now)) in
     let y = is .result in
     let f = fit .result in
     let ye = is .ensures in
@@ -75,11 +73,11 @@ returns-2 c =
     let no = c .before .before .before .before .before .before .before .if2 .left in
     let room = c .before .before .before .before .before .before .before .before .if1 .taken in
     let k = c .before .before .before .before .clear-both2 in (
-      bad-answer A s n m y f ye fe room no (length (a .out .now)),
+      bad-answer A s n y f ye fe room no (length (a .out .now)),
       join
-          (cleared A s n m y f ye fe room (a .order .now) _ (length (a .order .now)) refl (k .ensures .0))
-          (cleared A s n m y f ye fe room (a .place .now) _ (length (a .place .now)) refl (k .ensures .1))
-          (bad-out A s n m y f ye fe room no (a .out .now)),
+          (cleared A s n y f ye fe room (a .order .now) _ (length (a .order .now)) refl (k .ensures .0))
+          (cleared A s n y f ye fe room (a .place .now) _ (length (a .place .now)) refl (k .ensures .1))
+          (bad-out A s n y f ye fe room no (a .out .now)),
     )
 
 returns-3 : tie.Need-returns-3
@@ -90,18 +88,17 @@ returns-3 c =
     let is = c .before .before .before .is-arena in
     let fit = c .before .before .has-room in
     let s = a .first .0 in
-    let n = length (a .order .now) in
-    let m = length (a .place .now) in
+    let n = min (length (a .order .now)) (length (a .place .now)) in
     let y = is .result in
     let f = fit .result in
     let ye = is .ensures in
     let fe = fit .ensures in
     let short = c .before .if1 .left in (
-      short-answer A s n m y f ye fe short (c .refuse-short .result) (length (a .out .now)) (c .refuse-short .ensures),
+      short-answer A s n y f ye fe short (c .refuse-short .result) (length (a .out .now)) (c .refuse-short .ensures),
       join
-          (short-scratch A s n m y f ye fe short (a .order .now))
-          (short-scratch A s n m y f ye fe short (a .place .now))
-          (short-out A s n m y f ye fe short (a .out .now)),
+          (short-scratch A s n y f ye fe short (a .order .now))
+          (short-scratch A s n y f ye fe short (a .place .now))
+          (short-out A s n y f ye fe short (a .out .now)),
     )
 
 pub serialise-spec : {M : Type 1} → statement M

@@ -32,6 +32,16 @@ unfoldable pub endsOver : List ℕ → ℕ → List ℕ → Told ℕ
 endsOver len e [] = gives e
 endsOver len e (i ∷ is) = pick (isFar len e i) (refuses 7 []) (endsOver len (stopIn len e i) is)
 
+-- where they end, whether or not 7 is met
+unfoldable pub endAlong : List ℕ → ℕ → List ℕ → ℕ
+endAlong len e [] = e
+endAlong len e (i ∷ is) = endAlong len (stopIn len e i) is
+
+-- the reported size of a table with entries in this order: the last end, or 2,048 where there is no entry
+unfoldable pub sizeAlong : List ℕ → List ℕ → ℕ
+sizeAlong len [] = 2048
+sizeAlong len (i ∷ is) = endAlong len 0 (i ∷ is)
+
 -- a column with the offset over 4 of each stored at its number, as far as none exceeds 65,535
 unfoldable pub placesOver : List ℕ → ℕ → List ℕ → List ℕ → List ℕ
 placesOver len e [] p = p
@@ -56,6 +66,12 @@ freeOver size kind s (i ∷ is) =
 pub record Placeable (order len : List ℕ) (places : ℕ) : Type 0 where
   pub in-len : (k : ℕ) → k < length order → getD order k 0 < length len
   pub in-place : (k : ℕ) → k < length order → getD order k 0 < places
+  pub short : (k : ℕ) → k < length order → getD len (getD order k 0) 0 ≤ 255
+
+-- what measuring takes of an order: not more than 16,384 numbers, each with a name of at most 255 bytes
+pub record Measurable (order len : List ℕ) : Type 0 where
+  pub few : length order ≤ 16384
+  pub in-len : (k : ℕ) → k < length order → getD order k 0 < length len
   pub short : (k : ℕ) → k < length order → getD len (getD order k 0) 0 ≤ 255
 
 -- a number has a size, which can be rounded if it is a directory's

@@ -10,7 +10,6 @@ use Rattle.avl_model.specs.Tree.{Tree}
 use Rattle.avl_model.specs.Order.{order}
 use Rattle.table_model.specs.Table.{sizeOf}
 use Rattle.dirtab_entry.specs.Entry.{numberOf}
-use Rattle.dirtab_place.specs.inner.Places.{stopIn}
 use Rattle.img_model.specs.Shares.{Share, isDirectory, valueOf}
 use Rattle.img_model.specs.Plan.{entryIn, treeIn}
 use Rattle.img_table.specs.declared.Arranged.{Arranged}
@@ -27,22 +26,6 @@ shareBy start len kind value bytes =
 unfoldable pub fitting : (ℕ → ℕ) → ℕ → ℕ → ℕ
 fitting size zero i = i
 fitting size (suc k) i = pick (ltb 4294967295 (size i)) i (fitting size k (i + 1))
-
--- where the entries of an order end, after what ends at e; `len` has the lengths of the names
-unfoldable pub endAlong : List ℕ → ℕ → List ℕ → ℕ
-endAlong len e [] = e
-endAlong len e (i ∷ is) = endAlong len (stopIn len e i) is
-
--- the reported size: the last end, or 2,048 where there is no entry
-unfoldable pub sizeAlong : List ℕ → List ℕ → ℕ
-sizeAlong len [] = 2048
-sizeAlong len (i ∷ is) = endAlong len 0 (i ∷ is)
-
--- what measuring takes of an order: not more than 16,384 numbers, each with a name of at most 255 bytes
-pub record Measurable (order len : List ℕ) : Type 0 where
-  pub few : length order ≤ 16384
-  pub in-len : (k : ℕ) → k < length order → getD order k 0 < length len
-  pub short : (k : ℕ) → k < length order → getD len (getD order k 0) 0 ≤ 255
 
 -- a share's directories have a size in a column of so many
 abbrev pub Known : Share → ℕ → Type 0

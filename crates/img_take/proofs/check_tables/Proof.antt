@@ -1,6 +1,7 @@
 -- `check_tables` meets its contract. The loop's invariant: the rest of the directories comes to what all come to.
 use borrow.Author.Needs.{needs}
-use mathlib.Core.Path.{_≡_, refl}
+use native.Mathlib.Omega.{arith}
+use mathlib.Core.Path.{_≡_, refl, _∙_}
 use Prim.Native.Nat.{_+_, _-_}
 use lib.ListN.{length, getD, drop}
 use Rattle.layout_sector.specs.Counter.{sectorsFor}
@@ -18,7 +19,7 @@ abbrev μ-loop : tie.MeasureT-loop
 μ-loop from share kind value sized order size₀ end free₀ to₀ d₀ size free to d = length from - d
 
 loop-holds : tie.Need-loop-holds Inv-loop μ-loop
-loop-holds c = (search needs, (refl, checked-start (search needs)))
+loop-holds c = (search needs, (refl, checked-start (c .next-free .ensures ∙ c .before .take-root .ensures)))
 
 check-table-requires : tie.Need-check-table-requires Inv-loop μ-loop
 check-table-requires c κs = search turn-at
@@ -28,6 +29,9 @@ returns c = λ w tables sectors. search checked-far
 
 returns-2 : tie.Need-returns-2 Inv-loop μ-loop
 returns-2 c = λ w tables sectors. search checked-over
+
+shared-slice-read-u32-as-usize : tie.Need-shared-slice-read-u32-as-usize Inv-loop μ-loop
+shared-slice-read-u32-as-usize c = omega (arith, c .before .before .before .before .before .before .before .before .before .before .before .before .before .before .before .before .before .before .before .before .pre .0 .sizeable .shared, c .before .before .before .before .before .before .before .before .loop-test .taken)
 
 sub-to : tie.Need-sub-to Inv-loop μ-loop
 sub-to c = search to-room
@@ -49,7 +53,7 @@ returns-3 : tie.Need-returns-3 Inv-loop μ-loop
 returns-3 c = λ w tables sectors. search checked-end
 
 pub check-tables-spec : {M : Type 1} → statement M
-check-tables-spec = tie.close (tie.spec Inv-loop μ-loop (λ c. search needs) (λ c κs. search needs) loop-holds
+check-tables-spec = tie.close (tie.spec Inv-loop μ-loop (λ c. search needs) (λ c κs. search needs) (λ c κs. search needs) loop-holds
     check-table-requires (λ c. search needs) (λ c. search needs) returns (λ c. search needs) (λ c. search needs)
-    returns-2 (λ c. search needs) (λ c. search needs) (λ c. search needs) (λ c κs. search needs) sub-to
+    returns-2 (λ c. search needs) (λ c. search needs) shared-slice-read-u32-as-usize (λ c κs. search needs) sub-to
     (λ c. search needs) (λ c. search needs) loop-again (λ c. search needs) returns-3)

@@ -9,12 +9,12 @@ use Rattle.img_take.proofs.take_entries.Statement.{statement}
 use Rattle.img_take.proofs.take_entries.Tie as tie
 
 abbrev Inv-loop : tie.InvT-loop
-Inv-loop order kind value size f free tables₀ sectors₀ next₀ k₀ tables sectors next k =
-    (takeAlong kind value size f (taking tables₀ sectors₀ free) order ≡ takeAlong kind value size f (taking tables sectors next) (drop k order))
+Inv-loop order kind value size f tables₀ sectors₀ next₀ k₀ tables sectors next k =
+    (takeAlong kind value size f (taking tables₀ sectors₀ (next₀ .next .0)) order ≡ takeAlong kind value size f (taking tables sectors (next .next .0)) (drop k order))
     × ((length tables ≡ length tables₀) × (length sectors ≡ length sectors₀))
 
 abbrev μ-loop : tie.MeasureT-loop
-μ-loop order kind value size f free tables₀ sectors₀ next₀ k₀ tables sectors next k = length order - k
+μ-loop order kind value size f tables₀ sectors₀ next₀ k₀ tables sectors next k = length order - k
 
 loop-holds : tie.Need-loop-holds Inv-loop μ-loop
 loop-holds c = (refl, (refl, refl))

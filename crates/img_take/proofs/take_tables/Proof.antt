@@ -13,22 +13,22 @@ use Rattle.img_take.proofs.take_tables.Statement.{statement}
 use Rattle.img_take.proofs.take_tables.Tie as tie
 
 abbrev Inv-loop : tie.InvT-loop
-Inv-loop from share kind value sized order size₀ end tables₀ sectors₀ free₀ to₀ d₀ size tables sectors free to d =
+Inv-loop from share kind value sized order size₀ end tables₀ sectors₀ counter₀ to₀ d₀ size tables sectors counter to d =
     (to ≡ total (drop d share))
     × ((length size ≡ length size₀)
     × ((length tables ≡ length from)
     × ((length sectors ≡ length kind)
-    × TakenSo from share kind value sized order (length size₀) d (taking tables₀ sectors₀ (33 + sectorsFor (getD sized 0 0))) (taking tables sectors free))))
+    × TakenSo from share kind value sized order (length size₀) d (taking tables₀ sectors₀ (33 + sectorsFor (getD sized 0 0))) (taking tables sectors (counter .next .0)))))
 
 abbrev μ-loop : tie.MeasureT-loop
-μ-loop from share kind value sized order size₀ end tables₀ sectors₀ free₀ to₀ d₀ size tables sectors free to d = length from - d
+μ-loop from share kind value sized order size₀ end tables₀ sectors₀ counter₀ to₀ d₀ size tables sectors counter to d = length from - d
 
 loop-holds : tie.Need-loop-holds Inv-loop μ-loop
-loop-holds c = (search needs, (refl, (search needs, (search needs, taken-start (c .number .ensures ∙ c .before .free-after-root .ensures)))))
+loop-holds c = (search needs, (refl, (search needs, (search needs, taken-start (c .take-root .ensures)))))
 
 take-table-requires : tie.Need-take-table-requires Inv-loop μ-loop
 take-table-requires c κs =
-    let z = c .before .before .before .before .before .before .before .before .before .before .before .before .before .before .before .before .before in
+    let z = c .before .before .before .before .before .before .before .before .before .before .before .before .before .before .before .before in
     let v = c .before .before .before .before .loop .inv in
     let h = c .before .before .before .loop-test .taken in
     let s = taken-split (v .1 .1 .1 .1) h (z .pre .0 .0) (z .pre .0 .1 .0) (z .pre .0 .1 .1) in
@@ -39,17 +39,30 @@ shared-slice-read-u32-as-usize c =
     omega (
       arith,
       c .before .before .before .before .before .before .before .before .before .before .before .before .before .before .before .before .before
-          .before .before .before .before .before .before .before .before .pre .0 .0 .sizeable .shared,
+          .before .before .before .before .before .before .before .pre .0 .0 .sizeable .shared,
       c .before .before .before .before .before .before .before
           .before .before .before .before .loop-test .taken,
     )
 
 sub-to : tie.Need-sub-to Inv-loop μ-loop
-sub-to c = search to-room
+sub-to c = omega (
+  arith,
+  to-room (c .before .before .before .before .before .before .before .before .before .before .before .before .before .before .before .before .before .before .before .before .before .before .before .before .before .pre .0 .0)
+      (c .before .before .before .before .before .before .before .before .before .before .before .before .loop-test .taken) (c .before .before .before .before .before .before .before .before .before .before .before .before .before .loop .inv .0) (c .u32-as-usize .ensures .0),
+)
+
+add-d : tie.Need-add-d Inv-loop μ-loop
+add-d c = omega (
+  arith,
+  c .before .before .before .before .before .before .before .before .before .before .before .before .before .before .before .before .before .before .before .before .before .before .before .before .before
+      .pre .0 .0 .sizeable .few,
+  c .before .before .before .before .before .before .before .before .before .before .before .before .loop-test .taken,
+)
 
 loop-again : tie.Need-loop-again Inv-loop μ-loop
 loop-again c = (
-  search to-next,
+  to-next (c .before .before .before .before .before .before .before .before .before .before .before .before .before .before .before .before .before .before .before .before .before .before .before .before .before .pre .0 .0)
+      (c .before .before .before .before .before .before .before .before .before .before .before .before .loop-test .taken) (c .before .before .before .before .before .before .before .before .before .before .before .before .before .loop .inv .0) (c .u32-as-usize .ensures .0) refl,
   (
     search needs,
     (
@@ -69,7 +82,7 @@ returns : tie.Need-returns Inv-loop μ-loop
 returns c = λ w p e. let q = taken-end (c .before .loop .inv .1 .1 .1 .1) (c .loop-test .left) w p e in (ap (λ (y : Taking). y .tables) q, ap (λ (y : Taking). y .sectors) q)
 
 pub take-tables-spec : {M : Type 1} → statement M
-take-tables-spec = tie.close (tie.spec Inv-loop μ-loop (λ c. search needs) (λ c. search needs) (λ c κs. search needs)
+take-tables-spec = tie.close (tie.spec Inv-loop μ-loop (λ c. search needs) (λ c. search needs)
     (λ c κs. search needs) loop-holds take-table-requires (λ c. search needs) shared-slice-read-u32-as-usize
-    (λ c κs. search needs) sub-to (λ c. search needs) (λ c. search needs) loop-again (λ c. search needs)
+    (λ c κs. search needs) sub-to add-d (λ c. search needs) loop-again (λ c. search needs)
     (λ c. search needs) (λ c. search needs) returns)

@@ -6,11 +6,11 @@ use mathlib.Core.List.{List, [], _∷_}
 use lib.Dec.{ltb, eqb}
 use lib.ListN.{length, getD, set, drop}
 use Rattle.units.specs.Told.{Told, gives, refuses, pick}
-use Rattle.layout_sector.specs.Counter.{sectorsFor}
+use Rattle.layout_sector.specs.Counter.{alignedUp}
 use Rattle.avl_model.specs.Tree.{Tree}
 use Rattle.avl_model.specs.Order as preorder
 use Rattle.table_model.specs.Entry.{Entry}
-use Rattle.dirtab_place.specs.inner.Places.{sizeIn}
+use Rattle.dirtab_place.specs.inner.Places.{freeIn}
 use Rattle.dirtab_place.specs.inner.Places as places
 use Rattle.img_model.specs.Shares.{Request, columns}
 use Rattle.img_model.specs.Plan.{Taking, total, tableIn, entryIn, treeIn}
@@ -83,9 +83,9 @@ limited f = pick (ltb 4294967295 f) (refuses 8 []) (gives f)
 -- the entry i of a directory whose first entry stands at f takes its sectors, over slices of the columns
 abbrev pub takeOne : List ℕ → List ℕ → List ℕ → ℕ → Taking → ℕ → Taking
 takeOne kind value size f p i = record {
-  tables = pick (eqb (getD kind i 0) 1) (set (p .tables) (getD value i 0) (p .free)) (p .tables);
-  sectors = set (p .sectors) (f + i) (p .free);
-  free = p .free + sectorsFor (sizeIn size kind i);
+  tables = pick (eqb (getD kind i 0) 1) (set (p .tables) (getD value i 0) (alignedUp 1 (p .free))) (p .tables);
+  sectors = set (p .sectors) (f + i) (alignedUp 1 (p .free));
+  free = freeIn size kind (p .free) i;
 }
 
 -- the entries of an order take theirs

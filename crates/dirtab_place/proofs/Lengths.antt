@@ -1,11 +1,9 @@
 -- The end of entries along an order: step by step, and along a tree's preorder it is the table's. Assumes nothing.
-use Prim.Native.Nat.{ℕ, _+_, _*_, _/_, _%_, _≤_, _<_}
+use Prim.Native.Nat.{ℕ, _+_, _*_, _≤_, _<_}
 use native.Mathlib.Omega.{arith}
-use native.Mathlib.Numerals.{add-one}
 use mathlib.Core.Path.{_≡_, refl, sym, ap, _∙_}
 use mathlib.Core.List.{List, [], _∷_, _++_, append-assoc, append-nil}
 use lib.ListN.{length, getD, drop, drop-of-length-le}
-use lib.Seq.{drop-cons}
 use Rattle.layout_node.specs.Header.{entryLength}
 use Rattle.avl_model.specs.Tree.{Tree, leaf, node}
 use Rattle.avl_model.specs.Laws.{All}
@@ -13,16 +11,9 @@ use Rattle.avl_model.specs.Order.{order}
 use Rattle.table_model.specs.Entry.{Entry}
 use Rattle.table_model.specs.Place.{startAfter, stopOf, endOf}
 use Rattle.table_model.specs.Table.{sizeOf}
 use Rattle.dirtab_place.proofs.Along.{SameLength}
-use Rattle.dirtab_place.proofs.Turns.{stays, moves, start-most}
-use Rattle.img_table.specs.inner.Arranging.{endAlong, sizeAlong}
-
--- where an entry ends
-pub stops-here : (e n r : ℕ) → e % 2048 + n ≤ 2048 → r ≡ e + n → r ≡ startAfter e n + n
-stops-here e n r h q = q ∙ ap (λ (o : ℕ). o + n) (stays e n h)
-
-pub stops-there : (e n r : ℕ) → 2048 < e % 2048 + n → r ≡ (e + 2047) / 2048 * 2048 + n → r ≡ startAfter e n + n
-stops-there e n r h q = q ∙ ap (λ (o : ℕ). o + n) (moves e n h)
+use Rattle.dirtab_place.proofs.Turns.{cut, start-most}
+use Rattle.dirtab_place.specs.inner.Places.{endAlong, sizeAlong}
 
 pub no-size : (len is : List ℕ) → length is ≡ 0 → 2048 ≡ sizeAlong len is
 unfolding sizeAlong
@@ -36,19 +27,18 @@ some-size len (i ∷ is) h = refl
 
 -- `so-far`: the entries before the k-th end at e
 module _ (len is : List ℕ) (e k : ℕ) (so-far : endAlong len 0 is ≡ endAlong len e (drop k is)) where
-  pub end-next : (j i n r : ℕ) → j ≡ k + 1 → k < length is → i ≡ getD is k 0 → n ≡ entryLength (getD len i 0) → r ≡ startAfter e n + n → endAlong len 0 is ≡ endAlong len r (drop j is)
+  pub end-next : (j i n o : ℕ) → j ≡ k + 1 → k < length is → i ≡ getD is k 0 → n ≡ entryLength (getD len i 0) → o ≡ startAfter e n → endAlong len 0 is ≡ endAlong len (o + n) (drop j is)
   unfolding endAlong
-  end-next j i n r ej h ei en er =
-      let q : drop k is ≡ i ∷ drop (k + 1) is = rw (ei, add-one) (drop-cons is k 0 h) in
-      so-far ∙ rw (q, ej, er, en)
+  end-next j i n o ej h ei en eo =
+      so-far ∙ rw (cut is k i h ei, ej, eo, en)
 
   pub end-last : (length is ≡ 0 → ⊥) → length is ≤ k → e ≡ sizeAlong len is
   unfolding endAlong
   end-last some h = sym (sym (some-size len is some) ∙ so-far ∙ rw (drop-of-length-le is h))
 
 -- an entry takes less than a sector and its own bytes
-pub end-most : (e k j n r : ℕ) → e ≤ 2320 * k → j ≡ k + 1 → n ≤ 272 → r ≡ startAfter e n + n → r ≤ 2320 * j
-end-most e k j n r h ej hn er = omega (arith, start-most e n (startAfter e n) hn refl)
+pub end-most : (e k j n o : ℕ) → e ≤ 2320 * k → j ≡ k + 1 → n ≤ 272 → o ≡ startAfter e n → o + n ≤ 2320 * j
+end-most e k j n o h ej hn eo = omega (arith, start-most e n o hn eo)
 
 -- `entry` says the entries whose names have the lengths of the column
 module _ (entry : ℕ → Entry) (len : List ℕ) where

@@ -1,19 +1,29 @@
--- 7 BY THE SIZE ALONE: an offset over 4 exceeds 65,535 exactly where the reported size exceeds 262,144, since 262,144 is a sector line and no entry
--- crosses it. Assumes nothing.
+-- 7 BY THE SIZE ALONE, for every alignment: an offset over 4 exceeds 65,535 exactly where the reported size exceeds 262,144, since 262,144 is a sector line
+-- and no entry crosses it. Assumes nothing.
 use Prim.Native.Nat.{ℕ, _+_, _/_, _%_, _≤_, _<_}
 use native.Mathlib.Omega.{arith}
 use mathlib.Core.Path.{_≡_, refl, sym, ap, _∙_}
 use mathlib.Core.Bool.{Bool, true, false}
+use mathlib.Core.List.{List, [], _∷_, _++_}
 use lib.Dec.{ltb}
 use borrow.Author.Tests.{lt-ltb, le-ltb, ltb-true, ltb-false}
 use Rattle.units.specs.Told.{pick}
 use Rattle.avl_model.specs.Tree.{Tree, leaf, node}
 use Rattle.avl_model.specs.Laws.{All}
-use Rattle.table_model.specs.Entry.{Entry, lengthOf}
+use Rattle.table_model.specs.Entry.{Entry, Item, lengthOf}
 use Rattle.table_model.specs.Place.{startOf, stopOf, endOf, freeAfter, freeOf, items}
 use Rattle.table_model.specs.Table.{anyFar, sizeOf}
 use Rattle.table_model.proofs.Places.{FitsAt, start-at, end-after}
-use Rattle.dirtab_place.proofs.Along.{far-append}
+
+-- of items one after another
+pub far-append : (xs ys : List Item) → anyFar (xs ++ ys) ≡ pick (anyFar xs) true (anyFar ys)
+unfolding anyFar
+far-append [] ys = refl
+far-append (x ∷ xs) ys = go (ltb 65535 (x .offset / 4)) (far-append xs ys)
+  where
+    go : (b : Bool) → anyFar (xs ++ ys) ≡ pick (anyFar xs) true (anyFar ys) → pick b true (anyFar (xs ++ ys)) ≡ pick (pick b true (anyFar xs)) true (anyFar ys)
+    go true e = refl
+    go false e = e
 
 -- an entry that starts before the line ends by it
 by-line : (o n : ℕ) → o % 2048 + n ≤ 2048 → o < 262144 → o + n ≤ 262144

@@ -5,11 +5,11 @@ use Prim.Native.Nat.{_*_, _-_, _≤_}
 use mathlib.Core.Path.{_≡_, refl}
 use native.Mathlib.Omega.{arith}
 use lib.ListN.{length, drop}
-use Rattle.dirtab_place.proofs.Turns.{in-at, short-at}
-use Rattle.img_table.specs.inner.Arranging.{endAlong}
-use Rattle.img_table.proofs.Lengths.{no-size, end-next, end-last, end-most}
-use Rattle.img_table.proofs.measure.Statement.{statement}
-use Rattle.img_table.proofs.measure.Tie as tie
+use Rattle.dirtab_place.proofs.Turns.{in-at, short-at, start-most}
+use Rattle.dirtab_place.specs.inner.Places.{endAlong}
+use Rattle.dirtab_place.proofs.Lengths.{no-size, end-next, end-last, end-most}
+use Rattle.dirtab_place.proofs.measure.Statement.{statement}
+use Rattle.dirtab_place.proofs.measure.Tie as tie
 
 abbrev Inv-loop : tie.InvT-loop
 Inv-loop order len e₀ k₀ e k = (k ≤ length order) × ((e ≤ 2320 * k) × (endAlong len 0 order ≡ endAlong len e (drop k order)))
@@ -38,4 +38,5 @@ returns-2 c = search end-last
 pub measure-spec : {M : Type 1} → statement M
 measure-spec = tie.close (tie.spec Inv-loop μ-loop returns loop-holds (λ c. search needs) (λ c. search needs)
     (λ c κs. search needs) (λ c. search needs) shared-slice-read-length-for length-for-requires (λ c κs. search needs)
-    (λ c. search needs) (λ c. search needs) loop-again returns-2)
+    (λ c. omega (arith, start-most _ _ _ (c .before .length-for .ensures .1) (c .start-after .ensures))) (λ c. search needs)
+    (λ c. search needs) loop-again returns-2)
