@@ -9,8 +9,8 @@ use Rattle.img_model.specs.Plan.{total}
 use Rattle.img_table.specs.declared.Arranged.{Arranged}
 use Rattle.img_table.specs.declared.Arranged.the-variants as arranged
 
--- what is asked of the columns of scratch: a size for each directory, places of the tree for each share, and places for all
--- the orders
+-- what is asked of the columns of scratch: a size for each directory, places of the tree for each share, and places
+-- for all the orders
 pub record Roomy (R : Request) (sizes left right parent height key size orders : ℕ) : Type 0 where
   pub sizes-are : sizes ≡ directoriesOf R
   pub l : (d : ℕ) → d < directoriesOf R → countOf R d ≤ left
