@@ -1,7 +1,5 @@
 -- The ways out of the functions, laws of serialising, small arenas by computing, and that answers are told one-to-one.
 pub mod Listed
-pub mod Rooted
-pub mod FromArena
 pub mod Ways
 pub mod Told
 pub mod Laws

@@ -26,7 +26,8 @@ use Rattle.dirtab_place.specs.inner.Places.{endsOver, placesOver, freeOver, Pla
 use Rattle.dirtab_write.specs.inner.Columns.{Cols, cols, itemsBy, Spaces}
 use Rattle.dirtab_write.proofs.Bridge as bridge
 use Rattle.dirtab.specs.Serialise.{ifFits, ifWritten}
-use Rattle.dirtab.specs.inner.Steps.{entriesIn, sizeFrom, writingOf, writingOut, Listing}
+use Rattle.dirtab_held.specs.inner.Held.{entriesIn, Listing}
+use Rattle.dirtab.specs.inner.Steps.{sizeFrom, writingOf, writingOut}
 
 pub empty-size : (e : ℕ) → e ≡ 0 → 2048 ≡ sizeFrom e
 unfolding sizeFrom

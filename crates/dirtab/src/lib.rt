@@ -1,7 +1,7 @@
 // A table is written: from an arena, or from a whole list in one call.
-use avl_order::preorder;
 use dirtab_arena::Held;
 use dirtab_arena::is_arena;
+use dirtab_held::list_held;
 use dirtab_place::Counted;
 use dirtab_place::Ends;
 use dirtab_place::count_sectors;
@@ -21,8 +21,8 @@ ghost use Rattle.dirtab_entry.specs.Entry.{rounded};
 ghost use Rattle.avl_model.specs.Tree.{Tree};
 ghost use Rattle.dirtab_arena.specs.Arena.{arenaIn};
 ghost use Rattle.dirtab.specs.Serialise.{told, memory, answerIn, lentAfter};
-ghost use Rattle.dirtab.specs.inner.Steps.{lentEntries, sizeFrom, writingOf, writingOut, Listing, Listed, Rooted};
-ghost use Rattle.dirtab.specs.inner.Steps.{RootedIn};
+ghost use Rattle.dirtab_held.specs.inner.Held.{lentEntries, Listing, Listed, Rooted, RootedIn};
+ghost use Rattle.dirtab.specs.inner.Steps.{sizeFrom, writingOf, writingOut};
 
 // What serialising answers.
 pub enum Serialised {
@@ -136,8 +136,8 @@ pub fn write_held(
         ⌜ ((t : Tree) → RootedIn left right start len size kind names (tree .root) (tree .count) t →
         is out ≡ writingOut entry (first .0) t (was out)) ⌝ }
 {
+    list_held(tree, left, right, order);
     let n = u16_as_usize(tree.count);
-    preorder(&left[..n], &right[..n], tree.root, order);
     write_listed(
         &order[..n],
         left,

@@ -14,7 +14,8 @@ use Rattle.table_model.specs.Entry.{Entry}
 use Rattle.table_model.specs.Place.{freeOf, items}
 use Rattle.table_model.specs.Table.{Placing, anyFar, sizeOf, placeOf, tableBytes}
 use Rattle.dirtab.specs.Serialise.{ifFits, ifWritten}
-use Rattle.dirtab.specs.inner.Steps.{Rooted, writingOf, writingOut}
+use Rattle.dirtab_held.specs.inner.Held.{Rooted}
+use Rattle.dirtab.specs.inner.Steps.{writingOf, writingOut}
 use Rattle.dirtab_grow.specs.declared.Built.{Built}
 use Rattle.dirtab_grow.specs.declared.Built.the-variants as built
 use Rattle.dirtab_grow.specs.Listing.{Listing, givenIn}

@@ -11,7 +11,7 @@ use Rattle.avl_model.proofs.Adding.{links-of, below}
 use Rattle.avl_model.proofs.Avl.{at-most-22}
 use Rattle.avl_model.proofs.Counted.{all-at, each-size}
 use Rattle.dirtab_arena.proofs.Fine.{Fine, fine-of}
-use Rattle.dirtab.specs.inner.Steps.{Rooted}
+use Rattle.dirtab_held.specs.inner.Held.{Rooted}
 use Rattle.dirtab_grow.specs.Listing.{Listing, givenIn}
 use Rattle.dirtab_grow.specs.Grow.{orderIn, grow}
 use Rattle.dirtab_grow.specs.inner.Growing.{Holding}

@@ -4,7 +4,7 @@ use mathlib.Core.Path.{_≡_, refl, sym, _∙_}
 use native.Mathlib.Omega.{arith}
 use lib.ListN.{length}
 use Rattle.dirtab_arena.specs.Arena.{columns, arena, treeOf}
-use Rattle.dirtab.proofs.FromArena.{rooted}
+use Rattle.dirtab_held.proofs.FromArena.{rooted}
 use Rattle.dirtab.proofs.Ways.{join, short-answer, short-out, short-scratch, cleared, bad-answer, bad-out, held-answer, held-out, both-fit}
 use borrow.Author.Needs.{needs}
 use Rattle.dirtab.proofs.serialise.Statement.{statement}

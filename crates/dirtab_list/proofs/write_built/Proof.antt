@@ -1,7 +1,7 @@
 -- `write_built` meets its contract: what `write_held` answers and leaves, of the tree that was built.
 use mathlib.Core.Path.{_∙_}
 use native.Mathlib.Omega.{arith}
-use Rattle.dirtab.specs.inner.Steps.{entriesIn}
+use Rattle.dirtab_held.specs.inner.Held.{entriesIn}
 use Rattle.dirtab_list.proofs.Ends.{writing-12, rooted-at}
 use borrow.Author.Needs.{needs}
 use Rattle.dirtab_list.proofs.write_built.Statement.{statement}

@@ -9,7 +9,7 @@ use Rattle.avl_arena.proofs.Complete.{held-low, held-once}
 use Rattle.avl_model.proofs.Adding.{links-of}
 use Rattle.dirtab_arena.proofs.Passed.{size-places, kind-places, held, each-fine, inside-at}
 use Rattle.dirtab_arena.specs.Arena.{Arena, listsOf, namesOf, isArena, treeOf}
-use Rattle.dirtab.specs.inner.Steps.{Rooted}
+use Rattle.dirtab_held.specs.inner.Held.{Rooted}
 
 module _ (A : Arena) (is : isArena A ≡ true) where
   abbrev n : ℕ
