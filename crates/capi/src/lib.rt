@@ -9,20 +9,21 @@
 //
 // `was x`, `is x`, `m .entry` and `m .exit` are as in `xdvdfs`: at the call, and at the return.
 //
-// Each function makes the call, and a `store_` function of `capi_cells` puts the answer where it belongs.
-use capi_cells::number_of_written;
-use capi_cells::store_added;
+// Each function makes the call, and a `store_` function of `capi_cells` or `capi_written` puts the answer where it
+// belongs.
 use capi_cells::store_checked;
 use capi_cells::store_descriptor;
 use capi_cells::store_entry;
 use capi_cells::store_looked;
 use capi_cells::store_name;
 use capi_cells::store_path;
-use capi_cells::store_planned;
-use capi_cells::store_serialised;
-use capi_cells::store_taken;
 use capi_cells::store_walked;
-use capi_cells::store_written;
+use capi_written::number_of_written;
+use capi_written::store_added;
+use capi_written::store_planned;
+use capi_written::store_serialised;
+use capi_written::store_taken;
+use capi_written::store_written;
 use xdvdfs::Descriptor;
 use xdvdfs::Entry;
 use xdvdfs::Held;
@@ -46,12 +47,13 @@ ghost use Rattle.read_lookup.specs.Lookup as lookup;
 ghost use Rattle.read_path.specs.Path as following;
 ghost use Rattle.read_walk.specs.Walk as walking;
 ghost use Rattle.strict_rule.specs.Strict as checking;
-ghost use Rattle.capi_cells.specs.Cells.{ofGiven, ofSome, isSome, ofRefusal, atOffset, atFault, afterHeaders};
-ghost use Rattle.capi_cells.specs.Cells.{ofEntry, ofPlanned, ofDirectory, nameStart};
-ghost use Rattle.capi_cells.specs.Parts.{placedFields, placedAt, foundFields, foundPlace, foundOffset};
-ghost use Rattle.capi_cells.specs.Parts.{foundHeaders, rootSector, rootSize, itself, grownRoot, grownCount};
-ghost use Rattle.capi_cells.specs.Parts.{tableSize, nextFree, runStart, runFree};
 ghost use Rattle.capi.specs.Given.{sectorOf, regionOf, descriptorOf, entryOf};
+ghost use Rattle.capi_cells.specs.Cells.{ofGiven, ofSome, isSome, ofRefusal, atOffset, atFault, afterHeaders};
+ghost use Rattle.capi_cells.specs.Cells.{nameStart};
+ghost use Rattle.capi_cells.specs.Parts.{placedFields, placedAt, foundFields, foundPlace, foundOffset, foundHeaders};
+ghost use Rattle.capi_cells.specs.Parts.{rootSector, rootSize, itself};
+ghost use Rattle.capi_written.specs.Parts.{ofEntry, ofPlanned, ofDirectory, grownRoot, grownCount, tableSize};
+ghost use Rattle.capi_written.specs.Parts.{nextFree, runStart, runFree};
 
 // The sector, and the table, that numbers stand for.
 fn sector_of(n: u32) -> Sector

@@ -8,10 +8,7 @@ use Rattle.units.specs.Told.{Told, gives, refuses, numberOf, pick}
 use Rattle.units.specs.declared.Sector.{Sector}
 use Rattle.units.specs.declared.Region.{Region}
 use Rattle.read_entry.specs.Links.{isIn}
-use Rattle.dirtab_entry.specs.declared.Cause.{Cause}
-use Rattle.dirtab_entry.specs.Entry as given
-use Rattle.dirtab_entry.proofs.Told.{each-number}
-use Rattle.capi_cells.specs.Cells.{ofGiven, ofSome, ofRefusal, firstOr, ofEntry, ofPlanned, ofDirectory}
+use Rattle.capi_cells.specs.Cells.{ofGiven, ofSome, ofRefusal, firstOr}
 
 -- an answer that gives x
 pub given-number : {A : Type 0} {t : Told A} {x : A} → t ≡ gives x → 0 ≡ numberOf t
@@ -58,19 +55,6 @@ same false old = refl
 
 pub refused-bare : {A : Type 0} (numbers : List ℕ) (old : ℕ) {t : Told A} {k : ℕ} → t ≡ refuses k [] → old ≡ ofRefusal numbers t old
 refused-bare numbers old {k = k} e = same (isIn k numbers) old ∙ ap (λ u. ofRefusal numbers u old) (sym e)
-
--- every cause's number carries an entry, in a list and in a plan, and none a directory
-pub cause-listed : (c : Cause) → isIn (given.numberOf c) ofEntry ≡ true
-unfolding isIn
-cause-listed = each-number (λ k. isIn k ofEntry ≡ true) refl refl refl refl refl refl
-
-pub cause-planned : (c : Cause) → isIn (given.numberOf c) ofPlanned ≡ true
-unfolding isIn
-cause-planned = each-number (λ k. isIn k ofPlanned ≡ true) refl refl refl refl refl refl
-
-pub cause-no-directory : (c : Cause) → isIn (given.numberOf c) ofDirectory ≡ false
-unfolding isIn
-cause-no-directory = each-number (λ k. isIn k ofDirectory ≡ false) refl refl refl refl refl refl
 
 -- what is said of t is said of what it is equal to
 pub number-by : {A : Type 0} {t u : Told A} {n : ℕ} → t ≡ u → n ≡ numberOf t → n ≡ numberOf u

@@ -42,17 +42,6 @@ atFault = 23 ∷ 24 ∷ 30 ∷ 31 ∷ 32 ∷ []
 abbrev pub afterHeaders : List ℕ
 afterHeaders = 22 ∷ []
 
--- the refusals that carry the number of an entry in its list (a 6 for a column that is too short carries none)
-abbrev pub ofEntry : List ℕ
-ofEntry = 1 ∷ 2 ∷ 3 ∷ 4 ∷ 5 ∷ 6 ∷ []
-
--- the refusals of a plan that carry the place of an entry in the list, and those that carry a directory's number
-abbrev pub ofPlanned : List ℕ
-ofPlanned = 1 ∷ 2 ∷ 3 ∷ 4 ∷ 5 ∷ 6 ∷ 10 ∷ []
-
-abbrev pub ofDirectory : List ℕ
-ofDirectory = 7 ∷ 8 ∷ []
-
 -- where the name of an entry starts in a window, or the window's end
 abbrev pub nameStart : List ℕ → ℕ → ℕ
 nameStart w place = min (place + 14) (length w)

@@ -1,13 +1,10 @@
--- The numbers that stand for the parts of what each operation gives. Assumes nothing.
+-- The numbers that stand for the parts of what each operation of reading gives. Assumes nothing.
 use Prim.Native.Nat.{ℕ}
 use mathlib.Core.List.{List, [], _∷_}
 use Rattle.layout_node.specs.declared.Header.{Header}
-use Rattle.layout_sector.specs.Counter.{Run}
 use Rattle.layout_volume.specs.declared.Descriptor.{Descriptor}
 use Rattle.read_entry.specs.Entry.{Placed}
 use Rattle.read_lookup.specs.Lookup.{Finding}
-use Rattle.dirtab_add.specs.Add.{Grown}
-use Rattle.table_model.specs.Table.{Placing}
 
 -- the six numbers of an entry's header: left link, right link, sector, size, attributes, length of the name
 abbrev pub fieldsOf : Header → List ℕ
@@ -40,21 +37,3 @@ rootSize d = d .root .size
 
 abbrev pub itself : ℕ → ℕ
 itself n = n
-
-abbrev pub grownRoot : Grown → ℕ
-grownRoot g = g .root
-
-abbrev pub grownCount : Grown → ℕ
-grownCount g = g .count
-
-abbrev pub tableSize : Placing → ℕ
-tableSize p = p .size
-
-abbrev pub nextFree : Placing → ℕ
-nextFree p = p .free
-
-abbrev pub runStart : Run → ℕ
-runStart r = r .start
-
-abbrev pub runFree : Run → ℕ
-runFree r = r .free

@@ -1,7 +1,7 @@
 -- `xdvdfs_add` meets its contract: the answer is what `add` gives, and is stored as it is told.
 use mathlib.Core.Path.{ap, _∙_}
 use Rattle.dirtab_add.specs.Add as adding
-use Rattle.capi_cells.specs.Parts.{grownRoot, grownCount}
+use Rattle.capi_written.specs.Parts.{grownRoot, grownCount}
 use Rattle.capi_cells.proofs.Cells.{given-by, number-by}
 use Rattle.dirtab_entry.specs.declared.Kind.{Kind}
 use Rattle.dirtab_arena.specs.Arena.{arena, columns}

@@ -1,5 +1,5 @@
 -- `xdvdfs_plan` meets its contract: the answer is what `plan` gives, and is stored as it is told.
-use Rattle.capi_cells.specs.Cells.{ofPlanned, ofDirectory}
+use Rattle.capi_written.specs.Parts.{ofPlanned, ofDirectory}
 use Rattle.capi_cells.specs.Parts.{itself}
 use Rattle.capi_cells.proofs.Cells.{given-by, number-by, refusal-by}
 use borrow.Author.Needs.{needs}

@@ -1,7 +1,7 @@
 -- `xdvdfs_serialise` meets its contract: the answer is what `serialise` gives, and is stored as it is told.
 use mathlib.Core.Path.{ap, _∙_}
 use Rattle.dirtab.specs.Serialise as serialising
-use Rattle.capi_cells.specs.Parts.{tableSize, nextFree}
+use Rattle.capi_written.specs.Parts.{tableSize, nextFree}
 use Rattle.capi_cells.proofs.Cells.{given-by, number-by}
 use Prim.Native.Nat.{ℕ}
 use Rattle.units.specs.declared.Sector.{Sector}

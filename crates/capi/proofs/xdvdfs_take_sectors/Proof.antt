@@ -1,7 +1,7 @@
 -- `xdvdfs_take_sectors` meets its contract: the answer is what `SectorCounter::take` gives, and is stored as it is told.
 use mathlib.Core.Path.{ap, _∙_}
 use Rattle.layout_sector.specs.Counter as sectors
-use Rattle.capi_cells.specs.Parts.{runStart, runFree}
+use Rattle.capi_written.specs.Parts.{runStart, runFree}
 use Rattle.capi_cells.proofs.Cells.{given-by, number-by}
 use Prim.Native.Nat.{ℕ}
 use Rattle.units.specs.declared.Sector.{Sector}

@@ -1,8 +1,8 @@
 -- `xdvdfs_write_list` meets its contract: the answer is what `write_list` gives, and is stored as it is told.
 use mathlib.Core.Path.{ap, _∙_}
 use Rattle.dirtab_list.specs.Whole as whole
-use Rattle.capi_cells.specs.Cells.{ofEntry}
-use Rattle.capi_cells.specs.Parts.{tableSize, nextFree}
+use Rattle.capi_written.specs.Parts.{ofEntry}
+use Rattle.capi_written.specs.Parts.{tableSize, nextFree}
 use Rattle.capi_cells.proofs.Cells.{given-by, number-by, refusal-by}
 use Prim.Native.Nat.{ℕ}
 use Rattle.units.specs.declared.Sector.{Sector}

@@ -2,12 +2,13 @@
 use mathlib.Core.Path.{refl, ap, _∙_}
 use Rattle.read_entry.specs.Links.{isIn}
 use Rattle.img_model.specs.Plan as planning
-use Rattle.capi_cells.specs.Cells.{ofPlanned, ofDirectory}
+use Rattle.capi_written.specs.Parts.{ofPlanned, ofDirectory}
 use Rattle.capi_cells.specs.Parts.{itself}
-use Rattle.capi_cells.proofs.Cells.{cause-no-directory, cause-planned, given-cell, given-kept, given-number, refused-bare, refused-cell, refused-number, refused-other, refused-value}
+use Rattle.capi_cells.proofs.Cells.{given-cell, given-kept, given-number, refused-bare, refused-cell, refused-number, refused-other, refused-value}
+use Rattle.capi_written.proofs.Causes.{cause-no-directory, cause-planned}
 use borrow.Author.Needs.{needs}
-use Rattle.capi_cells.proofs.store_planned.Statement.{statement}
-use Rattle.capi_cells.proofs.store_planned.Tie as tie
+use Rattle.capi_written.proofs.store_planned.Statement.{statement}
+use Rattle.capi_written.proofs.store_planned.Tie as tie
 
 returns : tie.Need-returns
 returns c = let e = ap planning.told (c .before .before .r .given .1) in (given-number e, (given-cell itself _ e (c .number .ensures), (given-kept ofPlanned _ e, given-kept ofDirectory _ e)))

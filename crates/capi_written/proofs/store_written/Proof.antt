@@ -1,12 +1,13 @@
 -- `store_written` meets its contract: the number and the cells of each case.
 use mathlib.Core.Path.{refl, ap, _∙_}
 use Rattle.dirtab_list.specs.Whole as whole
-use Rattle.capi_cells.specs.Cells.{ofEntry}
-use Rattle.capi_cells.specs.Parts.{tableSize, nextFree}
-use Rattle.capi_cells.proofs.Cells.{cause-listed, given-cell, given-kept, given-number, refused-bare, refused-cell, refused-number, refused-value}
+use Rattle.capi_written.specs.Parts.{ofEntry}
+use Rattle.capi_written.specs.Parts.{tableSize, nextFree}
+use Rattle.capi_cells.proofs.Cells.{given-cell, given-kept, given-number, refused-bare, refused-cell, refused-number, refused-value}
+use Rattle.capi_written.proofs.Causes.{cause-listed}
 use borrow.Author.Needs.{needs}
-use Rattle.capi_cells.proofs.store_written.Statement.{statement}
-use Rattle.capi_cells.proofs.store_written.Tie as tie
+use Rattle.capi_written.proofs.store_written.Statement.{statement}
+use Rattle.capi_written.proofs.store_written.Tie as tie
 
 returns : tie.Need-returns
 returns c = let e = ap whole.told (c .before .before .r .given .1) in (given-number e, (given-cell tableSize _ e refl, (given-cell nextFree _ e (c .number .ensures), given-kept ofEntry _ e)))

@@ -1,11 +1,11 @@
 -- `store_serialised` meets its contract: the number and the cells of each case.
 use mathlib.Core.Path.{refl, ap}
 use Rattle.dirtab.specs.Serialise as serialising
-use Rattle.capi_cells.specs.Parts.{tableSize, nextFree}
+use Rattle.capi_written.specs.Parts.{tableSize, nextFree}
 use Rattle.capi_cells.proofs.Cells.{given-cell, given-number, refused-cell, refused-number}
 use borrow.Author.Needs.{needs}
-use Rattle.capi_cells.proofs.store_serialised.Statement.{statement}
-use Rattle.capi_cells.proofs.store_serialised.Tie as tie
+use Rattle.capi_written.proofs.store_serialised.Statement.{statement}
+use Rattle.capi_written.proofs.store_serialised.Tie as tie
 
 returns : tie.Need-returns
 returns c = let e = ap serialising.told (c .before .before .r .given .1) in (given-number e, (given-cell tableSize _ e refl, given-cell nextFree _ e (c .number .ensures)))

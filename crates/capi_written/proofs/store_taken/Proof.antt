@@ -1,11 +1,11 @@
 -- `store_taken` meets its contract: the number and the cells of each case.
 use mathlib.Core.Path.{ap, _∙_}
 use Rattle.layout_sector.specs.Counter as sectors
-use Rattle.capi_cells.specs.Parts.{runStart, runFree}
+use Rattle.capi_written.specs.Parts.{runStart, runFree}
 use Rattle.capi_cells.proofs.Cells.{given-cell, given-number, refused-cell, refused-number}
 use borrow.Author.Needs.{needs}
-use Rattle.capi_cells.proofs.store_taken.Statement.{statement}
-use Rattle.capi_cells.proofs.store_taken.Tie as tie
+use Rattle.capi_written.proofs.store_taken.Statement.{statement}
+use Rattle.capi_written.proofs.store_taken.Tie as tie
 
 returns : tie.Need-returns
 returns c =

@@ -1,11 +1,11 @@
 -- `store_added` meets its contract: the number and the cells of each case.
 use mathlib.Core.Path.{refl, ap, _∙_}
 use Rattle.dirtab_add.specs.Add as adding
-use Rattle.capi_cells.specs.Parts.{grownRoot, grownCount}
+use Rattle.capi_written.specs.Parts.{grownRoot, grownCount}
 use Rattle.capi_cells.proofs.Cells.{given-cell, given-number, refused-cell, refused-number}
 use borrow.Author.Needs.{needs}
-use Rattle.capi_cells.proofs.store_added.Statement.{statement}
-use Rattle.capi_cells.proofs.store_added.Tie as tie
+use Rattle.capi_written.proofs.store_added.Statement.{statement}
+use Rattle.capi_written.proofs.store_added.Tie as tie
 
 returns : tie.Need-returns
 returns c = let e = ap adding.told (c .before .r .given .1) in (given-number e, (given-cell grownRoot _ e refl, given-cell grownCount _ e refl))

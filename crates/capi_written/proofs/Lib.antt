@@ -1,0 +1,2 @@
+-- What the number of a cause carries.
+pub mod Causes

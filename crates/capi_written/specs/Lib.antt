@@ -1,0 +1,2 @@
+-- What a call of writing leaves in cells.
+pub mod Parts
