@@ -16,16 +16,15 @@ use img_tree::is_tree;
 use scratch::copy_words;
 use widths::u32_as_usize;
 ghost use mathlib.Core.Path.{_≡_};
-ghost use mathlib.Core.Bool.{true, _&&_};
-ghost use Prim.Native.Nat.{_≤_, _<_, min};
-ghost use lib.Dec.{leb};
-ghost use lib.ListN.{length, take, replicate};
+ghost use mathlib.Core.Bool.{true};
+ghost use Prim.Native.Nat.{_<_};
+ghost use lib.ListN.{length};
 ghost use Rattle.units.specs.Lent.{was, is};
 ghost use Rattle.img_model.specs.Shares.{columns, isTree};
 ghost use Rattle.img_model.specs.inner.Shares.{columnsIn};
 ghost use Rattle.img_model.specs.Plan.{told, total, takingUp, rooted, planOf};
 ghost use Rattle.img_take.specs.inner.Forward.{Sized, requestOf};
-ghost use Rattle.img_model.specs.Image.{asked, asking, lent, memory, fits, answerIn, lentAfter};
+ghost use Rattle.img_model.specs.Image.{asked, asking, lent, memory, answerIn, lentAfter};
 ghost use Rattle.img.specs.inner.Steps.{Exact, Wide, HandedOut, PlannedBy, Cut, PlannedIn};
 
 // Where all tables are sized: 7 and 8, and where neither is met every size and sector is given back.

@@ -4,7 +4,7 @@ use mathlib.Core.Path.{_≡_}
 use mathlib.Core.Bool.{true}
 use mathlib.Core.List.{List, [], _∷_}
 use lib.Dec.{ltb}
-use lib.ListN.{length, getD}
+use lib.ListN.{length}
 use Rattle.units.specs.Told.{Told, gives, refuses, pick}
 use Rattle.avl_model.specs.Tree.{Tree}
 use Rattle.avl_model.specs.Order.{order}

@@ -1,6 +1,5 @@
 -- `take_root` meets its contract: the first taking is not refused.
 use borrow.Author.Needs.{needs}
-use native.Mathlib.Omega.{arith}
 use Rattle.img_take.proofs.Along.{root-free, root-fits}
 use Rattle.img_take.proofs.take_root.Statement.{statement}
 use Rattle.img_take.proofs.take_root.Tie as tie

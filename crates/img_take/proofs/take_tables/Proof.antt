@@ -1,7 +1,7 @@
 -- `take_tables` meets its contract. The loop's invariant: the rest of the directories takes what all take.
 use borrow.Author.Needs.{needs}
 use native.Mathlib.Omega.{arith}
-use mathlib.Core.Path.{_≡_, refl, sym, ap, _∙_}
+use mathlib.Core.Path.{_≡_, refl, sym, ap}
 use Prim.Native.Nat.{_+_, _-_}
 use lib.ListN.{length, getD, drop}
 use Rattle.layout_sector.specs.Counter.{sectorsFor}
