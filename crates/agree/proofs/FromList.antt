@@ -13,7 +13,7 @@ use Rattle.layout_name.specs.declared.Order.{Order}
 use Rattle.layout_name.specs.declared.Order.the-variants.{Less, Equal, Greater}
 use Rattle.layout_name.specs.inner.Order.{opposite}
 use Rattle.name_role.specs.Roles.{givenOrder, badSought}
-use Rattle.name_role.specs.inner.Storable.{isStorable}
+use Rattle.name_role.proofs.Storable.{isStorable}
 use Rattle.name_role.proofs.Roles.{given-opposite, given-trans, given-equal→, given-stored, sought-given, stored-length, storable-good}
 use Rattle.dirtab_entry.specs.declared.Kind.{Kind}
 use Rattle.dirtab_entry.proofs.Stored.{stored-low}

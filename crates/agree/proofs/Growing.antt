@@ -12,7 +12,7 @@ use Rattle.units.specs.Told.{Told, gives, refuses, pick}
 use Rattle.layout_name.specs.declared.Order.{Order}
 use Rattle.layout_name.specs.declared.Order.the-variants.{Equal}
 use Rattle.name_role.specs.Roles.{givenOrder}
-use Rattle.name_role.specs.inner.Storable.{isStorable}
+use Rattle.name_role.proofs.Storable.{isStorable}
 use Rattle.dirtab_entry.specs.declared.Kind.{Kind}
 use Rattle.avl_model.specs.declared.Place.{Place}
 use Rattle.avl_model.specs.declared.Place.the-variants.{Root}

@@ -88,8 +88,8 @@ imaged = record { planned = planned; apart = disjoint; stand = both-stand }
 pub led : Leads request its-plan 0 ((68 ∷ []) ∷ (66 ∷ []) ∷ []) 1 0
 unfolding soughtKeys storedKeys storedOf raised anySlash badSought
 led =
-    into 0 0 1 0 (68 ∷ []) (66 ∷ []) [] (omega arith) (record { some = omega arith; plain = refl; ascii = refl }) refl refl
-    (last 1 0 (66 ∷ []) (omega arith) (record { some = omega arith; plain = refl; ascii = refl }) refl)
+    into 0 0 1 0 (68 ∷ []) (66 ∷ []) [] (omega arith) (record { some = omega arith; plain = refl; good = refl }) refl refl
+    (last 1 0 (66 ∷ []) (omega arith) (record { some = omega arith; plain = refl; good = refl }) refl)
 
 -- and it is found there: its sector is 37, its size 1
 found-there : pathOf window window-first (rootOf its-plan) (68 ∷ 47 ∷ 66 ∷ [])

@@ -37,7 +37,7 @@ use Rattle.agree.specs.Given.{times}
 use Rattle.agree.proofs.Unique.{way-ends}
 use Rattle.avl_model.proofs.Frame.{δ-apart}
 use Rattle.agree_plan.specs.Planned.{treeAt, startSector, itemsAt, sectorAt}
-use Rattle.agree_plan.specs.Image.{Imaged, rootOf, RegionFor, Part, joined, Leads, last, into, regionOf, Way, here, on, Finds, AllParts}
+use Rattle.agree_plan.specs.Image.{Imaged, rootOf, RegionFor, PathPart, joined, Leads, last, into, regionOf, Way, here, on, Finds, AllParts}
 use Rattle.agree_plan.proofs.Tables.{rule-kept}
 use Rattle.agree_plan.proofs.Sectors.{sectors-planned}
 use Rattle.agree_plan.proofs.Agrees.{directory-kind, table-written, table-agrees, root-region, entry-region}
@@ -177,7 +177,7 @@ module _ (R : Request) (places : ℕ) (tables sectors : List ℕ) (p : Plan) (w 
         hit : (absent : List ℕ) → Clear absent links → lookupBy absent w first t a ≡ gives (record { entry = placedAt place y; offset = y .offset; headers = headers })
         miss : (absent : List ℕ) → Cut absent links → (c : ℕ) × (lookupBy absent w first t a ≡ refuses 22 (c ∷ []))
 
-      looked : (a : List ℕ) → Part a → Same a (entriesAt R S d i .name) → Looked a
+      looked : (a : List ℕ) → PathPart a → Same a (entriesAt R S d i .name) → Looked a
       looked a part same =
           let v = of-item (Reached w first t place its) its y (table-agrees R places tables sectors p w first I d hd t r .reached) (own .among) in
           let alike : Same a (y .entry .name) = same ∙ ap (λ (e : Entry). storedKeys (e .name)) (sym (own .entry-is)) in
@@ -186,15 +186,15 @@ module _ (R : Request) (places : ℕ) (tables sectors : List ℕ) (p : Plan) (w 
             way = v .way;
             real = v .real;
             headers = 1 + length (v .links);
-            hit = λ absent f. v .answers absent a (part .ascii) alike ∙ along-clear absent (placedAt place y) (y .offset) 1 (v .links) f;
-            miss = λ absent f. let k = along-absent absent (placedAt place y) (y .offset) 1 (v .links) f in (k .0, v .answers absent a (part .ascii) alike ∙ k .1);
+            hit = λ absent f. v .answers absent a (part .good) alike ∙ along-clear absent (placedAt place y) (y .offset) 1 (v .links) f;
+            miss = λ absent f. let k = along-absent absent (placedAt place y) (y .offset) 1 (v .links) f in (k .0, v .answers absent a (part .good) alike ∙ k .1);
           }
 
       named : (a : List ℕ) → Same a (entriesAt R S d i .name) → Same a (nameOf w (place + y .offset) (length (y .entry .name)))
       named a same = same ∙ ap (λ (e : Entry). storedKeys (e .name)) (sym (own .entry-is)) ∙ ap storedKeys (sym (back .named))
 
       -- an entry that has the part for its name, and to which a way leads, is this one, and the way is the same
-      only-here : (a : List ℕ) (part : Part a) (same : Same a (entriesAt R S d i .name)) (o : ℕ) (x : Placed) (ks : List ℕ) → readAt w first t o ≡ gives (some x)
+      only-here : (a : List ℕ) (part : PathPart a) (same : Same a (entriesAt R S d i .name)) (o : ℕ) (x : Placed) (ks : List ℕ) → readAt w first t o ≡ gives (some x)
           → Same a (nameOf w (x .place) (x .header .«name_len»)) → Along (readAt w first t) 0 o ks → Real ks
           → (x ≡ placedAt place y) × (ks ≡ looked a part same .links)
       only-here a part same o x ks read alike way real =
@@ -210,7 +210,7 @@ module _ (R : Request) (places : ℕ) (tables sectors : List ℕ) (p : Plan) (w 
           let c = of-item (Reached w first t place its) its (v .0) (all .reached) (v .1) in
           let one =
           one-given (l .hit walkAbsent (walk-clear (l .links) (l .real)))
-          (c .answers walkAbsent a (part .ascii) called
+          (c .answers walkAbsent a (part .good) called
           ∙ along-clear walkAbsent (placedAt place (v .0)) (v .0 .offset) 1 (c .links) (walk-clear (c .links) (c .real))) in
           let there : o ≡ y .offset = sym (v .2) ∙ sym (ap (λ (z : Finding). z .offset) one) in (
             is ∙ sym (ap (λ (z : Finding). z .entry) one),
@@ -218,7 +218,7 @@ module _ (R : Request) (places : ℕ) (tables sectors : List ℕ) (p : Plan) (w 
           )
 
       -- where it is the last part
-      ends : (a : List ℕ) → Part a → Same a (entriesAt R S d i .name) → Finds R p w first t (a ∷ []) d i (λ absent. partsFrom absent w first t (a ∷ []))
+      ends : (a : List ℕ) → PathPart a → Same a (entriesAt R S d i .name) → Finds R p w first t (a ∷ []) d i (λ absent. partsFrom absent w first t (a ∷ []))
       unfolding partsFrom
       ends a part same =
           let l = looked a part same in
@@ -264,7 +264,7 @@ module _ (R : Request) (places : ℕ) (tables sectors : List ℕ) (p : Plan) (w 
         unfolding partsFrom
         stopped absent a b cs l f = ap (λ (x : Told Finding). onward (turnOf x) (λ v. partsFrom absent w first v (b ∷ cs))) (l .miss absent f .1)
 
-        goes : (a b : List ℕ) (cs : List (List ℕ)) (e j : ℕ) → Part a → Same a (entriesAt R S d i .name)
+        goes : (a b : List ℕ) (cs : List (List ℕ)) (e j : ℕ) → PathPart a → Same a (entriesAt R S d i .name)
             → Finds R p w first u (b ∷ cs) e j (λ absent. partsFrom absent w first u (b ∷ cs))
             → Finds R p w first t (a ∷ b ∷ cs) e j (λ absent. partsFrom absent w first t (a ∷ b ∷ cs))
         goes a b cs e j part same n =

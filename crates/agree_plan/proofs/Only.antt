@@ -28,7 +28,7 @@ use Rattle.agree.specs.Agreement.{placedAt, Same, mostHeaders}
 use Rattle.agree.specs.Agreement as agreement
 use Rattle.agree.specs.Given.{times}
 use Rattle.agree_plan.specs.Planned.{itemsAt, sectorAt}
-use Rattle.agree_plan.specs.Image.{Imaged, rootOf, RegionFor, Part, joined, Leads, last, into, regionOf, Only, finds, misses, meets, AllParts}
+use Rattle.agree_plan.specs.Image.{Imaged, rootOf, RegionFor, PathPart, joined, Leads, last, into, regionOf, Only, finds, misses, meets, AllParts}
 use Rattle.agree_plan.proofs.Tables.{rule-kept}
 use Rattle.agree_plan.proofs.Sectors.{sectors-planned}
 use Rattle.agree_plan.proofs.Agrees.{directory-kind, table-agrees, root-region, entry-region}
@@ -71,7 +71,7 @@ no-parts cs (last _ _ a hi part same) q = let z : _≡_ {A = ℕ} 0 1 = cc in om
 no-parts cs (into _ i _ _ a b bs hi part same dir rest) q = let z : _≡_ {A = ℕ} 0 1 = cc in omega arith
 
 module _ (R : Request) (places : ℕ) (tables sectors : List ℕ) (p : Plan) (w : List ℕ) (first : Sector) (I : Imaged R places tables sectors p w first) (absent : List ℕ) (none : isIn 0 absent ≡ true) where
-  module _ (d : ℕ) (hd : d < directoriesOf R) (t : Region) (r : RegionFor p d t) (a : List ℕ) (part : Part a) where
+  module _ (d : ℕ) (hd : d < directoriesOf R) (t : Region) (r : RegionFor p d t) (a : List ℕ) (part : PathPart a) where
     abbrev place : ℕ
     place = I .stand d hd .place
 
@@ -109,7 +109,7 @@ module _ (R : Request) (places : ℕ) (tables sectors : List ℕ) (p : Plan) (w 
     Sound = agreement.Sound place (itemsAt R (p .sizes) d) mostHeaders a
 
     looked : Sound (lookupBy absent w first t a)
-    looked = table-agrees R places tables sectors p w first I d hd t r .sound absent none a (part .ascii)
+    looked = table-agrees R places tables sectors p w first I d hd t r .sound absent none a (part .good)
 
     ends : (x : Told Finding) → Sound x → Only R p first d (a ∷ []) (lastOf x)
     ends x (agreement.found y c m s k) =

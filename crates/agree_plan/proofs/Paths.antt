@@ -12,7 +12,7 @@ use Rattle.units.specs.declared.Region.{Region}
 use Rattle.name_role.specs.Roles.{badSought}
 use Rattle.name_role.proofs.Roles.{slash-good}
 use Rattle.read_path.specs.Path.{trim, grow, split, unended, partsFrom, pathBy}
-use Rattle.agree_plan.specs.Image.{anySlash, Part, joined, AllParts}
+use Rattle.agree_plan.specs.Image.{anySlash, PathPart, joined, AllParts}
 
 -- of two bytes' tests
 first-false : (b c : Bool) → pick b true c ≡ false → (b ≡ false) × (c ≡ false)
@@ -35,7 +35,7 @@ split-first (x ∷ a) rest e =
     ap (λ (b : Bool). pick b ([] ∷ split (a ++ (47 ∷ rest))) (grow x (split (a ++ (47 ∷ rest))))) (f .0) ∙ ap (grow x) (split-first a rest (f .1))
 
 -- nothing is trimmed from it
-trim-part : (a rest : List ℕ) → Part a → trim (a ++ rest) ≡ a ++ rest
+trim-part : (a rest : List ℕ) → PathPart a → trim (a ++ rest) ≡ a ++ rest
 unfolding trim anySlash
 trim-part [] rest p = absurd (omega (arith, p .some))
 trim-part (x ∷ a) rest p =
@@ -44,8 +44,8 @@ trim-part (x ∷ a) rest p =
 -- a path that is joined of parts can be sought, as they can
 joined-good : (cs : List (List ℕ)) → AllParts cs → badSought (joined cs) ≡ false
 joined-good [] p = absurd p
-joined-good (a ∷ []) p = p .ascii
-joined-good (a ∷ b ∷ cs) p = slash-good a (joined (b ∷ cs)) ∙ rw (p .0 .ascii) (joined-good (b ∷ cs) (p .1))
+joined-good (a ∷ []) p = p .good
+joined-good (a ∷ b ∷ cs) p = slash-good a (joined (b ∷ cs)) ∙ rw (p .0 .good) (joined-good (b ∷ cs) (p .1))
 
 split-joined : (cs : List (List ℕ)) → AllParts cs → split (joined cs) ≡ cs
 split-joined [] p = absurd p
@@ -67,7 +67,7 @@ trim-joined : (cs : List (List ℕ)) → AllParts cs → trim (joined cs) ≡ jo
 trim-joined [] p = absurd p
 trim-joined (a ∷ []) p = trim-alone a p
   where
-    trim-alone : (a : List ℕ) → Part a → trim a ≡ a
+    trim-alone : (a : List ℕ) → PathPart a → trim a ≡ a
     trim-alone a q = ap trim (sym (append-nil a)) ∙ trim-part a [] q ∙ append-nil a
 trim-joined (a ∷ b ∷ cs) p = trim-part a (47 ∷ joined (b ∷ cs)) (p .0)
 

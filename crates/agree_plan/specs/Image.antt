@@ -55,10 +55,10 @@ anySlash [] = false
 anySlash (x ∷ xs) = pick (eqb x 47) true (anySlash xs)
 
 -- a part of a path: it is not empty, has no slash and can be sought
-pub record Part (a : List ℕ) : Type 0 where
+pub record PathPart (a : List ℕ) : Type 0 where
   pub some : 0 < length a
   pub plain : anySlash a ≡ false
-  pub ascii : badSought a ≡ false
+  pub good : badSought a ≡ false
 
 -- parts with a slash between each two
 abbrev pub joined : List (List ℕ) → List ℕ
@@ -70,9 +70,9 @@ joined (a ∷ b ∷ cs) = a ++ (47 ∷ joined (b ∷ cs))
 -- directory d; if it is not the last, that entry is a directory, and the others lead on from the directory that it
 -- names
 pub data Leads (R : Request) (p : Plan) : ℕ → List (List ℕ) → ℕ → ℕ → Type 0 where
-  last : (d i : ℕ) (a : List ℕ) → i < countOf R d → Part a → Same a (entriesAt R (p .sizes) d i .name)
+  last : (d i : ℕ) (a : List ℕ) → i < countOf R d → PathPart a → Same a (entriesAt R (p .sizes) d i .name)
       → Leads R p d (a ∷ []) d i
-  into : (d i e j : ℕ) (a b : List ℕ) (cs : List (List ℕ)) → i < countOf R d → Part a
+  into : (d i e j : ℕ) (a b : List ℕ) (cs : List (List ℕ)) → i < countOf R d → PathPart a
       → Same a (entriesAt R (p .sizes) d i .name) → isDirectory (shareOf R d) i ≡ true
       → Leads R p (valueOf (shareOf R d) i) (b ∷ cs) e j → Leads R p d (a ∷ b ∷ cs) e j
 
@@ -130,5 +130,5 @@ pub data Only (R : Request) (p : Plan) (first : Sector) (d : ℕ) (parts : List 
 -- parts of a path, one or more
 abbrev pub AllParts : List (List ℕ) → Type 0
 AllParts [] = ⊥
-AllParts (a ∷ []) = Part a
-AllParts (a ∷ b ∷ cs) = Part a × AllParts (b ∷ cs)
+AllParts (a ∷ []) = PathPart a
+AllParts (a ∷ b ∷ cs) = PathPart a × AllParts (b ∷ cs)

@@ -8,7 +8,7 @@ use lib.ListN.{length, getD, drop}
 use Rattle.units.specs.Told.{Told, gives, refuses, pick}
 use Rattle.units.specs.declared.Sector.{Sector}
 use Rattle.units.specs.declared.Region.{Region}
-use Rattle.name_role.specs.inner.Storable.{isStorable}
+use Rattle.name_role.proofs.Storable.{isStorable}
 use Rattle.dirtab_entry.specs.Entry.{rounded}
 use Rattle.dirtab_entry.proofs.Storable.{passed-storable}
 use Rattle.avl_model.specs.Laws.{All, Ordered}

@@ -207,7 +207,7 @@ fn judge(
 }
 
 // The number of a kind in its column.
-fn number_of(kind: Kind) -> u8
+fn kind_number(kind: Kind) -> u8
     ensures { λ r. ⌜ r ≡ kindNumber kind ⌝ }
 {
     match kind {
@@ -237,7 +237,7 @@ fn store_entry(
     start[i] = entry.start;
     len[i] = entry.len;
     size[i] = stored_size(is, entry.size);
-    kind[i] = number_of(is);
+    kind[i] = kind_number(is);
 }
 
 // The new node, whose number is the count, put into the first count + 1 places. The answer is the root.

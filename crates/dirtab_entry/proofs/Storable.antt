@@ -7,7 +7,7 @@ use native.Mathlib.Omega.{arith}
 use lib.Dec.{ltb, eqb}
 use lib.ListN.{length}
 use Rattle.units.specs.Told.{Told, gives, refuses, pick}
-use Rattle.name_role.specs.inner.Storable.{isStorable}
+use Rattle.name_role.proofs.Storable.{isStorable}
 use Rattle.dirtab_entry.specs.declared.Entry.{Entry}
 use Rattle.dirtab_entry.specs.Entry.{anyBad, nameIn, checkName, checkSize, ifPassed, checkOf}
 

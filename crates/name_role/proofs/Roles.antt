@@ -20,7 +20,7 @@ use Rattle.layout_name.specs.Order.{listOrder, orderBy, raised, nameOrder}
 use Rattle.layout_name.specs.inner.Order.{opposite}
 use Rattle.layout_name.proofs.Laws.{order-opposite, order-equal, order-equal→, order-trans}
 use Rattle.name_role.specs.Roles.{givenKeys, storedKeys, soughtKeys, storedOf, givenOrder, storedOrder, soughtOrder, badSought}
-use Rattle.name_role.specs.inner.Storable.{isStorable}
+use Rattle.name_role.proofs.Storable.{isStorable}
 
 -- ---- what comparing tells
 

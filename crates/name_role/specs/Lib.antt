@@ -1,3 +1,2 @@
 -- Names by their role.
 pub mod Roles
-pub mod inner

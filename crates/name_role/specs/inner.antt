@@ -1,2 +1,0 @@
--- What only laws cite.
-pub mod Storable
