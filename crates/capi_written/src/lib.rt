@@ -2,7 +2,7 @@
 // answer is told as (capi_cells/specs/Cells.antt).
 use dirtab::Serialised;
 use dirtab_add::Added;
-use dirtab_entry::number_of;
+use dirtab_entry::cause_number;
 use dirtab_list::ListWritten;
 use img_model::Planned;
 use layout_sector::Taken;
@@ -61,7 +61,7 @@ pub fn store_added(r: Added, root: &mut u16, count: &mut u16) -> u32
             0
         }
         Added::BadArena => 12,
-        Added::Refused(cause) => number_of(cause),
+        Added::Refused(cause) => cause_number(cause),
     }
 }
 
@@ -101,7 +101,7 @@ pub fn store_written(r: ListWritten, table_size: &mut u32, free: &mut u32, entry
         ListWritten::Room => 6,
         ListWritten::Refused(cause, i) => {
             *entry = i;
-            number_of(cause)
+            cause_number(cause)
         }
         ListWritten::TooManyDirectoryEntries => 7,
         ListWritten::SectorOverflow => 8,
@@ -137,7 +137,7 @@ pub fn store_planned(r: Planned, free: &mut u32, entry: &mut u32, directory: &mu
         }
         Planned::Refused(cause, j) => {
             *entry = j;
-            number_of(cause)
+            cause_number(cause)
         }
     }
 }

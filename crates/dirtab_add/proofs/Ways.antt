@@ -12,7 +12,7 @@ use Rattle.dirtab_entry.specs.declared.Cause.the-variants.{DuplicateFileName, R
 use Rattle.dirtab_entry.specs.declared.EntryChecked.{EntryChecked}
 use Rattle.dirtab_entry.specs.declared.EntryChecked.the-variants as checked
 use Rattle.dirtab_entry.specs.Entry as entry
-use Rattle.dirtab_entry.specs.Entry.{numberOf, storedSize, nameIn, checkOf}
+use Rattle.dirtab_entry.specs.Entry.{causeNumber, storedSize, nameIn, checkOf}
 use Rattle.avl_model.specs.declared.Place.{Place}
 use Rattle.avl_model.specs.declared.Place.the-variants.{Root}
 use Rattle.avl_model.specs.declared.Spot.{Spot}
@@ -60,7 +60,7 @@ module _ (A : Arena) (e : given.Entry) where
     -- 1, 2, 3, 5
     pub bad-entry : {r : EntryChecked} {c : Cause} → entry.told r ≡ checkOf (A .bytes) e → r ≡ checked.Refused c → Refusing A e (added.Refused c)
     bad-entry {r} {c} er ec = record {
-      number = numberOf c;
+      number = causeNumber c;
       told-is = refl;
       answer = passed-on ∙ ap (λ (z : Told (Unit {0})). ifTaken z (ifFree (spotIn (orderTo A e) (treeOf A) Root) (pick (hasRoom (A .count) (A .columns)) grownIs (refuses 6 [])))) (sym er ∙ ap entry.told ec);
     }

@@ -9,7 +9,7 @@ use Rattle.layout_name.specs.declared.Order.{Order}
 use Rattle.dirtab_entry.specs.declared.Entry as given
 use Rattle.dirtab_entry.specs.declared.Kind.{Kind}
 use Rattle.dirtab_entry.specs.declared.Kind.the-variants.{File, Directory}
-use Rattle.dirtab_entry.specs.Entry.{numberOf, storedSize, nameIn, checkOf}
+use Rattle.dirtab_entry.specs.Entry.{causeNumber, storedSize, nameIn, checkOf}
 use Rattle.avl_model.specs.declared.Spot.{Spot}
 use Rattle.avl_model.specs.declared.Spot.the-variants.{Same, Free}
 use Rattle.avl_model.specs.declared.Place.the-variants.{Root}
@@ -100,4 +100,4 @@ columnsAfter A e = ifGiven (addOf A e) (columnsWith A e) (A .columns)
 abbrev pub told : Added → Told Grown
 told (added.Done t) = gives (record { root = t .root; count = t .count })
 told added.BadArena = refuses 12 []
-told (added.Refused c) = refuses (numberOf c) []
+told (added.Refused c) = refuses (causeNumber c) []

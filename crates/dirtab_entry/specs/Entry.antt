@@ -75,15 +75,15 @@ unfoldable pub checkOf : List ℕ → Entry → Told (Unit {0})
 checkOf names e = ifPassed (checkName names e) (checkSize e)
 
 -- the number of a cause
-abbrev pub numberOf : Cause → ℕ
-numberOf EmptyName = 1
-numberOf BadByte = 2
-numberOf NameTooLong = 3
-numberOf DuplicateFileName = 4
-numberOf SizeOverflow = 5
-numberOf Room = 6
+abbrev pub causeNumber : Cause → ℕ
+causeNumber EmptyName = 1
+causeNumber BadByte = 2
+causeNumber NameTooLong = 3
+causeNumber DuplicateFileName = 4
+causeNumber SizeOverflow = 5
+causeNumber Room = 6
 
 -- what each answer stands for
 abbrev pub told : EntryChecked → Told (Unit {0})
 told Good = gives tt
-told (Refused c) = refuses (numberOf c) []
+told (Refused c) = refuses (causeNumber c) []

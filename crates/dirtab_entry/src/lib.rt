@@ -3,7 +3,7 @@ ghost use mathlib.Core.Path.{_≡_};
 ghost use mathlib.Core.Bool.{true};
 ghost use Prim.Native.Nat.{_≤_};
 ghost use Rattle.units.specs.Lent.{was};
-ghost use Rattle.dirtab_entry.specs.Entry.{numberOf, told, checkOf, anyBad, isDirectory, storedSize, kindFor};
+ghost use Rattle.dirtab_entry.specs.Entry.{causeNumber, told, checkOf, anyBad, isDirectory, storedSize, kindFor};
 
 pub enum Kind {
     File,
@@ -41,8 +41,8 @@ pub enum EntryChecked {
 }
 
 // The number of a cause.
-pub fn number_of(cause: Cause) -> u32
-    ensures { λ r. ⌜ r ≡ numberOf cause ⌝ }
+pub fn cause_number(cause: Cause) -> u32
+    ensures { λ r. ⌜ r ≡ causeNumber cause ⌝ }
 {
     match cause {
         Cause::EmptyName => 1,

@@ -12,7 +12,7 @@ use Rattle.dirtab_entry.specs.declared.Cause.{Cause}
 use Rattle.dirtab_entry.specs.declared.Kind.{Kind}
 use Rattle.dirtab_entry.specs.declared.Entry as given
 use Rattle.dirtab_entry.specs.declared.EntryChecked.{EntryChecked}
-use Rattle.dirtab_entry.specs.Entry.{kindFor, checkOf, numberOf, told}
+use Rattle.dirtab_entry.specs.Entry.{kindFor, checkOf, causeNumber, told}
 use Rattle.avl_model.specs.declared.Place.{Place}
 use Rattle.avl_model.specs.declared.Place.the-variants.{Root}
 use Rattle.avl_model.specs.declared.Spot.{Spot}
@@ -53,7 +53,7 @@ pub passes : (i : ℕ) (u : Told (Unit {0})) {r : Step} → ((x : Told Tree) →
 passes i u {r} f e = passed-by i u (ap (λ (s : Step). goOn s i (gives leaf)) (sym e) ∙ f (gives leaf))
 
 pub refused-by : (i : ℕ) (u : Told (Unit {0})) (s : Spot) {r : Step} {c : Cause} → ((x : Told Tree) → goOn r i x ≡ ifTaken i u x) → r ≡ step.Refused c
-    → (x : Told Tree) → refuses (numberOf c) (i ∷ []) ≡ stepOf u s i x
+    → (x : Told Tree) → refuses (causeNumber c) (i ∷ []) ≡ stepOf u s i x
 refused-by i u s {r} {c} f e x = ap (λ (v : Step). goOn v i (ifFree i s (pick (ltb i 16384) x (refuses 6 (i ∷ []))))) (sym e) ∙ f (ifFree i s (pick (ltb i 16384) x (refuses 6 (i ∷ []))))
 
 -- the key of its name

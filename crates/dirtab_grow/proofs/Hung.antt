@@ -6,7 +6,7 @@ use mathlib.Core.List.{List, [], _∷_}
 use lib.ListN.{length, set}
 use Rattle.units.specs.Told.{Told, gives, refuses}
 use Rattle.dirtab_entry.specs.declared.Cause.{Cause}
-use Rattle.dirtab_entry.specs.Entry.{numberOf}
+use Rattle.dirtab_entry.specs.Entry.{causeNumber}
 use Rattle.avl_model.specs.declared.Place.{Place}
 use Rattle.avl_model.specs.declared.Place.the-variants.{Root}
 use Rattle.avl_model.specs.declared.Spot.{Spot}
@@ -28,7 +28,7 @@ use Rattle.dirtab_grow.proofs.Columns.{sought-in, arena-in, grown-more,
 
 -- a refusal says nothing of the columns
 pub refused-step : {c : Cause} {u : Told (Unit {0})} {s : Spot} {i : ℕ} {S : Lists} {K : List ℕ} {N : Names} {t : Tree}
-    → ((x : Told Tree) → refuses (numberOf c) (i ∷ []) ≡ stepOf u s i x) → Stepped (step.Refused c) u s i S K N t
+    → ((x : Told Tree) → refuses (causeNumber c) (i ∷ []) ≡ stepOf u s i x) → Stepped (step.Refused c) u s i S K N t
 refused-step {c} f = record { answer = f; taken = λ e. never e; keyed = λ e. never e }
   where
     never : {X : Type 0} → step.Refused c ≡ step.Taken → X

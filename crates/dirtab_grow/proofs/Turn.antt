@@ -10,7 +10,7 @@ use borrow.Author.Tests.{eqb-true}
 use Rattle.layout_name.specs.declared.Order.the-variants.{Greater}
 use Rattle.units.specs.Told.{Told, refuses}
 use Rattle.dirtab_entry.specs.declared.Cause.{Cause}
-use Rattle.dirtab_entry.specs.Entry.{numberOf, checkOf}
+use Rattle.dirtab_entry.specs.Entry.{causeNumber, checkOf}
 use Rattle.avl_model.specs.declared.Place.the-variants.{Root}
 use Rattle.avl_model.specs.Tree.{Tree, leaf, none, ins}
 use Rattle.avl_model.specs.Lists.{Lists, lists}
@@ -120,7 +120,7 @@ module _ (L : Listing) where
       unfolding one-more
       one-more-up so-far g e = (one-more e, still-up so-far g)
 
-      pub stops : {c : Cause} → r ≡ step.Refused c → grow (L .bytes) (givenIn L) (L .count) ≡ refuses (numberOf c) (i ∷ [])
+      pub stops : {c : Cause} → r ≡ step.Refused c → grow (L .bytes) (givenIn L) (L .count) ≡ refuses (causeNumber c) (i ∷ [])
       stops e = sym stepped ∙ ap (λ (s : Step). goOn s i (rest (L .count - (i + 1)) (i + 1) (more i (b .t)))) e
 
   -- no entry is left

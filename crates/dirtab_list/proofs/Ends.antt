@@ -8,7 +8,7 @@ use lib.Dec.{leb, ltb}
 use lib.ListN.{length}
 use Rattle.units.specs.Told.{Told, gives, refuses, pick}
 use Rattle.dirtab_entry.specs.declared.Cause.{Cause}
-use Rattle.dirtab_entry.specs.Entry.{rounded, numberOf}
+use Rattle.dirtab_entry.specs.Entry.{rounded, causeNumber}
 use Rattle.avl_model.specs.Tree.{Tree}
 use Rattle.table_model.specs.Entry.{Entry}
 use Rattle.table_model.specs.Place.{freeOf, items}
@@ -66,7 +66,7 @@ rooted-at {left} {right} {start} {len} {size} {kind} {bytes} {root} {n} {m} {t} 
 pub was-done : {r : Built} (g : Told Tree) (S : Lists) (N : Names) (n : ℕ) → r ≡ built.Done → Outcome r g S N n → Holding g S N n
 was-done g S N n e h = subst (λ (r : Built). Outcome r g S N n) e h
 
-pub was-refused : {r : Built} {c : Cause} {i : ℕ} (g : Told Tree) (S : Lists) (N : Names) (n : ℕ) → r ≡ built.Refused c i → Outcome r g S N n → g ≡ refuses (numberOf c) (i ∷ [])
+pub was-refused : {r : Built} {c : Cause} {i : ℕ} (g : Told Tree) (S : Lists) (N : Names) (n : ℕ) → r ≡ built.Refused c i → Outcome r g S N n → g ≡ refuses (causeNumber c) (i ∷ [])
 was-refused g S N n e h = subst (λ (r : Built). Outcome r g S N n) e h
 
 module _ (L : Listing) (s : ℕ) (out : List ℕ) where

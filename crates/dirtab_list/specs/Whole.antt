@@ -7,7 +7,7 @@ use lib.ListN.{length}
 use denote.Triple.Both.{Both}
 use Rattle.units.specs.Told.{Told, gives, refuses, pick}
 use Rattle.units.specs.Lent.{Slice, was, is, clearedIf}
-use Rattle.dirtab_entry.specs.Entry.{numberOf}
+use Rattle.dirtab_entry.specs.Entry.{causeNumber}
 use Rattle.avl_model.specs.Tree.{Tree}
 use Rattle.table_model.specs.Entry.{Entry, entryFor}
 use Rattle.table_model.specs.Table.{Placing, placeOf, tableBytes}
@@ -115,7 +115,7 @@ lentAfter L s m = record {
 abbrev pub told : ListWritten → Told Placing
 told (written.Done z f) = gives (record { size = z; free = f .0 })
 told written.Room = refuses 6 []
-told (written.Refused c i) = refuses (numberOf c) (i ∷ [])
+told (written.Refused c i) = refuses (causeNumber c) (i ∷ [])
 told written.TooManyDirectoryEntries = refuses 7 []
 told written.SectorOverflow = refuses 8 []
 told written.BufferTooSmall = refuses 9 []

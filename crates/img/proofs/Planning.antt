@@ -9,7 +9,7 @@ use lib.Dec.{leb}
 use lib.ListN.{length, replicate, length-replicate}
 use Rattle.units.specs.Told.{Told, gives, refuses, pick}
 use Rattle.dirtab_entry.specs.declared.Cause.{Cause}
-use Rattle.dirtab_entry.specs.Entry.{numberOf}
+use Rattle.dirtab_entry.specs.Entry.{causeNumber}
 use Rattle.img_model.specs.Shares.{Request, columns, directoriesOf, countOf, isTree}
 use Rattle.img_model.specs.declared.Planned.{Planned}
 use Rattle.img_model.specs.declared.Planned.the-variants as planned
@@ -148,7 +148,7 @@ module _ (R : Request) (places : ℕ) (tables sectors : List ℕ) where
       pub entry-refused : (cause : Cause) (j : ℕ) (sizes : List ℕ) → a ≡ arranged.Refused cause j →
           PlannedBy (planned.Refused cause j) (planOf R places tables sectors) sizes sizes tables tables sectors sectors
       entry-refused cause j sizes e =
-          refused-by _ _ (numberOf cause) (j ∷ []) sizes tables sectors refl (plan-from (refuses (numberOf cause) (j ∷ [])) (ap (λ (x : Arranged). toldSizes x zs) e))
+          refused-by _ _ (causeNumber cause) (j ∷ []) sizes tables sectors refl (plan-from (refuses (causeNumber cause) (j ∷ [])) (ap (λ (x : Arranged). toldSizes x zs) e))
 
       pub file-refused : (j : ℕ) (sizes : List ℕ) → a ≡ arranged.FileTooLarge j →
           PlannedBy (planned.FileTooLarge j) (planOf R places tables sectors) sizes sizes tables tables sectors sectors

@@ -7,7 +7,7 @@ use lib.ListN.{getD, set, replicate}
 use Rattle.units.specs.Told.{Told, gives, refuses, pick}
 use Rattle.layout_sector.specs.Counter.{sectorsFor, alignedUp}
 use Rattle.dirtab_entry.specs.declared.Entry as given
-use Rattle.dirtab_entry.specs.Entry.{kindFor, numberOf, checkOf}
+use Rattle.dirtab_entry.specs.Entry.{kindFor, causeNumber, checkOf}
 use Rattle.avl_model.specs.Tree.{Tree, leaf}
 use Rattle.avl_model.specs.Order.{order}
 use Rattle.table_model.specs.Entry.{Entry, entryFor}
@@ -140,6 +140,6 @@ told (planned.Done f) = gives (f .0)
 told planned.Room = refuses 6 []
 told planned.BadTree = refuses 11 []
 told (planned.FileTooLarge j) = refuses 10 (j ∷ [])
-told (planned.Refused c j) = refuses (numberOf c) (j ∷ [])
+told (planned.Refused c j) = refuses (causeNumber c) (j ∷ [])
 told (planned.TooManyDirectoryEntries d) = refuses 7 (d ∷ [])
 told (planned.SectorOverflow d) = refuses 8 (d ∷ [])

@@ -11,7 +11,7 @@ use Rattle.units.specs.Told.{Told, gives, refuses}
 use Rattle.avl_model.specs.Tree.{Tree}
 use Rattle.table_model.specs.Table.{sizeOf}
 use Rattle.dirtab_entry.specs.declared.Cause.{Cause}
-use Rattle.dirtab_entry.specs.Entry.{numberOf}
+use Rattle.dirtab_entry.specs.Entry.{causeNumber}
 use Rattle.img_model.specs.Shares.{Request, Share, shareOf, directoriesOf, firstOf, countOf, entriesOf, part, isDirectory, valueOf}
 use Rattle.img_model.specs.Plan.{tableIn, entryIn, treeIn, sizesDown, total}
 use Rattle.img_model.proofs.Trees.{refused-inside, tree-same, size-same}
@@ -28,7 +28,7 @@ use Rattle.img_model.proofs.Orders.{total-step, total-none, total-down, total-a
 -- ---- what the answers of one table say
 
 -- a refusal of its entry i
-pub refusal-of : (S : Share) (tab : ℕ → ℕ) (listed : List ℕ) (r : TableSized) (c : Cause) (i : ℕ) → Sizing r S tab listed → r ≡ sized.Refused c i → treeIn S tab ≡ refuses (numberOf c) (i ∷ [])
+pub refusal-of : (S : Share) (tab : ℕ → ℕ) (listed : List ℕ) (r : TableSized) (c : Cause) (i : ℕ) → Sizing r S tab listed → r ≡ sized.Refused c i → treeIn S tab ≡ refuses (causeNumber c) (i ∷ [])
 refusal-of S tab listed r c i w e = subst (λ (x : TableSized). Sizing x S tab listed) e w
 
 pub too-large-of : (S : Share) (tab : ℕ → ℕ) (listed : List ℕ) (r : TableSized) (i : ℕ) → Sizing r S tab listed → r ≡ sized.FileTooLarge i → treeIn S tab ≡ refuses 10 (i ∷ [])

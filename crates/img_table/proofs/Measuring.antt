@@ -10,7 +10,7 @@ use Rattle.avl_model.specs.Tree.{Tree}
 use Rattle.avl_model.specs.Order.{order}
 use Rattle.avl_model.proofs.Avl.{all-map}
 use Rattle.dirtab_entry.specs.declared.Cause.{Cause}
-use Rattle.dirtab_entry.specs.Entry.{numberOf}
+use Rattle.dirtab_entry.specs.Entry.{causeNumber}
 use Rattle.dirtab_place.specs.inner.Places.{sizeAlong, Measurable}
 use Rattle.dirtab_place.proofs.Along.{SameLength}
 use Rattle.dirtab_place.proofs.Named.{name-long}
@@ -27,7 +27,7 @@ use Rattle.img_table.specs.inner.Arranging.{Ordered, Arrangement, Measur
 pub was-done : {r : Arranged} (g : Told Tree) (listed : List ℕ) → r ≡ arranged.Done → Arrangement r g listed → Ordered g listed
 was-done g listed e h = subst (λ (v : Arranged). Arrangement v g listed) e h
 
-pub was-refused : {r : Arranged} {c : Cause} {i : ℕ} (g : Told Tree) (listed : List ℕ) → r ≡ arranged.Refused c i → Arrangement r g listed → g ≡ refuses (numberOf c) (i ∷ [])
+pub was-refused : {r : Arranged} {c : Cause} {i : ℕ} (g : Told Tree) (listed : List ℕ) → r ≡ arranged.Refused c i → Arrangement r g listed → g ≡ refuses (causeNumber c) (i ∷ [])
 was-refused g listed e h = subst (λ (v : Arranged). Arrangement v g listed) e h
 
 pub was-large : {r : Arranged} {i : ℕ} (g : Told Tree) (listed : List ℕ) → r ≡ arranged.FileTooLarge i → Arrangement r g listed → g ≡ refuses 10 (i ∷ [])

@@ -21,7 +21,7 @@ use Rattle.dirtab_entry.specs.declared.Cause.{Cause}
 use Rattle.dirtab_grow.specs.declared.Built.{Built}
 use Rattle.dirtab_grow.specs.declared.Built.the-variants as built
 use Rattle.dirtab_grow.specs.Listing.{listing}
-use Rattle.dirtab_entry.specs.Entry.{numberOf}
+use Rattle.dirtab_entry.specs.Entry.{causeNumber}
 use Rattle.dirtab_grow.specs.inner.Growing.{Grown, Holding, Outcome, Roomy}
 use Rattle.dirtab_grow.proofs.Prefix.{frame-grown}
 use Rattle.img_model.specs.Shares.{Share}
@@ -91,7 +91,7 @@ module _ (S : Share) (tab : ℕ → ℕ) (size : List ℕ) (m : ℕ) (m-is : m �
       }
 
   module _ (T : Lists) {r : Built} (out : Outcome r (front S tab size m m-is sizes) T N m) where
-    pub out-refused : {c : Cause} {i : ℕ} → r ≡ built.Refused c i → treeIn S tab ≡ refuses (numberOf c) (i ∷ [])
+    pub out-refused : {c : Cause} {i : ℕ} → r ≡ built.Refused c i → treeIn S tab ≡ refuses (causeNumber c) (i ∷ [])
     out-refused e = tree-refused S tab size m m-is sizes (subst (λ (v : Built). Outcome v (front S tab size m m-is sizes) T N m) e out)
 
     module _ (e : r ≡ built.Done) where

@@ -22,7 +22,7 @@ fn number_of(r: Planned) -> u32
         Planned::Room => 6,
         Planned::BadTree => 11,
         Planned::FileTooLarge(_) => 10,
-        Planned::Refused(cause, _) => dirtab_entry::number_of(cause),
+        Planned::Refused(cause, _) => dirtab_entry::cause_number(cause),
         Planned::TooManyDirectoryEntries(_) => 7,
         Planned::SectorOverflow(_) => 8,
     }

@@ -5,7 +5,7 @@ use crate::record::is;
 use crate::record::number_at;
 use crate::record::part;
 use crate::record::short_at;
-use dirtab_entry::number_of;
+use dirtab_entry::cause_number;
 use xdvdfs::ListWritten;
 use xdvdfs::Sector;
 ghost use Prim.Native.Nat.{_<_};
@@ -49,7 +49,7 @@ fn answer_is(s: &[u8], r: ListWritten) -> bool {
     match r {
         ListWritten::Done(size, next) => is_written(s, 0, 0, size, next.number()),
         ListWritten::Room => is_written(s, 6, 0, 0, 0),
-        ListWritten::Refused(cause, i) => is_written(s, number_of(cause), i, 0, 0),
+        ListWritten::Refused(cause, i) => is_written(s, cause_number(cause), i, 0, 0),
         ListWritten::TooManyDirectoryEntries => is_written(s, 7, 0, 0, 0),
         ListWritten::SectorOverflow => is_written(s, 8, 0, 0, 0),
         ListWritten::BufferTooSmall => is_written(s, 9, 0, 0, 0),

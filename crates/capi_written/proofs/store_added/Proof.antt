@@ -14,7 +14,7 @@ returns-2 : tie.Need-returns-2
 returns-2 c = let e = ap adding.told (c .enum-told .given .1) in (refused-number e, (refused-cell grownRoot _ e, refused-cell grownCount _ e))
 
 returns-3 : tie.Need-returns-3
-returns-3 c = let e = ap adding.told (c .before .before .r2 .given .1) in (c .number-of .ensures ∙ refused-number e, (refused-cell grownRoot _ e, refused-cell grownCount _ e))
+returns-3 c = let e = ap adding.told (c .before .before .r2 .given .1) in (c .cause-number .ensures ∙ refused-number e, (refused-cell grownRoot _ e, refused-cell grownCount _ e))
 
 pub store-added-spec : {M : Type 1} → statement M
 store-added-spec = tie.close (tie.spec (λ c. search needs) (λ c. search needs) (λ c. search needs) (λ c κs. search needs)

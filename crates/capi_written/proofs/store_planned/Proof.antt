@@ -35,7 +35,7 @@ returns-7 : tie.Need-returns-7
 returns-7 c =
     let g = c .before .before .r5 .given in
     let e = ap planning.told (g .1) in
-    (c .number-of .ensures ∙ refused-number e, (refused-cell itself _ e, (refused-value ofPlanned _ e (cause-planned (g .0 .0)) refl, refused-other ofDirectory _ e (cause-no-directory (g .0 .0)))))
+    (c .cause-number .ensures ∙ refused-number e, (refused-cell itself _ e, (refused-value ofPlanned _ e (cause-planned (g .0 .0)) refl, refused-other ofDirectory _ e (cause-no-directory (g .0 .0)))))
 
 pub store-planned-spec : {M : Type 1} → statement M
 store-planned-spec = tie.close (tie.spec (λ c. search needs) (λ c κs. search needs) (λ c. search needs)

@@ -19,7 +19,7 @@ returns-3 : tie.Need-returns-3
 returns-3 c =
     let g = c .before .before .r2 .given in
     let e = ap whole.told (g .1) in
-    (c .number-of .ensures ∙ refused-number e, (refused-cell tableSize _ e, (refused-cell nextFree _ e, refused-value ofEntry _ e (cause-listed (g .0 .0)) refl)))
+    (c .cause-number .ensures ∙ refused-number e, (refused-cell tableSize _ e, (refused-cell nextFree _ e, refused-value ofEntry _ e (cause-listed (g .0 .0)) refl)))
 
 returns-4 : tie.Need-returns-4
 returns-4 c = let e = ap whole.told (c .enum-told2 .given .1) in (refused-number e, (refused-cell tableSize _ e, (refused-cell nextFree _ e, refused-bare ofEntry _ e)))

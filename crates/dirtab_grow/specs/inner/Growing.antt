@@ -6,7 +6,7 @@ use mathlib.Core.List.{List, [], _∷_}
 use lib.Dec.{ltb}
 use lib.ListN.{length, getD}
 use Rattle.units.specs.Told.{Told, gives, refuses, pick}
-use Rattle.dirtab_entry.specs.Entry.{numberOf}
+use Rattle.dirtab_entry.specs.Entry.{causeNumber}
 use Rattle.avl_model.specs.declared.Place.the-variants.{Root, Right}
 use Rattle.avl_model.specs.declared.Spot.{Spot}
 use Rattle.avl_model.specs.declared.Spot.the-variants.{Free}
@@ -32,7 +32,7 @@ use Rattle.dirtab_grow.specs.Grow.{ifTaken, ifFree}
 -- what a step on entry i makes of the rest x: it goes on, or it refuses with the entry's number
 abbrev pub goOn : Step → ℕ → Told Tree → Told Tree
 goOn step.Taken i x = x
-goOn (step.Refused c) i x = refuses (numberOf c) (i ∷ [])
+goOn (step.Refused c) i x = refuses (causeNumber c) (i ∷ [])
 
 -- what entry i is to make of it: u is what its checks say, s where its name stands or would hang
 abbrev pub stepOf : Told (Unit {0}) → Spot → ℕ → Told Tree → Told Tree
@@ -94,7 +94,7 @@ pub record Roomy (L : Listing) (S : Lists) (K : List ℕ) (n : ℕ) : Type 0 whe
 -- what a seat answers, where the name of entry i stands or would hang at s
 abbrev pub Seated : Seat → Names → Spot → ℕ → Type 0
 Seated (seat.At q k) N s i = (s ≡ Free q) × ((i < 16384) × (k ≡ keyFor (nameAt N i)))
-Seated (seat.Refused c) N s i = (x : Told Tree) → refuses (numberOf c) (i ∷ []) ≡ stepOf (gives tt) s i x
+Seated (seat.Refused c) N s i = (x : Told Tree) → refuses (causeNumber c) (i ∷ []) ≡ stepOf (gives tt) s i x
 
 -- what a step answers, and leaves in the columns: t is the tree with the entry i in it
 pub record Stepped (r : Step) (u : Told (Unit {0})) (s : Spot) (i : ℕ) (S : Lists) (K : List ℕ) (N : Names) (t : Tree) :
@@ -112,4 +112,4 @@ pub record Holding (g : Told Tree) (S : Lists) (N : Names) (n : ℕ) : Type 0 wh
 -- what building answers and leaves, where g is to be told of the tree
 abbrev pub Outcome : Built → Told Tree → Lists → Names → ℕ → Type 0
 Outcome built.Done g S N n = Holding g S N n
-Outcome (built.Refused c i) g S N n = g ≡ refuses (numberOf c) (i ∷ [])
+Outcome (built.Refused c i) g S N n = g ≡ refuses (causeNumber c) (i ∷ [])

@@ -9,7 +9,7 @@ use lib.ListN.{length, length-set}
 use Rattle.units.specs.Told.{Told, refuses}
 use Rattle.avl_model.specs.Tree.{Tree}
 use Rattle.dirtab_entry.specs.declared.Cause.{Cause}
-use Rattle.dirtab_entry.specs.Entry.{numberOf}
+use Rattle.dirtab_entry.specs.Entry.{causeNumber}
 use Rattle.img_model.specs.Shares.{Request, columns, shareOf, directoriesOf, firstOf, countOf, part}
 use Rattle.img_model.specs.Plan.{tableIn, treeIn, sizesDown, total}
 use Rattle.img_table.specs.declared.TableSized.the-variants as sized
@@ -80,7 +80,7 @@ module _ (x : tie.After-size-directory Inv-loop μ-loop) where
   abbrev listed : List ℕ
   listed = part (k .before .loop .at) (countOf (R k) (d k)) orders
 
-  refused : (c : Cause) (i : ℕ) → x .size-directory .result ≡ sized.Refused c i → tree k ≡ refuses (numberOf c) (i ∷ [])
+  refused : (c : Cause) (i : ℕ) → x .size-directory .result ≡ sized.Refused c i → tree k ≡ refuses (causeNumber c) (i ∷ [])
   refused c i = refusal-of (shareOf (R k) (d k)) (tableIn (k .before .loop .sized)) listed (x .size-directory .result) c i (x .size-directory .ensures .0)
 
   too-large : (i : ℕ) → x .size-directory .result ≡ sized.FileTooLarge i → tree k ≡ refuses 10 (i ∷ [])

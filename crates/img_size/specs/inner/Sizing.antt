@@ -3,7 +3,7 @@ use Prim.Native.Nat.{ℕ, _≤_, _<_}
 use mathlib.Core.Path.{_≡_}
 use mathlib.Core.List.{List, [], _∷_}
 use Rattle.units.specs.Told.{Told, gives, refuses}
-use Rattle.dirtab_entry.specs.Entry.{numberOf}
+use Rattle.dirtab_entry.specs.Entry.{causeNumber}
 use Rattle.img_model.specs.Shares.{Request, directoriesOf, countOf}
 use Rattle.img_model.specs.Plan.{total}
 use Rattle.img_table.specs.declared.Arranged.{Arranged}
@@ -24,5 +24,5 @@ pub record Roomy (R : Request) (sizes left right parent height key size orders :
 -- what the answer of sizing all tables stands for; `sizes` is what it leaves
 abbrev pub toldSizes : Arranged → List ℕ → Told (List ℕ)
 toldSizes arranged.Done sizes = gives sizes
-toldSizes (arranged.Refused c j) sizes = refuses (numberOf c) (j ∷ [])
+toldSizes (arranged.Refused c j) sizes = refuses (causeNumber c) (j ∷ [])
 toldSizes (arranged.FileTooLarge j) sizes = refuses 10 (j ∷ [])

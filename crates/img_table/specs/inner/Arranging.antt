@@ -9,7 +9,7 @@ use Rattle.units.specs.Told.{Told, gives, refuses, pick}
 use Rattle.avl_model.specs.Tree.{Tree}
 use Rattle.avl_model.specs.Order.{order}
 use Rattle.table_model.specs.Table.{sizeOf}
-use Rattle.dirtab_entry.specs.Entry.{numberOf}
+use Rattle.dirtab_entry.specs.Entry.{causeNumber}
 use Rattle.img_model.specs.Shares.{Share, isDirectory, valueOf}
 use Rattle.img_model.specs.Plan.{entryIn, treeIn}
 use Rattle.img_table.specs.declared.Arranged.{Arranged}
@@ -59,7 +59,7 @@ pub record Ordered (g : Told Tree) (listed : List ℕ) : Type 0 where
 -- what arranging answers and leaves, where g is to be told of the tree
 abbrev pub Arrangement : Arranged → Told Tree → List ℕ → Type 0
 Arrangement arranged.Done g listed = Ordered g listed
-Arrangement (arranged.Refused c i) g listed = g ≡ refuses (numberOf c) (i ∷ [])
+Arrangement (arranged.Refused c i) g listed = g ≡ refuses (causeNumber c) (i ∷ [])
 Arrangement (arranged.FileTooLarge i) g listed = g ≡ refuses 10 (i ∷ [])
 
 -- what sizing one table answers and leaves
@@ -71,5 +71,5 @@ pub record Measured (S : Share) (tab : ℕ → ℕ) (listed : List ℕ) (z : ℕ
 
 abbrev pub Sizing : TableSized → Share → (ℕ → ℕ) → List ℕ → Type 0
 Sizing (sized.Done z) S tab listed = Measured S tab listed z
-Sizing (sized.Refused c i) S tab listed = treeIn S tab ≡ refuses (numberOf c) (i ∷ [])
+Sizing (sized.Refused c i) S tab listed = treeIn S tab ≡ refuses (causeNumber c) (i ∷ [])
 Sizing (sized.FileTooLarge i) S tab listed = treeIn S tab ≡ refuses 10 (i ∷ [])
