@@ -24,7 +24,8 @@
  *
  * WORDS. A window is a run of image bytes that starts at a sector, whose number is `first`; a sector has 2,048 bytes. A
  * table is given by its first sector and its size in bytes. Sectors are numbered from the start of the image, wherever
- * the window starts. An offset is a byte offset in a table, a place is an index into the window.
+ * the window starts. An offset is a byte offset in a table, a place is an index into the window. A stamp says when a
+ * volume was made: it counts 100 ns since the start of 1601, UTC, and 0 is no date.
  *
  * A NAME THAT IS LISTED MAY NOT BE FOUND. The two readers of a table take different links for absent: xdvdfs_walk 0 and
  * 65,535, xdvdfs_look_up and xdvdfs_find_path 0 and 255. An entry at offset 1,020, which a link of 255 names, and every
@@ -51,8 +52,8 @@ extern "C" {
 
 /* The version of this interface: as text, and as 10,000 for the first of its numbers, 100 for the second, 1 for the
  * third. */
-#define XDVDFS_VERSION "0.1.0"
-#define XDVDFS_VERSION_NUMBER 100
+#define XDVDFS_VERSION "0.2.0"
+#define XDVDFS_VERSION_NUMBER 200
 
 /* What a call returns. */
 enum xdvdfs_number {
@@ -160,6 +161,7 @@ static inline const char *xdvdfs_text(uint32_t number)
 #define XDVDFS_KIND_FILE 0u           /* the kinds of an entry to write; any number but 1 is a file */
 #define XDVDFS_KIND_DIRECTORY 1u
 #define XDVDFS_NO_NODE 65535u         /* the root of an arena that holds nothing; its count is 0 */
+#define XDVDFS_NO_DATE 0u             /* the stamp of a volume without a date */
 
 /*
  * The header of an entry. Links are in units of four bytes. A directory is an entry with the attribute bit
@@ -174,16 +176,140 @@ struct xdvdfs_fields {
     uint32_t name_len;
 };
 
+/*
+ * DATES. What follows, up to READING, is the way from a stamp to a date, in plain C, tested and not proved: what is
+ * proved ends at the stamp.
+ *
+ * The stamp of a Unix time t, in whole seconds, is XDVDFS_STAMP_1970 + (uint64_t)t * XDVDFS_STAMP_SECOND, for t from
+ * -11,644,473,599, a second into 1601, to 1,833,029,933,770, the last second that has a stamp.
+ */
+#define XDVDFS_STAMP_1970 UINT64_C(116444736000000000)  /* the stamp of 1970-01-01T00:00:00Z */
+#define XDVDFS_STAMP_SECOND UINT64_C(10000000)          /* a second, in the units of a stamp */
+#define XDVDFS_DATE_SIZE 32u                            /* the bytes that xdvdfs_date_text asks for */
+
+/* A date of the Gregorian calendar with a time of day, UTC. */
+struct xdvdfs_date {
+    uint32_t year;      /* 1601 to 60,056 */
+    uint32_t month;     /* from 1 on */
+    uint32_t day;       /* from 1 on */
+    uint32_t hour;
+    uint32_t minute;
+    uint32_t second;
+    uint32_t fraction;  /* of the second, in units of 100 ns */
+};
+
+/* How many whole runs of `run` days *days has, but at most `most`; they are taken off. */
+static inline uint32_t xdvdfs_take_runs(uint32_t *days, uint32_t run, uint32_t most)
+{
+    uint32_t runs = *days / run;
+    if (runs > most)
+        runs = most;
+    *days -= runs * run;
+    return runs;
+}
+
+/* How many whole months of a year *days has; they are taken off. */
+static inline uint32_t xdvdfs_take_months(uint32_t *days, int leap_day)
+{
+    const uint32_t lengths[] = {31, leap_day ? 29u : 28u, 31, 30, 31, 30, 31, 31, 30, 31, 30, 31};
+    uint32_t months = 0;
+    while (*days >= lengths[months]) {
+        *days -= lengths[months];
+        months++;
+    }
+    return months;
+}
+
+/*
+ * The date of a stamp: 1, and *date is it; 0 for XDVDFS_NO_DATE, and *date is left as it was.
+ * Each 400 years from 1601 on have 146,097 days. Their centuries have 36,524 days, the last of them one more; each four
+ * years have 1,461 days, at the end of a century perhaps one less; their years 365, the last of them perhaps one more.
+ */
+static inline int xdvdfs_date_of(uint64_t stamp, struct xdvdfs_date *date)
+{
+    uint64_t seconds = stamp / XDVDFS_STAMP_SECOND;
+    uint32_t of_day = (uint32_t)(seconds % 86400), days = (uint32_t)(seconds / 86400);
+    uint32_t cycles = xdvdfs_take_runs(&days, 146097, UINT32_MAX);
+    uint32_t centuries = xdvdfs_take_runs(&days, 36524, 3);
+    uint32_t fours = xdvdfs_take_runs(&days, 1461, 24);
+    uint32_t years = xdvdfs_take_runs(&days, 365, 3);
+    int leap_day = years == 3 && (fours != 24 || centuries == 3);
+    if (stamp == XDVDFS_NO_DATE)
+        return 0;
+    date->year = 1601 + 400 * cycles + 100 * centuries + 4 * fours + years;
+    date->month = xdvdfs_take_months(&days, leap_day) + 1;
+    date->day = days + 1;
+    date->hour = of_day / 3600;
+    date->minute = of_day / 60 % 60;
+    date->second = of_day % 60;
+    date->fraction = (uint32_t)(stamp % XDVDFS_STAMP_SECOND);
+    return 1;
+}
+
+/* Puts the last `digits` decimal digits of a number; the place after them. */
+static inline char *xdvdfs_put_digits(char *at, uint32_t number, uint32_t digits)
+{
+    uint32_t i;
+    for (i = digits; i > 0; i--) {
+        at[i - 1] = (char)('0' + number % 10);
+        number /= 10;
+    }
+    return at + digits;
+}
+
+/* Puts a date as xdvdfs_date_text has it; the place after it. */
+static inline char *xdvdfs_put_date(char *at, struct xdvdfs_date date)
+{
+    const uint32_t pairs[] = {date.month, date.day, date.hour, date.minute, date.second};
+    const char *before = "--T::";
+    uint32_t i;
+    if (date.year > 9999)
+        *at++ = '+';
+    at = xdvdfs_put_digits(at, date.year, date.year > 9999 ? 5 : 4);
+    for (i = 0; i < 5; i++) {
+        *at++ = before[i];
+        at = xdvdfs_put_digits(at, pairs[i], 2);
+    }
+    if (date.fraction != 0) {
+        *at++ = '.';
+        at = xdvdfs_put_digits(at, date.fraction, 7);
+    }
+    *at++ = 'Z';
+    return at;
+}
+
+/*
+ * The date of a stamp as text for people, ended by a 0, in `text`, which is returned: "no date" for XDVDFS_NO_DATE,
+ * else as ISO 8601 has it, UTC, like 1970-01-01T00:00:00Z. Where it is no whole second, a fraction of seven digits
+ * comes after the seconds, like 1601-01-01T00:00:00.0000001Z; a year from 10,000 on has a plus sign and all its
+ * digits, like +10000-01-01T00:00:00Z.
+ */
+static inline const char *xdvdfs_date_text(uint64_t stamp, char text[XDVDFS_DATE_SIZE])
+{
+    const char *none = "no date";
+    struct xdvdfs_date date = {0, 0, 0, 0, 0, 0, 0};
+    char *at = text;
+    if (xdvdfs_date_of(stamp, &date))
+        at = xdvdfs_put_date(at, date);
+    else
+        while (*none != 0)
+            *at++ = *none++;
+    *at = 0;
+    return text;
+}
+
 /* READING */
 
 /*
  * Reads the volume descriptor that `s` starts with: sector 32 of an image.
- * 0: *sector and *size are those of the root table. XDVDFS_NO_VOLUME.
+ * 0: *sector and *size are those of the root table, *stamp is the volume's, XDVDFS_NO_DATE where it has no date.
+ * XDVDFS_NO_VOLUME.
  */
 uint32_t xdvdfs_read_descriptor(
     const uint8_t *s, size_t s_len,
     uint32_t *sector,  /* [out] */
-    uint32_t *size);   /* [out] */
+    uint32_t *size,    /* [out] */
+    uint64_t *stamp);  /* [out] */
 
 /*
  * Reads the entry at an offset of a table.
@@ -288,11 +414,13 @@ uint32_t xdvdfs_check_table(
 /* WRITING */
 
 /*
- * Writes a volume descriptor into the first 2,048 bytes of `out`. XDVDFS_BUFFER_TOO_SMALL: nothing is changed.
+ * Writes a volume descriptor into the first 2,048 bytes of `out`: sector and size of the root table, and the volume's
+ * stamp. XDVDFS_BUFFER_TOO_SMALL: nothing is changed.
  */
 uint32_t xdvdfs_write_descriptor(
     uint8_t *out, size_t out_len,  /* [out] */
-    uint32_t sector, uint32_t size);
+    uint32_t sector, uint32_t size,
+    uint64_t stamp);
 
 /* The number of the first sector that an image hands out: 33. */
 uint32_t xdvdfs_first_sector(void);

@@ -1,10 +1,12 @@
 /*
- * tests: what include/xdvdfs.h says of empty slices, of names that are listed and not found, of rings, of shares that overlap, of a kind that is neither 0 nor 1 and of the numbers' texts.
+ * tests: what include/xdvdfs.h says of empty slices, of names that are listed and not found, of rings, of shares that overlap, of a kind that is neither 0 nor 1, of the
+ * bytes of a descriptor, of dates and of the numbers' texts.
  * For every slice of every function a call is made in which that slice is NULL with length 0 and the others are there, and one in which all are; each number, each [out] cell and all
  * lent memory are compared with what the header says. bin/test-bindings builds and runs it. It prints each difference; its last line counts.
  */
 #include <stdio.h>
 #include <string.h>
+#include <time.h>
 
 #include "xdvdfs.h"
 
@@ -16,6 +18,15 @@ static void expect(int line, const char *what, int missing, unsigned long is, un
     if (is != should) {
         wrong++;
         printf("tests.c:%d: %s, slice %d: %lu and not %lu\n", line, what, missing, is, should);
+    }
+}
+
+static void expect_text(int line, const char *is, const char *should)
+{
+    tried++;
+    if (strcmp(is, should) != 0) {
+        wrong++;
+        printf("tests.c:%d: %s and not %s\n", line, is, should);
     }
 }
 
@@ -47,12 +58,14 @@ static void reading(void)
 {
     struct xdvdfs_fields fields;
     uint32_t sector = UNTOUCHED, size = UNTOUCHED, found, offset, headers;
+    uint64_t stamp = UNTOUCHED;
     size_t place, start, len;
     int missing = 0;
 
-    EXPECT("read_descriptor", xdvdfs_read_descriptor(NULL, 0, &sector, &size), XDVDFS_NO_VOLUME);
+    EXPECT("read_descriptor", xdvdfs_read_descriptor(NULL, 0, &sector, &size, &stamp), XDVDFS_NO_VOLUME);
     EXPECT("read_descriptor: sector", sector, UNTOUCHED);
     EXPECT("read_descriptor: size", size, UNTOUCHED);
+    EXPECT("read_descriptor: stamp", stamp, UNTOUCHED);
 
     FILL(fields);
     found = offset = headers = UNTOUCHED;
@@ -429,11 +442,134 @@ static void ringed(void)
     EXPECT("check a ring with one place", xdvdfs_check_table(ring, 48, 0, 0, 48, list, 1, wide, 2, &count, &offset), XDVDFS_WALK_FULL);
 }
 
+/* A descriptor is written and read back; the stamp is its bytes 28 to 35, and no other byte hangs on it */
+static void described(uint64_t stamp)
+{
+    static uint8_t undated[2050], out[2050];
+    uint32_t sector = UNTOUCHED, size = UNTOUCHED;
+    uint64_t read = UNTOUCHED;
+    int missing = NONE, i;
+    FILL(undated);
+    EXPECT("write_descriptor without a date", xdvdfs_write_descriptor(undated, sizeof undated, 33, 48, XDVDFS_NO_DATE), XDVDFS_DONE);
+    FILL(out);
+    EXPECT("write_descriptor of 2,047 bytes", xdvdfs_write_descriptor(out, 2047, 33, 48, stamp), XDVDFS_BUFFER_TOO_SMALL);
+    IS_FILL("write_descriptor of 2,047 bytes: out", out);
+    EXPECT("write_descriptor of a stamp", xdvdfs_write_descriptor(out, sizeof out, 33, 48, stamp), XDVDFS_DONE);
+    for (i = 0; i < 8; i++)
+        EXPECT("write_descriptor: a byte of the stamp", out[28 + i], stamp >> (8 * i) & 0xff);
+    EXPECT("write_descriptor: before the stamp", memcmp(out, undated, 28), 0);
+    EXPECT("write_descriptor: after the stamp", memcmp(out + 36, undated + 36, 2048 - 36), 0);
+    EXPECT("write_descriptor: past the descriptor", same_bytes(out + 2048, 2, 0x4d), 1);
+    EXPECT("read_descriptor of 2,047 bytes", xdvdfs_read_descriptor(out, 2047, &sector, &size, &read), XDVDFS_NO_VOLUME);
+    EXPECT("read_descriptor of 2,047 bytes: the cells", sector == UNTOUCHED && size == UNTOUCHED && read == UNTOUCHED, 1);
+    EXPECT("read_descriptor of a stamp", xdvdfs_read_descriptor(out, 2048, &sector, &size, &read), XDVDFS_DONE);
+    EXPECT("read_descriptor of a stamp: the root", sector == 33 && size == 48, 1);
+    EXPECT("read_descriptor of a stamp: it", read, stamp);
+}
+
+static void descriptors(void)
+{
+    static const uint64_t stamps[] = {0, 1, UINT32_MAX, UINT64_C(1) << 32, UINT64_C(1) << 63, UINT64_MAX};
+    size_t i;
+    for (i = 0; i < sizeof stamps / sizeof *stamps; i++)
+        described(stamps[i]);
+}
+
+static void known_dates(void)
+{
+    static const struct {
+        uint64_t stamp;
+        const char *text;
+    } known[] = {
+        {XDVDFS_NO_DATE, "no date"},
+        {1, "1601-01-01T00:00:00.0000001Z"},
+        {UINT64_C(863999999999), "1601-01-01T23:59:59.9999999Z"},
+        {UINT64_C(864000000000), "1601-01-02T00:00:00Z"},
+        {UINT64_C(95667264000000000), "1904-02-29T00:00:00Z"},
+        {UINT64_C(0x019db1ded53e8000), "1970-01-01T00:00:00Z"},
+        {UINT64_C(125911583999999999), "1999-12-31T23:59:59.9999999Z"},
+        {UINT64_C(125911584000000000), "2000-01-01T00:00:00Z"},
+        {UINT64_C(125962560000000000), "2000-02-29T00:00:00Z"},
+        {UINT64_C(0x01c16d6877fa4000), "2001-11-15T00:00:00Z"},
+        {UINT64_C(0x01dd75c2017c2000), "2026-11-16T12:00:00Z"},
+        {UINT64_C(157520159999999999), "2100-02-28T23:59:59.9999999Z"},
+        {UINT64_C(157520160000000000), "2100-03-01T00:00:00Z"},
+        {UINT64_C(2650467743999999999), "9999-12-31T23:59:59.9999999Z"},
+        {UINT64_C(2650467744000000000), "+10000-01-01T00:00:00Z"},
+        {UINT64_C(1) << 63, "+30828-09-14T02:48:05.4775808Z"},
+        {UINT64_MAX, "+60056-05-28T05:36:10.9551615Z"},
+    };
+    char text[XDVDFS_DATE_SIZE];
+    int missing = NONE;
+    size_t i;
+    for (i = 0; i < sizeof known / sizeof *known; i++) {
+        FILL(text);
+        EXPECT("date_text: the buffer", xdvdfs_date_text(known[i].stamp, text) == text, 1);
+        expect_text(__LINE__, text, known[i].text);
+    }
+}
+
+/* No date is no date: nothing is put in its place. A stamp of 1 has one */
+static void no_date(void)
+{
+    struct xdvdfs_date date;
+    int missing = NONE;
+    FILL(date);
+    EXPECT("date_of no date", xdvdfs_date_of(XDVDFS_NO_DATE, &date), 0);
+    EXPECT("date_of no date: is as it was", same_bytes(&date, sizeof date, 0x4d), 1);
+    EXPECT("date_of a date", xdvdfs_date_of(1, &date), 1);
+    EXPECT("date_of a date: its day", date.year == 1601 && date.month == 1 && date.day == 1, 1);
+    EXPECT("date_of a date: its time", date.hour == 0 && date.minute == 0 && date.second == 0 && date.fraction == 1, 1);
+}
+
+/* Whether the text of a Unix time's date, and of so many 100 ns more, is what libc's calendar says */
+static int is_as_libc_has_it(int64_t unix_time, unsigned fraction)
+{
+    uint64_t stamp = XDVDFS_STAMP_1970 + (uint64_t)unix_time * XDVDFS_STAMP_SECOND + fraction;
+    char text[XDVDFS_DATE_SIZE], should[80];
+    time_t t = (time_t)unix_time;
+    const struct tm *tm = gmtime(&t);
+    int year, n;
+    if (tm == NULL)
+        return 0;
+    year = tm->tm_year + 1900;
+    n = sprintf(should, "%s%04d-%02d-%02dT%02d:%02d:%02d", year > 9999 ? "+" : "", year, tm->tm_mon + 1, tm->tm_mday, tm->tm_hour, tm->tm_min, tm->tm_sec);
+    if (fraction != 0)
+        n += sprintf(should + n, ".%07u", fraction);
+    strcpy(should + n, "Z");
+    return strcmp(xdvdfs_date_text(stamp, text), should) == 0;
+}
+
+/* How many dates differ from libc's, of Unix times from the first to the last, each so many seconds after the one before */
+static unsigned long other_dates(int64_t first, int64_t step, int64_t last)
+{
+    unsigned long other = 0;
+    for (; first <= last; first += step)
+        other += !is_as_libc_has_it(first, (unsigned)(first & 1) * 9999999);
+    return other;
+}
+
+static void dates_of_libc(void)
+{
+    const int64_t day = 86400, first = INT64_C(-11644473599), start_of_2401 = INT64_C(13601088000), last = INT64_C(1833029933770);
+    int missing = NONE;
+    if (sizeof(time_t) < sizeof(int64_t)) {
+        printf("tests.c: time_t has %u bytes, too few: dates are not compared with libc's\n", (unsigned)sizeof(time_t));
+        return;
+    }
+    EXPECT("the first second that has a date", is_as_libc_has_it(first, 0), 1);
+    EXPECT("the last second that has a date", is_as_libc_has_it(last, 9551615), 1);
+    EXPECT("dates that differ, of a second into each day of 800 years", other_dates(first, day, start_of_2401), 0);
+    EXPECT("dates that differ, of the last second of each day of 800 years", other_dates(first + day - 2, day, start_of_2401), 0);
+    EXPECT("dates that differ, of every 101 days and 7,919 seconds", other_dates(first, 101 * day + 7919, last - 1), 0);
+    EXPECT("dates that differ, of each second of a day", other_dates(0, 1, day), 0);
+}
+
 static void others(void)
 {
     uint32_t next = 33, start = UNTOUCHED;
     int missing = 0;
-    EXPECT("write_descriptor", xdvdfs_write_descriptor(NULL, 0, 33, 48), XDVDFS_BUFFER_TOO_SMALL);
+    EXPECT("write_descriptor", xdvdfs_write_descriptor(NULL, 0, 33, 48, XDVDFS_NO_DATE), XDVDFS_BUFFER_TOO_SMALL);
     /* these have no slice */
     missing = NONE;
     EXPECT("first_sector", xdvdfs_first_sector(), 33);
@@ -478,6 +614,10 @@ int main(void)
     shares();
     hidden();
     ringed();
+    descriptors();
+    known_dates();
+    no_date();
+    dates_of_libc();
     others();
     texts();
     printf("bindings/c/tests: %d compared, %d differ\n", tried, wrong);

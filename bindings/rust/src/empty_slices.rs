@@ -42,10 +42,10 @@ const ABC: [u8; 48] = [
 
 #[test]
 fn descriptors_and_entries() {
-    let (mut sector, mut size) = (UNTOUCHED, UNTOUCHED);
-    assert_eq!(unsafe { sys::xdvdfs_read_descriptor(null(), 0, &mut sector, &mut size) }, 20);
-    assert_eq!((sector, size), (UNTOUCHED, UNTOUCHED));
-    assert_eq!(unsafe { sys::xdvdfs_write_descriptor(null_mut(), 0, 33, 48) }, 9);
+    let (mut sector, mut size, mut stamp) = (UNTOUCHED, UNTOUCHED, 77);
+    assert_eq!(unsafe { sys::xdvdfs_read_descriptor(null(), 0, &mut sector, &mut size, &mut stamp) }, 20);
+    assert_eq!((sector, size, stamp), (UNTOUCHED, UNTOUCHED, 77));
+    assert_eq!(unsafe { sys::xdvdfs_write_descriptor(null_mut(), 0, 33, 48, 5) }, 9);
     let (mut found, mut fields, mut place) = (UNTOUCHED, [UNTOUCHED; 6], 77);
     for (size, number) in [(0, 23), (48, 24)] {
         assert_eq!(unsafe { sys::xdvdfs_read_entry(null(), 0, 0, 0, size, 16, &mut found, &mut fields, &mut place) }, number);
@@ -219,7 +219,8 @@ fn lists() {
 fn plans() {
     for (directories, entries) in [(0, 0), (0, 1), (1, 0), (1, 1)] {
         for missing in ways(18) {
-            let (first, share) = (read(missing, 0, &[0]), read(missing, 1, &[entries]));
+            let shares = [entries];
+            let (first, share) = (read(missing, 0, &[0]), read(missing, 1, &shares));
             let (start, len) = (read(missing, 2, &[0]), read(missing, 3, &[1]));
             let (kind, value, names) = (read(missing, 4, &[0]), read(missing, 5, &[1]), read(missing, 6, b"a"));
             let (mut sizes, mut tables, mut sectors) = ([7], [7], [7]);

@@ -1,7 +1,7 @@
 //! XDVDFS directory tables, read and written by proved code.
 //!
 //! A safe skin over libcapi.a (`rt staticlib capi`): slices in, `Result<_, Error>` out. Every number and every byte is accepted: bad input is an [`Error`], whose message
-//! says in words what is wrong.
+//! says in words what is wrong. The date of a [`Stamp`] is worked out in this crate, tested and not proved.
 //!
 //! ```
 //! use xdvdfs_tables::{write_table, Kind, NewEntry, Table, Window};
@@ -13,19 +13,23 @@
 //! assert_eq!((found.entry.name, found.entry.header.sector, found.headers), (&b"ab"[..], 33, 1));
 //! # Ok::<(), xdvdfs_tables::Error>(())
 //! ```
+mod date;
 mod error;
 mod plan;
 mod read;
 mod sys;
 mod write;
 
+pub use date::{Date, Stamp};
 pub use error::Error;
 pub use plan::{plan, Content, Plan, PlanEntry};
-pub use read::{read_descriptor, Entry, Found, Header, Table, Window};
+pub use read::{read_descriptor, Descriptor, Entry, Found, Header, Table, Window};
 pub use write::{
     required_sectors, write_descriptor, write_list, write_table, Arena, Kind, List, NewEntry, Scratch, SectorCounter, Written,
 };
 
+#[cfg(test)]
+mod date_tests;
 #[cfg(test)]
 mod empty_slices;
 #[cfg(test)]

@@ -1,5 +1,5 @@
 //! Reading tables out of a window of image bytes.
-use crate::{sys, Error};
+use crate::{sys, Error, Stamp};
 
 /// A directory table: its first sector, and its size in bytes.
 #[derive(Clone, Copy, Debug, PartialEq, Eq)]
@@ -14,6 +14,13 @@ impl Table {
     pub fn most_entries(self) -> usize {
         self.size.div_ceil(4).min(65_536) as usize
     }
+}
+
+/// A volume descriptor: the root table, and the stamp.
+#[derive(Clone, Copy, Debug, PartialEq, Eq)]
+pub struct Descriptor {
+    pub root: Table,
+    pub stamp: Stamp,
 }
 
 /// The header of an entry. Links are in units of four bytes.
@@ -73,11 +80,11 @@ pub struct Window<'a> {
     pub first: u32,
 }
 
-/// Reads the volume descriptor that the bytes start with: the root table.
-pub fn read_descriptor(bytes: &[u8]) -> Result<Table, Error> {
-    let (mut sector, mut size) = (0, 0);
-    match unsafe { sys::xdvdfs_read_descriptor(bytes.as_ptr(), bytes.len(), &mut sector, &mut size) } {
-        0 => Ok(Table { sector, size }),
+/// Reads the volume descriptor that the bytes start with.
+pub fn read_descriptor(bytes: &[u8]) -> Result<Descriptor, Error> {
+    let (mut sector, mut size, mut stamp) = (0, 0, 0);
+    match unsafe { sys::xdvdfs_read_descriptor(bytes.as_ptr(), bytes.len(), &mut sector, &mut size, &mut stamp) } {
+        0 => Ok(Descriptor { root: Table { sector, size }, stamp: Stamp(stamp) }),
         n => Err(Error::reading(n, 0, None)),
     }
 }

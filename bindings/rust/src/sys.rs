@@ -4,7 +4,7 @@
 pub type Fields = [u32; 6];
 
 extern "C" {
-    pub fn xdvdfs_read_descriptor(s: *const u8, s_len: usize, sector: *mut u32, size: *mut u32) -> u32;
+    pub fn xdvdfs_read_descriptor(s: *const u8, s_len: usize, sector: *mut u32, size: *mut u32, stamp: *mut u64) -> u32;
     pub fn xdvdfs_read_entry(
         w: *const u8,
         w_len: usize,
@@ -68,7 +68,7 @@ extern "C" {
         count: *mut usize,
         offset: *mut u32,
     ) -> u32;
-    pub fn xdvdfs_write_descriptor(out: *mut u8, out_len: usize, sector: u32, size: u32) -> u32;
+    pub fn xdvdfs_write_descriptor(out: *mut u8, out_len: usize, sector: u32, size: u32, stamp: u64) -> u32;
     pub fn xdvdfs_first_sector() -> u32;
     pub fn xdvdfs_required_sectors(length: u64) -> u64;
     pub fn xdvdfs_take_sectors(next: *mut u32, length: u64, start: *mut u32) -> u32;

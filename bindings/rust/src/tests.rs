@@ -17,7 +17,7 @@ fn image() -> (Vec<u8>, Table) {
     assert_eq!((i, r), (Written { size: 16, next_free: 37 }, Written { size: 36, next_free: 36 }));
     let mut bytes = vec![0; 2048];
     let table = Table { sector: 33, size: r.size };
-    write_descriptor(&mut bytes, table).unwrap();
+    write_descriptor(&mut bytes, Descriptor { root: table, stamp: Stamp::NO_DATE }).unwrap();
     bytes.extend_from_slice(&root);
     bytes.extend_from_slice(&inner);
     (bytes, table)
@@ -43,7 +43,7 @@ fn the_first_cases_of_the_scope() {
 #[test]
 fn reading() {
     let (bytes, root) = image();
-    assert_eq!(read_descriptor(&bytes), Ok(root));
+    assert_eq!(read_descriptor(&bytes), Ok(Descriptor { root, stamp: Stamp::NO_DATE }));
     assert_eq!(read_descriptor(&bytes[..2047]), Err(Error::NoVolume));
     assert_eq!(read_descriptor(&[]), Err(Error::NoVolume));
     let window = Window { bytes: &bytes, first: 32 };
@@ -247,11 +247,20 @@ fn sectors() {
 
 #[test]
 fn descriptors() {
-    let mut out = vec![7; 2050];
-    assert_eq!(write_descriptor(&mut out[..2047], Table { sector: 1, size: 2 }), Err(Error::BufferTooSmall));
-    assert!(out.iter().all(|&b| b == 7));
-    write_descriptor(&mut out, Table { sector: 1, size: 2 }).unwrap();
-    assert_eq!((read_descriptor(&out), &out[2048..]), (Ok(Table { sector: 1, size: 2 }), &[7, 7][..]));
+    let root = Table { sector: 1, size: 2 };
+    let mut undated = vec![7; 2050];
+    write_descriptor(&mut undated, Descriptor { root, stamp: Stamp::NO_DATE }).unwrap();
+    assert_eq!(undated[28..36], [0; 8]);
+    for stamp in [0, 1, u32::MAX.into(), 1 << 32, 1 << 63, u64::MAX] {
+        let descriptor = Descriptor { root, stamp: Stamp(stamp) };
+        let mut out = vec![7; 2050];
+        assert_eq!(write_descriptor(&mut out[..2047], descriptor), Err(Error::BufferTooSmall));
+        assert!(out.iter().all(|&b| b == 7));
+        write_descriptor(&mut out, descriptor).unwrap();
+        assert_eq!((read_descriptor(&out), &out[2048..]), (Ok(descriptor), &[7, 7][..]));
+        assert_eq!(out[28..36], stamp.to_le_bytes());
+        assert_eq!((&out[..28], &out[36..]), (&undated[..28], &undated[36..]));
+    }
 }
 
 #[test]

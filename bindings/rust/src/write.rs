@@ -1,5 +1,5 @@
 //! Writing tables: one entry after another into an arena that is then written, or a whole list in one call.
-use crate::{sys, Error, Table};
+use crate::{sys, Descriptor, Error};
 
 #[derive(Clone, Copy, Debug, PartialEq, Eq)]
 pub enum Kind {
@@ -25,8 +25,9 @@ pub struct Written {
 }
 
 /// Writes a volume descriptor into the first 2,048 bytes of the output.
-pub fn write_descriptor(out: &mut [u8], root: Table) -> Result<(), Error> {
-    match unsafe { sys::xdvdfs_write_descriptor(out.as_mut_ptr(), out.len(), root.sector, root.size) } {
+pub fn write_descriptor(out: &mut [u8], descriptor: Descriptor) -> Result<(), Error> {
+    let Descriptor { root, stamp } = descriptor;
+    match unsafe { sys::xdvdfs_write_descriptor(out.as_mut_ptr(), out.len(), root.sector, root.size, stamp.0) } {
         0 => Ok(()),
         n => Err(Error::writing(n)),
     }

@@ -13,8 +13,8 @@ sectorOf n = record { 0 = n }
 abbrev pub regionOf : ℕ → ℕ → Region
 regionOf sector size = record { sector = sectorOf sector; size = size }
 
-abbrev pub descriptorOf : ℕ → ℕ → Descriptor
-descriptorOf sector size = record { root = regionOf sector size }
+abbrev pub descriptorOf : ℕ → ℕ → ℕ → Descriptor
+descriptorOf sector size stamp = record { root = regionOf sector size; stamp = stamp }
 
 abbrev pub entryOf : ℕ → ℕ → ℕ → ℕ → given.Entry
 entryOf start len kind size = record { start = start; len = len; kind = kindFor kind; size = size }

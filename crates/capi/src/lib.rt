@@ -51,7 +51,7 @@ ghost use Rattle.capi.specs.Given.{sectorOf, regionOf, descriptorOf, ent
 ghost use Rattle.capi_cells.specs.Cells.{ofGiven, ofSome, isSome, ofRefusal, atOffset, atFault, afterHeaders};
 ghost use Rattle.capi_cells.specs.Cells.{nameStart};
 ghost use Rattle.capi_cells.specs.Parts.{placedFields, placedAt, foundFields, foundPlace, foundOffset, foundHeaders};
-ghost use Rattle.capi_cells.specs.Parts.{rootSector, rootSize, itself};
+ghost use Rattle.capi_cells.specs.Parts.{rootSector, rootSize, stampOf, itself};
 ghost use Rattle.capi_written.specs.Parts.{ofEntry, ofPlanned, ofDirectory, grownRoot, grownCount, tableSize};
 ghost use Rattle.capi_written.specs.Parts.{nextFree, runStart, runFree};
 
@@ -73,16 +73,22 @@ fn region_of(sector: u32, size: u32) -> Region
 
 // READING
 
-// Reads the volume descriptor that the bytes start with: sector and size of the root table. 20.
+// Reads the volume descriptor that the bytes start with: sector and size of the root table, and the stamp. 20.
 #[no_mangle]
-pub extern "C" fn xdvdfs_read_descriptor(s: &[u8], sector: &mut u32, size: &mut u32) -> u32
+pub extern "C" fn xdvdfs_read_descriptor(
+    s: &[u8],
+    sector: &mut u32,
+    size: &mut u32,
+    stamp: &mut u64,
+) -> u32
     ensures { λ n.
         let answer = volume.readOf (was s) in
         ⌜ n ≡ numberOf answer ⌝
         ∗ ⌜ is sector ≡ ofGiven rootSector answer (was sector) ⌝
-        ∗ ⌜ is size ≡ ofGiven rootSize answer (was size) ⌝ }
+        ∗ ⌜ is size ≡ ofGiven rootSize answer (was size) ⌝
+        ∗ ⌜ is stamp ≡ ofGiven stampOf answer (was stamp) ⌝ }
 {
-    store_descriptor(xdvdfs::read_descriptor(s), sector, size)
+    store_descriptor(xdvdfs::read_descriptor(s), sector, size, stamp)
 }
 
 // Reads the entry at an offset of a table: whether one is there, its six fields and its place in the window. 23,
@@ -238,14 +244,15 @@ pub extern "C" fn xdvdfs_check_table(
 
 // WRITING
 
-// Writes a volume descriptor into the first 2,048 bytes of the output. 9.
+// Writes a volume descriptor, with its stamp, into the first 2,048 bytes of the output. 9.
 #[no_mangle]
-pub extern "C" fn xdvdfs_write_descriptor(out: &mut [u8], sector: u32, size: u32) -> u32
+pub extern "C" fn xdvdfs_write_descriptor(out: &mut [u8], sector: u32, size: u32, stamp: u64) -> u32
     ensures { λ n. ⌜ n ≡ numberOf (volume.writeOf (was out)) ⌝ }
-    ensures { λ _. ⌜ is out ≡ volume.bytesAfter (was out) (descriptorOf sector size) ⌝ }
+    ensures { λ _. ⌜ is out ≡ volume.bytesAfter (was out) (descriptorOf sector size stamp) ⌝ }
 {
     let d = Descriptor {
         root: region_of(sector, size),
+        stamp: stamp,
     };
     number_of_written(xdvdfs::write_descriptor(out, d))
 }

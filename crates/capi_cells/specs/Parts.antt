@@ -35,5 +35,8 @@ rootSector d = d .root .sector .0
 abbrev pub rootSize : Descriptor → ℕ
 rootSize d = d .root .size
 
+abbrev pub stampOf : Descriptor → ℕ
+stampOf d = d .stamp
+
 abbrev pub itself : ℕ → ℕ
 itself n = n

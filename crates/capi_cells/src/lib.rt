@@ -24,7 +24,7 @@ ghost use Rattle.strict_rule.specs.Strict as checking;
 ghost use Rattle.capi_cells.specs.Cells.{ofGiven, ofSome, isSome, ofRefusal, atOffset, atFault, afterHeaders};
 ghost use Rattle.capi_cells.specs.Cells.{nameStart};
 ghost use Rattle.capi_cells.specs.Parts.{fieldsOf, placedFields, placedAt, foundFields, foundPlace};
-ghost use Rattle.capi_cells.specs.Parts.{foundOffset, foundHeaders, rootSector, rootSize, itself};
+ghost use Rattle.capi_cells.specs.Parts.{foundOffset, foundHeaders, rootSector, rootSize, stampOf, itself};
 
 // The six numbers of a header.
 pub fn store_fields(h: Header, fields: &mut [u32; 6])
@@ -43,11 +43,12 @@ pub fn store_fields(h: Header, fields: &mut [u32; 6])
     ];
 }
 
-// Where the root table stands.
-pub fn store_descriptor(r: DescriptorRead, sector: &mut u32, size: &mut u32) -> u32
+// Where the root table stands, and the stamp.
+pub fn store_descriptor(r: DescriptorRead, sector: &mut u32, size: &mut u32, stamp: &mut u64) -> u32
     ensures { λ n. ⌜ n ≡ numberOf (volume.readTold r) ⌝ }
     ensures { λ _. ⌜ is sector ≡ ofGiven rootSector (volume.readTold r) (was sector) ⌝ }
     ensures { λ _. ⌜ is size ≡ ofGiven rootSize (volume.readTold r) (was size) ⌝ }
+    ensures { λ _. ⌜ is stamp ≡ ofGiven stampOf (volume.readTold r) (was stamp) ⌝ }
 {
     match r {
         DescriptorRead::Volume(d) => {
@@ -55,6 +56,7 @@ pub fn store_descriptor(r: DescriptorRead, sector: &mut u32, size: &mut u32) -> 
             let start = root.sector;
             *sector = start.number();
             *size = root.size;
+            *stamp = d.stamp;
             0
         }
         DescriptorRead::NoVolume => 20,

@@ -19,6 +19,7 @@ pub determined : Determined
 determined = record {
   read-descriptor = λ s r q a b. volume.read-told-one r q (a ∙ sym b);
   write-descriptor = λ out d r q m n a b. (volume.write-told-one r q (a .0 ∙ sym (b .0)), a .1 ∙ sym (b .1));
+  read-date = λ stamp r q a b. volume.date-told-one r q (a ∙ sym b);
   take = λ next n r q a b. counter.told-one r q (a ∙ sym b);
   locate = λ t o r q a b. locating.told-one r q (a ∙ sym b);
   read-entry = λ w first t o r q a b. entry.told-one r q (a ∙ sym b);

@@ -1,12 +1,13 @@
 -- WHAT THE STATEMENTS SUPPOSE CAN BE MET, computed: by a list of `a`, `b`, `c`, files of size 1, written from sector 34 on; by an arena that holds them; by an
--- image with a directory `d` and a file `a` in its root, and a file `b` in `d`; and by a chain that reads an offset again. Assumes nothing.
+-- image with a directory `d` and a file `a` in its root, and a file `b` in `d`; by a chain that reads an offset again; and by a descriptor with the greatest numbers that its
+-- fields hold, and two windows that differ in their stamp alone. Assumes nothing.
 use Prim.Native.Nat.{ℕ, zero, suc, _+_, _≤_, _<_}
 use native.Mathlib.Omega.{arith}
 use mathlib.Core.Path.{_≡_, refl, sym, ap, _∙_}
 use mathlib.Core.Bool.{Bool, true, _&&_}
 use mathlib.Core.Logic.{inl, inr}
 use mathlib.Core.List.{List, [], _∷_, _++_, append-nil}
-use lib.ListN.{length, getD, replicate, length-replicate}
+use lib.ListN.{length, getD, take, drop, replicate, length-replicate}
 use lib.Dec.{ltb}
 use borrow.Author.Tests.{ltb-true}
 use Rattle.units.specs.Told.{gives}
@@ -45,6 +46,8 @@ use Rattle.agree_plan.proofs.Cases as plans
 use Rattle.agree_writers.proofs.Stands.{first-stand}
 use Rattle.agree_causes.specs.Lists.{Fair, FairList, Enough, EnoughInTurn, treeFor}
 use Rattle.agree_causes.specs.Plans.{FairImage, EnoughFor, GivenIn}
+use Rattle.layout_volume.specs.Descriptor.{descriptorBytes}
+use Rattle.claims.specs.Dated.{Fits, stamped}
 use Rattle.claims.specs.Found.{ListRead, TurnRead, ArenaRead}
 use Rattle.claims.specs.Image.{ImageRead}
 
@@ -294,3 +297,23 @@ itself-bytes = all-bytes itself refl
 
 pub itself-looped : lookup.told looked.Looped ≡ lookupOf itself first (of-size 32) (122 ∷ [])
 itself-looped = sym loops.itself-looped
+
+-- ---- a descriptor
+
+abbrev last : Region
+last = record { sector = record { 0 = 4294967295 }; size = 4294967295 }
+
+pub last-fits : Fits (stamped last 18446744073709551615)
+last-fits = record { sector = omega arith; size = omega arith; stamp = omega arith }
+
+pub last-room : 2048 ≤ length out
+last-room = omega arith
+
+-- dated and undated
+pub dated-before : take 28 (descriptorBytes (stamped last 1)) ≡ take 28 (descriptorBytes (stamped last 0))
+unfolding descriptorBytes
+dated-before = refl
+
+pub dated-behind : drop 36 (descriptorBytes (stamped last 1)) ≡ drop 36 (descriptorBytes (stamped last 0))
+unfolding descriptorBytes
+dated-behind = refl

@@ -3,6 +3,7 @@ pub mod Answers
 pub mod Found
 pub mod Image
 pub mod Reading
+pub mod Dated
 pub mod Determined
 pub mod Starred
 pub mod Instances

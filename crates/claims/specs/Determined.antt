@@ -43,6 +43,7 @@ pub record Determined : Type 0 where
   pub read-descriptor : (s : List ℕ) → One (λ r. volume.readTold r ≡ volume.readOf s)
   pub write-descriptor : (out : List ℕ) (d : Descriptor)
       → OneAndMemory (λ r m. (volume.writeTold r ≡ volume.writeOf out) × (m ≡ volume.bytesAfter out d))
+  pub read-date : (stamp : ℕ) → One (λ r. volume.dateTold r ≡ volume.dateOf stamp)
   pub take : (next n : ℕ) → One (λ r. counter.told r ≡ counter.takeOf 1 next n)
   pub locate : (t : Region) (o : Offset) → One (λ r. locating.told r ≡ locating.locateOf t o)
   pub read-entry : (w : List ℕ) (first : Sector) (t : Region) (o : ℕ)

@@ -3,5 +3,6 @@ pub mod Answers
 pub mod Found
 pub mod Image
 pub mod Reading
+pub mod Dated
 pub mod Determined
 pub mod Starred

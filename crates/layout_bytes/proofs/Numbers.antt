@@ -1,9 +1,9 @@
 -- A number written as bytes is read back, and bytes read as a number are written again. Assumes nothing.
 use Prim.Native.Nat.{ℕ, _+_, _*_, _/_, _%_, _<_}
-use mathlib.Core.Path.{_≡_, refl, ap, _∙_}
+use mathlib.Core.Path.{_≡_, refl, ap, ap₂, _∙_}
 use mathlib.Core.List.{List, [], _∷_, _++_}
 use native.Mathlib.Omega.{arith}
-use Rattle.layout_bytes.specs.Bytes.{u16At, u32At, le16, le32}
+use Rattle.layout_bytes.specs.Bytes.{u16At, u32At, u64At, le16, le32, le64}
 
 -- the number of two bytes that were written of it
 pub u16-le16 : (x : ℕ) (rest : List ℕ) → x < 65536 → u16At (le16 x ++ rest) 0 ≡ x
@@ -21,6 +21,11 @@ by-quotients n a b c p q r h =
 -- the number of four bytes that were written of it
 pub u32-le32 : (x : ℕ) (rest : List ℕ) → x < 4294967296 → u32At (le32 x ++ rest) 0 ≡ x
 u32-le32 x rest h = by-quotients x (x / 256) (x / 65536) (x / 16777216) refl (omega arith) (omega arith) (omega arith)
+
+-- the number of eight bytes that were written of it: of its two halves
+pub u64-le64 : (x : ℕ) (rest : List ℕ) → x < 18446744073709551616 → u64At (le64 x ++ rest) 0 ≡ x
+u64-le64 x rest h =
+    ap₂ (λ (low high : ℕ). low + 4294967296 * high) (u32-le32 (x % 4294967296) [] (omega arith)) (u32-le32 (x / 4294967296) [] (omega arith)) ∙ omega arith
 
 -- the two bytes that are written of the number that they say
 pub le16-u16 : (a b : ℕ) (rest : List ℕ) → a < 256 → b < 256 → le16 (u16At (a ∷ b ∷ rest) 0) ≡ a ∷ b ∷ []

@@ -2,12 +2,13 @@
 // library into bytes.
 use widths::u8_as_u16;
 use widths::u16_as_u32;
+use widths::u32_as_u64;
 ghost use mathlib.Core.Path.{_≡_};
 ghost use mathlib.Core.List.{[], _∷_, _++_};
 ghost use Prim.Native.Nat.{_+_, _≤_, _<_};
 ghost use lib.ListN.{length, drop, replicate};
 ghost use Rattle.units.specs.Lent.{was, is};
-ghost use Rattle.layout_bytes.specs.Bytes.{u16At, u32At, le16, le32, all};
+ghost use Rattle.layout_bytes.specs.Bytes.{u16At, u32At, u64At, le16, le32, le64, all};
 ghost use Rattle.layout_bytes.specs.inner.Bytes.{putAt};
 
 // The number of two bytes at a place.
@@ -24,6 +25,14 @@ pub fn u32_at(s: &[u8], at: usize) -> u32
     ensures { λ r. ⌜ r ≡ u32At (was s) at ⌝ }
 {
     u16_as_u32(u16_at(s, at)) + 65536 * u16_as_u32(u16_at(s, at + 2))
+}
+
+// The number of eight bytes at a place.
+pub fn u64_at(s: &[u8], at: usize) -> u64
+    requires { ⌜ at + 8 ≤ length (now s) ⌝ }
+    ensures { λ r. ⌜ r ≡ u64At (was s) at ⌝ }
+{
+    u32_as_u64(u32_at(s, at)) + 4294967296 * u32_as_u64(u32_at(s, at + 4))
 }
 
 // Every byte is b.
@@ -58,6 +67,15 @@ pub fn put32(out: &mut [u8], at: usize, x: u32)
     out[at + 1] = (x / 256 % 256) as u8;
     out[at + 2] = (x / 65536 % 256) as u8;
     out[at + 3] = (x / 16777216 % 256) as u8;
+}
+
+// A number of eight bytes written at a place.
+pub fn put64(out: &mut [u8], at: usize, x: u64)
+    requires { ⌜ at + 8 ≤ length (now out) ⌝ }
+    ensures { λ _. ⌜ is out ≡ putAt (was out) at (le64 x) ⌝ }
+{
+    put32(out, at, (x % 4294967296) as u32);
+    put32(out, at + 4, (x / 4294967296) as u32);
 }
 
 // Two bytes written at a place.

@@ -8,7 +8,7 @@ use native.Mathlib.Decide.{decLt}
 use lib.ListN.{length, take, drop, length-take, length-drop}
 use Rattle.units.specs.declared.Sector.{Sector}
 use Rattle.units.specs.Told.{Told, gives, refuses}
-use Rattle.layout_bytes.specs.Bytes.{u32At}
+use Rattle.layout_bytes.specs.Bytes.{u32At, u64At}
 use Rattle.layout_volume.specs.declared.Descriptor.{Descriptor}
 use Rattle.layout_volume.specs.Descriptor.{mark, sameList, readOf}
 use Rattle.layout_volume.proofs.Same.{shorter}
@@ -21,13 +21,16 @@ reaches s at b is e = by (decLt (length (take 20 (drop at s))) 20)
     by (yes h) = let z : false ≡ true = sym (shorter (take 20 (drop at s)) mark h) ∙ sym is ∙ e in let k : _≡_ {A = ℕ} 0 1 = cc in absurd (omega arith)
     by (no h) = omega (arith, simp (length-take, length-drop) at h)
 
--- so one that has the second mark has the root's sector and size
+-- so one that has the second mark has the root's sector and size, and the stamp
 module _ (s : List ℕ) (q : Bool) (second : q ≡ sameList (take 20 (drop 2028 s)) mark) (has : q ≡ true) where
   pub sector-inside : 20 + 4 ≤ length s
   sector-inside = omega (arith, reaches s 2028 q second has)
 
   pub size-inside : 24 + 4 ≤ length s
   size-inside = omega (arith, reaches s 2028 q second has)
+
+  pub stamp-inside : 28 + 8 ≤ length s
+  stamp-inside = omega (arith, reaches s 2028 q second has)
 
 module _ (s : List ℕ) (p : Bool) (first : p ≡ sameList (take 20 s) mark) where
   pub no-first : p ≡ false → refuses 20 [] ≡ readOf s
@@ -39,7 +42,8 @@ module _ (s : List ℕ) (p : Bool) (first : p ≡ sameList (take 20 s) mark) whe
     unfolding readOf
     no-second e = rw (← first, has, ← second, e)
 
-    pub volume : (sector : Sector) (a z : ℕ) → q ≡ true → sector .0 ≡ a → a ≡ u32At s 20 → z ≡ u32At s 24
-        → _≡_ {A = Told Descriptor} (gives (record { root = record { sector = sector; size = z } })) (readOf s)
+    pub volume : (sector : Sector) (a z x : ℕ) → q ≡ true → sector .0 ≡ a → a ≡ u32At s 20 → z ≡ u32At s 24 → x ≡ u64At s 28
+        → _≡_ {A = Told Descriptor} (gives (record { root = record { sector = sector; size = z }; stamp = x })) (readOf s)
     unfolding readOf
-    volume sector a z e es ea ez = rw (← first, has, ← second, e) (λ i. gives (record { root = record { sector = record { 0 = (es ∙ ea) i }; size = ez i } }))
+    volume sector a z x e es ea ez ex =
+        rw (← first, has, ← second, e) (λ i. gives (record { root = record { sector = record { 0 = (es ∙ ea) i }; size = ez i }; stamp = ex i }))

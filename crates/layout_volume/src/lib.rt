@@ -4,12 +4,34 @@ use units::Sector;
 ghost use mathlib.Core.Path.{_≡_};
 ghost use Rattle.units.specs.Lent.{was, is};
 ghost use Rattle.layout_volume.specs.Descriptor.{mark, sameList, writeTold, writeOf, bytesAfter, readTold};
-ghost use Rattle.layout_volume.specs.Descriptor.{readOf};
+ghost use Rattle.layout_volume.specs.Descriptor.{readOf, dateTold, dateOf};
 ghost use lib.ListN.{take, drop};
 
-// What a descriptor says: where the root table stands, and its size.
+// What a descriptor says: where the root table stands, its size, and when the volume was made. The stamp counts 100 ns
+// since the start of 1601, UTC.
 pub struct Descriptor {
     pub root: Region,
+    pub stamp: u64,
+}
+
+// The date of a volume.
+pub enum Date {
+    // There is none: the stamp is 0.
+    Missing,
+    // The stamp, which is not 0.
+    At(u64),
+}
+
+impl Descriptor {
+    // The date: none where the stamp is 0.
+    pub fn read_date(self) -> Date
+        ensures { λ r. ⌜ dateTold r ≡ dateOf (self .stamp) ⌝ }
+    {
+        if self.stamp == 0 {
+            return Date::Missing;
+        }
+        Date::At(self.stamp)
+    }
 }
 
 // What writing answers.
@@ -61,6 +83,7 @@ pub fn write_descriptor(out: &mut [u8], d: Descriptor) -> DescriptorWritten
     layout_bytes::put_bytes(out, 0, b"MICROSOFT*XBOX*MEDIA");
     layout_bytes::put32(out, 20, sector.number());
     layout_bytes::put32(out, 24, root.size);
+    layout_bytes::put64(out, 28, d.stamp);
     layout_bytes::put_bytes(out, 2028, b"MICROSOFT*XBOX*MEDIA");
     DescriptorWritten::Done
 }
@@ -76,6 +99,7 @@ pub fn read_descriptor(s: &[u8]) -> DescriptorRead
                     sector: Sector::new(layout_bytes::u32_at(s, 20)),
                     size: layout_bytes::u32_at(s, 24),
                 },
+                stamp: layout_bytes::u64_at(s, 28),
             });
         }
     }

@@ -21,6 +21,7 @@ pub use layout_node::Header;
 pub use layout_sector::SectorCounter;
 pub use layout_sector::Taken;
 pub use layout_sector::required_sectors;
+pub use layout_volume::Date;
 pub use layout_volume::Descriptor;
 pub use layout_volume::DescriptorRead;
 pub use layout_volume::DescriptorWritten;
@@ -57,8 +58,8 @@ ghost use Rattle.strict_rule.specs.Strict as checking;
 // walk: an entry at offset 1,020, and every entry below it, is listed and answered 22. So is an entry that stands on
 // the wrong side of one above it. The strict check finds neither a link of 255 nor every such fault of order.
 
-// Reads the volume descriptor that the bytes start with: where the root table stands. 20 where a mark differs or is
-// cut.
+// Reads the volume descriptor that the bytes start with: where the root table stands, and the stamp, of which
+// `Descriptor::read_date` says whether it is a date. 20 where a mark differs or is cut.
 pub fn read_descriptor(s: &[u8]) -> DescriptorRead
     ensures answer { λ r. ⌜ volume.readTold r ≡ volume.readOf (was s) ⌝ }
 {
@@ -136,7 +137,7 @@ pub fn check_table(
 // (`required_sectors`) and the counter past the last of them, or 8 (`Taken`); `next_free` is where it stands. Their
 // contracts are in `layout_sector`.
 
-// Writes a volume descriptor into the first 2,048 bytes of the output. 9 where it is shorter.
+// Writes a volume descriptor, with its stamp, into the first 2,048 bytes of the output. 9 where it is shorter.
 pub fn write_descriptor(out: &mut [u8], d: Descriptor) -> DescriptorWritten
     ensures answer { λ r. ⌜ volume.writeTold r ≡ volume.writeOf (was out) ⌝ }
     ensures output { λ _. ⌜ is out ≡ volume.bytesAfter (was out) d ⌝ }

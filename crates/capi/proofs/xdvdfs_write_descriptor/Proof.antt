@@ -11,7 +11,7 @@ returns : tie.Need-returns
 returns c =
     let a = c .before .before .before .before .before .before .before .args in
     let k = c .before .before .before .write-descriptor .ensures in
-    (number-by (k .0) (c .number-of-written .ensures), k .1 ∙ ap (λ (r : Region). volume.bytesAfter (a .out .now) (record { root = r })) (c .before .before .before .before .before .region-of .ensures))
+    (number-by (k .0) (c .number-of-written .ensures), k .1 ∙ ap (λ (r : Region). volume.bytesAfter (a .out .now) (record { root = r; stamp = a .stamp })) (c .before .before .before .before .before .region-of .ensures))
 
 pub xdvdfs-write-descriptor-spec : {M : Type 1} → statement M
 xdvdfs-write-descriptor-spec = tie.close (tie.spec (λ c κs. search needs) (λ c κs. search needs) (λ c κs. search needs)
