@@ -1,6 +1,6 @@
 /*
- * tables IMAGE PATH: lists the root directory of an image, looks a path up in it, then builds a small image in memory, reads it back, and plans it.
- * Everything of a directory table is done by libcapi.a; this file only reads a file and prints.
+ * tables IMAGE PATH: shows the date of an image's volume, lists its root directory, looks a path up in it, then builds a small image in memory, reads it back, and plans it.
+ * Everything of a descriptor and of a directory table is done by libcapi.a; this file only reads a file and prints.
  */
 #include <stdio.h>
 #include <stdlib.h>
@@ -24,6 +24,17 @@ struct window {
 static void refuse(const char *what, uint32_t number)
 {
     printf("%s: %s (refusal %u)\n", what, xdvdfs_text(number), (unsigned)number);
+}
+
+/* Reads the descriptor that the window starts with: the root table. The volume's date is printed. */
+static uint32_t read_volume(struct window w, struct table *root)
+{
+    char text[XDVDFS_DATE_SIZE];
+    uint64_t stamp = XDVDFS_NO_DATE;
+    uint32_t number = xdvdfs_read_descriptor(w.bytes, w.len, &root->sector, &root->size, &stamp);
+    if (number == XDVDFS_DONE)
+        printf("date: %s\n", xdvdfs_date_text(stamp, text));
+    return number;
 }
 
 /* A line of a listing: `d` or `f`, the sector, the size, the name. */
@@ -131,6 +142,7 @@ static void build(void)
     const uint8_t root_kind[] = {XDVDFS_KIND_FILE, XDVDFS_KIND_DIRECTORY, XDVDFS_KIND_FILE};
     struct window w = {image, sizeof image, 32};
     struct table root = {33, 0};
+    const uint64_t unix_time = 1794830400; /* 2026-11-16T12:00:00Z */
     uint32_t next_free = 0, number;
 
     /* The root's entries take sectors in walk order, "maps" first: its table is at 34, and the files of "maps" go where the root's end. */
@@ -140,11 +152,14 @@ static void build(void)
     number = write_table("limitsmapssave", root_len, root_size, root_kind, 3, 34, image + XDVDFS_SECTOR_SIZE, &root.size, &next_free);
     if (number != XDVDFS_DONE)
         refuse("root", number);
-    xdvdfs_write_descriptor(image, sizeof image, root.sector, root.size);
+    xdvdfs_write_descriptor(image, sizeof image, root.sector, root.size, XDVDFS_STAMP_1970 + unix_time * XDVDFS_STAMP_SECOND);
     printf("built: root of %u bytes, next free sector %u\n", (unsigned)root.size, (unsigned)next_free);
     number = add_and_write("limitsmapssave", root_len, root_size, root_kind, 3, 34, again);
     printf("one by one: %s, %s\n", xdvdfs_text(number), memcmp(again, image + XDVDFS_SECTOR_SIZE, sizeof again) == 0 ? "the same bytes" : "other bytes");
 
+    number = read_volume(w, &root);
+    if (number != XDVDFS_DONE)
+        refuse("built", number);
     list(w, root);
     check(w, root);
     find(w, root, "Maps/TWO.bin");
@@ -192,7 +207,7 @@ static void read_image(const char *file, const char *path)
         w.bytes = image + skip;
         w.len = n - skip;
     }
-    number = xdvdfs_read_descriptor(w.bytes, w.len, &root.sector, &root.size);
+    number = read_volume(w, &root);
     if (number != XDVDFS_DONE) {
         refuse(file, number);
         return;

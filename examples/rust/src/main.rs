@@ -1,12 +1,21 @@
-//! tables IMAGE PATH: lists the root directory of an image, looks a path up in it, then builds a small image in memory, reads it back, and plans it.
+//! tables IMAGE PATH: shows the date of an image's volume, lists its root directory, looks a path up in it, then builds a small image in memory, reads it back, and plans it.
 use std::error::Error;
 use std::process::ExitCode;
+use std::time::{Duration, UNIX_EPOCH};
 use xdvdfs_tables::{
-    plan, read_descriptor, write_descriptor, write_table, Arena, Content, Entry, Kind, NewEntry, PlanEntry, Table, Window,
+    plan, read_descriptor, write_descriptor, write_table, Arena, Content, Descriptor, Entry, Kind, NewEntry, PlanEntry, Stamp, Table,
+    Window,
 };
 
 const SECTOR: usize = 2048;
 const DESCRIPTOR: u32 = 32;
+
+/// Reads the descriptor that the bytes start with: the root table. The volume's date is printed.
+fn read_volume(bytes: &[u8]) -> Result<Table, xdvdfs_tables::Error> {
+    let Descriptor { root, stamp } = read_descriptor(bytes)?;
+    println!("date: {stamp}");
+    Ok(root)
+}
 
 /// `d` or `f`, the sector, the size, the name.
 fn line(e: &Entry) -> String {
@@ -32,7 +41,7 @@ fn find(window: Window, table: Table, path: &str) {
 }
 
 /// An image of three sectors from sector 32 on: the descriptor, a root table and the table of its directory.
-fn build() -> Result<(Vec<u8>, Table), xdvdfs_tables::Error> {
+fn build() -> Result<Vec<u8>, xdvdfs_tables::Error> {
     let file = |name: &'static str, size| NewEntry { name: name.as_bytes(), kind: Kind::File, size };
     // The root's entries take sectors in walk order, "maps" first: its table is at 34, and the files of "maps" go where the root's end.
     let (maps, inner) = write_table(&[file("one.bin", 100), file("two.bin", 5000)], 37)?;
@@ -50,12 +59,13 @@ fn build() -> Result<(Vec<u8>, Table), xdvdfs_tables::Error> {
     assert_eq!((written, &again), (outer, &root));
     println!("one by one: the same bytes");
 
-    let table = Table { sector: 33, size: outer.size };
+    let noon = UNIX_EPOCH + Duration::from_secs(1_794_830_400); // 2026-11-16T12:00:00Z
+    let stamp = Stamp::from_system_time(noon).expect("a time after the start of 1601");
     let mut image = vec![0; SECTOR];
-    write_descriptor(&mut image, table)?;
+    write_descriptor(&mut image, Descriptor { root: Table { sector: 33, size: outer.size }, stamp })?;
     image.extend(root);
     image.extend(maps);
-    Ok((image, table))
+    Ok(image)
 }
 
 /// The plan of the same image; `directory` is the one that the entry "maps" names.
@@ -78,12 +88,13 @@ fn run(file: &str, path: &str) -> Result<(), Box<dyn Error>> {
     let image = std::fs::read(file)?;
     let bytes = image.get(DESCRIPTOR as usize * SECTOR..).unwrap_or(&[]);
     let window = Window { bytes, first: DESCRIPTOR };
-    let root = read_descriptor(bytes)?;
+    let root = read_volume(bytes)?;
     list(window, root)?;
     find(window, root, path);
 
-    let (image, root) = build()?;
+    let image = build()?;
     let window = Window { bytes: &image, first: DESCRIPTOR };
+    let root = read_volume(&image)?;
     list(window, root)?;
     println!("check: good, entries {}", window.check_table(root, &mut [0; 16], &mut [0; 17])?);
     for path in ["Maps/TWO.bin", "limits/x", "maps/three.bin", "//"] {
