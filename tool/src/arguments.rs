@@ -166,11 +166,13 @@ Examples:
   xdvdfs info --json game.iso | jq .root.sector
 
 JSON: {command, image, length, partition: {offset, name}, sectors,
-       root: {sector, size}}
+       root: {sector, size}, stamp, date}
 length is that of the file; sectors are the whole ones from the partition's
-start to the end of the file.";
+start to the end of the file. stamp counts 100 ns since the start of 1601, UTC,
+and is a string of digits: many readers of JSON round numbers above 2^53. date
+is the date of the stamp as ISO 8601 has it, null where the stamp is 0.";
 
-/// Shows where the game partition and the root directory are
+/// Shows where the game partition and the root directory are, and the date
 #[derive(Debug, Args)]
 #[command(after_help = INFO)]
 pub struct InfoArguments {

@@ -6,7 +6,7 @@ use std::fs::File;
 use std::io::{Seek, SeekFrom};
 use std::os::unix::fs::FileTypeExt;
 use std::path::Path;
-use xdvdfs_tables::{read_descriptor, Error, Table, Window};
+use xdvdfs_tables::{read_descriptor, Descriptor, Error, Stamp, Table, Window};
 
 pub const SECTOR: u64 = 2048;
 const DESCRIPTOR: u64 = 32 * SECTOR;
@@ -60,12 +60,13 @@ impl Image {
     }
 }
 
-/// A volume: the window from the game partition's start on, whose first sector is 0, and its root table.
+/// A volume: the window from the game partition's start on, whose first sector is 0, its root table and its stamp.
 #[derive(Clone, Copy, Debug)]
 pub struct Volume<'a> {
     pub window: Window<'a>,
     pub partition: Partition,
     pub root: Table,
+    pub stamp: Stamp,
 }
 
 impl<'a> Volume<'a> {
@@ -91,8 +92,8 @@ impl<'a> Volume<'a> {
 
     fn at(bytes: &'a [u8], partition: Partition) -> Result<Volume<'a>, Error> {
         let bytes = from(bytes, partition.offset);
-        let root = read_descriptor(from(bytes, DESCRIPTOR))?;
-        Ok(Volume { window: Window { bytes, first: 0 }, partition, root })
+        let Descriptor { root, stamp } = read_descriptor(from(bytes, DESCRIPTOR))?;
+        Ok(Volume { window: Window { bytes, first: 0 }, partition, root, stamp })
     }
 
     /// The byte of the image at which a sector starts.

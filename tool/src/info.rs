@@ -4,7 +4,9 @@ use crate::fault::Fault;
 use crate::image::{open_volume, shown_path, Image, JsonTable, Partition, SECTOR};
 use crate::output::Printer;
 use serde::Serialize;
+use xdvdfs_tables::Stamp;
 
+/// The stamp goes out as a string of digits: many readers of JSON round numbers above 2^53.
 #[derive(Serialize)]
 struct Answer {
     command: &'static str,
@@ -13,6 +15,8 @@ struct Answer {
     partition: Partition,
     sectors: u64,
     root: JsonTable,
+    stamp: String,
+    date: Option<String>,
 }
 
 pub fn info(a: &InfoArguments, printer: &mut Printer) -> Result<u8, Fault> {
@@ -22,13 +26,30 @@ pub fn info(a: &InfoArguments, printer: &mut Printer) -> Result<u8, Fault> {
     let (length, sectors) = (image.bytes().len() as u64, volume.window.bytes.len() as u64 / SECTOR);
     let partition = volume.partition;
     if printer.json() {
-        let image = path.to_string_lossy().into_owned();
-        printer.object(&Answer { command: "info", image, length, partition, sectors, root: volume.root.into() })?;
+        printer.object(&Answer {
+            command: "info",
+            image: path.to_string_lossy().into_owned(),
+            length,
+            partition,
+            sectors,
+            root: volume.root.into(),
+            stamp: volume.stamp.0.to_string(),
+            date: volume.stamp.date().map(|date| date.to_string()),
+        })?;
         return Ok(crate::DONE);
     }
     printer.line(format_args!("image      {}, {length} bytes", shown_path(path)))?;
     let name = partition.name.map_or(String::new(), |name| format!(" ({name})"));
     printer.line(format_args!("partition  from byte {:#x} on{name}, {sectors} sectors", partition.offset))?;
     printer.line(format_args!("root       sector {}, {} bytes", volume.root.sector, volume.root.size))?;
+    printer.line(format_args!("date       {}", shown_date(volume.stamp)))?;
     Ok(crate::DONE)
+}
+
+/// The date with its stamp, or that there is none.
+fn shown_date(stamp: Stamp) -> String {
+    match stamp.date() {
+        Some(date) => format!("{date} (stamp {})", stamp.0),
+        None => stamp.to_string(),
+    }
 }

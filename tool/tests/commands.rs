@@ -255,15 +255,31 @@ fn info() {
     let told = xdvdfs(&["info", &image]);
     assert_eq!(
         told.done(),
-        format!("image      {image}, 92160 bytes\npartition  from byte 0x0 on (XISO), 45 sectors\nroot       sector 33, 108 bytes\n")
+        format!(
+            "image      {image}, 92160 bytes\npartition  from byte 0x0 on (XISO), 45 sectors\n\
+             root       sector 33, 108 bytes\ndate       no date\n"
+        )
     );
     let want = json!({"command": "info", "image": image, "length": 92160, "partition": {"offset": 0, "name": "XISO"}, "sectors": 45,
-        "root": {"sector": 33, "size": 108}});
+        "root": {"sector": 33, "size": 108}, "stamp": "0", "date": null});
     assert_eq!(xdvdfs(&["info", "--json", &image]).json(), want);
     refused(&["info", "--offset", "0x800", &image], &format!("{image}: at sector 32 from byte 0x800 on"), Error::NoVolume);
     let none = folder.file("none", &[0; 100]);
     let tried = format!("{none}: at sector 32 from each of the bytes 0x0, 0x18300000, 0xfd90000, 0x2080000 on");
     refused(&["ls", &none], &tried, Error::NoVolume);
+}
+
+/// The date of a volume that has one. In JSON every digit of its stamp is there.
+#[test]
+fn info_of_a_date() {
+    let folder = Folder::new();
+    for (stamp, date) in [(134_393_040_000_000_000, "2026-11-16T12:00:00Z"), (u64::MAX, "+60056-05-28T05:36:10.9551615Z")] {
+        let image = folder.file("game.iso", &stamped_image_of(&sample(), stamp));
+        let told = xdvdfs(&["info", &image]);
+        assert_eq!(told.done().lines().last(), Some(&*format!("date       {date} (stamp {stamp})")));
+        let answer = xdvdfs(&["info", "--json", &image]).json();
+        assert_eq!((&answer["stamp"], &answer["date"]), (&json!(stamp.to_string()), &json!(date)));
+    }
 }
 
 /// The partition is found where a disc of each form has it, or where it is said to be; sectors are counted from there.

@@ -82,7 +82,7 @@ fn damaged(base: &[u8], dice: &mut Dice) -> Vec<u8> {
     let from = 32 * SECTOR as usize;
     for _ in 0..=dice.below(6) {
         let (place, value) = match dice.below(10) {
-            0 => (from + 20 + dice.below(8), dice.next() as u8),
+            0 => (from + 20 + dice.below(16), dice.next() as u8), // root and stamp
             1 => (from + dice.below(2048), dice.next() as u8),
             2..=5 => (from + 2048 + dice.below(64), [0, 1, 4, 8, 16, 255, dice.next() as u8][dice.below(7)]),
             _ => (from + dice.below(bytes.len() - from), [0, 4, 16, 255, dice.next() as u8][dice.below(5)]),

@@ -5,7 +5,7 @@ use std::fs::File;
 use std::os::unix::fs::FileExt;
 use std::path::{Path, PathBuf};
 use std::sync::atomic::{AtomicU32, Ordering};
-use xdvdfs_tables::{plan, write_descriptor, write_table, Content, Kind, NewEntry, PlanEntry, Table};
+use xdvdfs_tables::{plan, write_descriptor, write_table, Content, Descriptor, Kind, NewEntry, PlanEntry, Stamp, Table};
 use xdvdfs_tool::{run, Screen};
 
 pub const SECTOR: u64 = 2048;
@@ -114,7 +114,7 @@ pub fn parts_of(members: &[Member]) -> Parts {
     }
     let planned = plan(&entries.iter().map(Vec::as_slice).collect::<Vec<_>>()).unwrap();
     let mut descriptor = vec![0; SECTOR as usize];
-    write_descriptor(&mut descriptor, planned.tables[0]).unwrap();
+    write_descriptor(&mut descriptor, Descriptor { root: planned.tables[0], stamp: Stamp::NO_DATE }).unwrap();
     let mut parts = vec![(32 * SECTOR, descriptor)];
     let mut sectors = planned.sectors.iter();
     for (here, table) in entries.iter().zip(&planned.tables) {
@@ -140,6 +140,14 @@ pub fn image_of(members: &[Member]) -> Vec<u8> {
     for (at, part) in parts.parts {
         bytes[at as usize..][..part.len()].copy_from_slice(&part);
     }
+    bytes
+}
+
+/// The same with a stamp.
+pub fn stamped_image_of(members: &[Member], stamp: u64) -> Vec<u8> {
+    let mut bytes = image_of(members);
+    let descriptor = Descriptor { root: parts_of(members).root, stamp: Stamp(stamp) };
+    write_descriptor(&mut bytes[32 * SECTOR as usize..], descriptor).unwrap();
     bytes
 }
 
@@ -171,8 +179,8 @@ pub fn image_by_hand(tables: &[(u32, Vec<Vec<u8>>)]) -> Vec<u8> {
     let (sector, root) = (tables[0].0, tables[0].1.concat());
     let last = tables.iter().map(|t| u64::from(t.0) * SECTOR + 262_144.min(t.1.concat().len() as u64)).max().unwrap();
     let mut bytes = vec![0; last.next_multiple_of(SECTOR) as usize];
-    let size = root.len() as u32;
-    write_descriptor(&mut bytes[32 * SECTOR as usize..], Table { sector, size }).unwrap();
+    let root = Table { sector, size: root.len() as u32 };
+    write_descriptor(&mut bytes[32 * SECTOR as usize..], Descriptor { root, stamp: Stamp::NO_DATE }).unwrap();
     for (sector, entries) in tables {
         let at = (u64::from(*sector) * SECTOR) as usize;
         let table = entries.concat();
