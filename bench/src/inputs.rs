@@ -1,5 +1,5 @@
 //! What the readers are given: tables and images that the Rust's own writer makes, damaged copies of them, and random bytes.
-use crate::Table;
+use crate::{Table, Volume};
 use std::collections::HashSet;
 use xdvdfs::blockdev::Memory;
 use xdvdfs::write::dirtab::{AvlDirectoryEntryTableBuilder, DirtabWriterBuffers};
@@ -215,4 +215,26 @@ pub fn noise(dice: &mut Dice) -> (Vec<u8>, u32, Table) {
         _ => dice.below(len + 40) as u32,
     };
     (bytes, first, Table { sector, size })
+}
+
+/// Stamps at the edges of their halves and of the whole; 0 is no date.
+const STAMPS: [u64; 6] = [0, 1, u32::MAX as u64, 1 << 32, 1 << 63, u64::MAX];
+
+/// What a descriptor may say: a random root, and in every other round a stamp of those at the edges, each in turn, else a random one.
+pub fn volume(dice: &mut Dice, round: usize) -> Volume {
+    let root = Table { sector: dice.next() as u32, size: dice.next() as u32 };
+    let stamp = if round % 2 == 0 { STAMPS[round / 2 % STAMPS.len()] } else { dice.next() };
+    Volume { root, stamp }
+}
+
+/// A descriptor's bytes, one of them changed in two of three (in a mark, in the stamp, in what is unused, anywhere), and cut in one of four (about the end, about the fields,
+/// anywhere).
+pub fn damage_descriptor(dice: &mut Dice, bytes: &mut Vec<u8>) {
+    if dice.below(3) > 0 {
+        let at = [dice.below(20), 2028 + dice.below(20), 28 + dice.below(8), 36 + dice.below(1992), dice.below(2048)][dice.below(5)];
+        bytes[at] ^= 1 + dice.below(255) as u8;
+    }
+    if dice.below(4) == 0 {
+        bytes.truncate([2048 - dice.below(21), dice.below(60), dice.below(2049)][dice.below(3)]);
+    }
 }

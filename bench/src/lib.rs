@@ -21,6 +21,13 @@ pub struct Table {
     pub size: u32,
 }
 
+/// What a volume descriptor says: where the root table stands, and the stamp, in units of 100 ns since the start of 1601; 0 is no date.
+#[derive(Clone, Copy, Debug, PartialEq, Eq)]
+pub struct Volume {
+    pub root: Table,
+    pub stamp: u64,
+}
+
 /// The fields of an entry, with the byte of the image at which it starts.
 #[derive(Clone, Copy, Debug, PartialEq, Eq)]
 pub struct Entry {

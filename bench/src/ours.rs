@@ -6,13 +6,14 @@ mod plan;
 mod sys;
 mod write;
 
-use crate::{Entry, Said, Table, View};
+use crate::{Entry, Said, Table, View, Volume};
 pub use plan::{plan, Prepared};
 use sys::Fields;
 pub use write::{add_in_turn, whole, write_list, Entries, Lent};
 
 /// What stands in every cell before a call.
 const BEFORE: u32 = 0x0707_0707;
+const BEFORE_VOLUME: Volume = Volume { root: Table { sector: BEFORE, size: BEFORE }, stamp: 0x0707_0707_0707_0707 };
 
 /// The cells of a reader's answer.
 struct Answer {
@@ -184,15 +185,20 @@ pub fn check(v: View, t: Table, places: usize) -> Said {
     listed(t, a, count, list, scratch.iter().all(|&x| x == 0))
 }
 
-pub fn read_descriptor(bytes: &[u8]) -> Option<Table> {
-    let mut t = Table { sector: BEFORE, size: BEFORE };
-    let number = unsafe { sys::xdvdfs_read_descriptor(bytes.as_ptr(), bytes.len(), &mut t.sector, &mut t.size) };
-    assert!(number == 0 || (number, t) == (20, Table { sector: BEFORE, size: BEFORE }));
-    (number == 0).then_some(t)
+pub fn read_descriptor(bytes: &[u8]) -> Option<Volume> {
+    let mut d = BEFORE_VOLUME;
+    let (sector, size) = (&mut d.root.sector, &mut d.root.size);
+    let number = unsafe { sys::xdvdfs_read_descriptor(bytes.as_ptr(), bytes.len(), sector, size, &mut d.stamp) };
+    assert!(number == 0 || (number, d) == (20, BEFORE_VOLUME), "cells after {number}: {d:?}");
+    (number == 0).then_some(d)
 }
 
-pub fn write_descriptor(out: &mut [u8], t: Table) -> u32 {
-    unsafe { sys::xdvdfs_write_descriptor(out.as_mut_ptr(), out.len(), t.sector, t.size) }
+/// Its number. After a refusal the output has to be as it was.
+pub fn write_descriptor(out: &mut [u8], d: Volume) -> u32 {
+    let before = out.to_vec();
+    let number = unsafe { sys::xdvdfs_write_descriptor(out.as_mut_ptr(), out.len(), d.root.sector, d.root.size, d.stamp) };
+    assert!(number == 0 || (number, &before[..]) == (9, &out[..]), "output after {number}");
+    number
 }
 
 /// For the race: the answer's number and the entry's sector, so that nothing can be left out.

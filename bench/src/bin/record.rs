@@ -1,9 +1,9 @@
 //! record FILE SUMMARY: asks the Rust some thousands of questions and writes the answers to FILE in the form that crates/replay/src/main.rt describes, and to SUMMARY what the program
 //! `replay` prints where it gives the same answers. The same in each run. Nothing of this repository's readers and writers is asked.
-use bench::inputs::{damage, image, name, names, noise, written, Dice, Folder};
+use bench::inputs::{damage, damage_descriptor, image, name, names, noise, volume, written, Dice, Folder};
 use bench::lists::{list_about, list_near_top, random_list, small_lists};
 use bench::plans::{even_request, may_ask, random_request, request_near_sector, request_up_to, spoiled, Columns, Planned, Request};
-use bench::{plain, theirs, Entry, Job, Said, Table, View, Wrote};
+use bench::{plain, theirs, Entry, Job, Said, Table, View, Volume, Wrote};
 
 const BLOCK: usize = 65_536;
 const PLACES: usize = 256;
@@ -12,7 +12,7 @@ const PLACES: usize = 256;
 #[derive(Default)]
 struct Records {
     bytes: Vec<u8>,
-    counts: [usize; 5],
+    counts: [usize; 7],
 }
 
 impl Records {
@@ -28,7 +28,7 @@ impl Records {
         self.bytes.extend((length as u16).to_le_bytes());
         self.bytes.push(kind);
         self.bytes.extend(body);
-        let at = b"tilpw".iter().position(|&k| k == kind).expect("a kind");
+        let at = b"tilpwdv".iter().position(|&k| k == kind).expect("a kind");
         self.counts[at] += 1;
     }
 }
@@ -274,13 +274,48 @@ fn images(records: &mut Records, dice: &mut Dice) {
         let mut folder = Folder::random(dice, 1);
         let paths = folder.paths();
         let bytes = image(&mut folder);
-        let t = theirs::read_descriptor(&bytes[65_536..]).expect("a volume");
+        let t = theirs::read_descriptor(&bytes[65_536..]).expect("a volume").root;
         // The tables alone: what is behind the last of them is zeros.
         let end = bytes.iter().rposition(|&b| b != 0).expect("a table") + 1;
         let v = View { bytes: &bytes[2048 * 33..end], first: 33 };
         if v.bytes.len() <= 8_192 && !paths.is_empty() {
             path(records, v, t, &paths[dice.below(paths.len())]);
         }
+    }
+}
+
+fn put_volume(body: &mut Vec<u8>, d: Volume) {
+    put(body, &[d.root.sector, d.root.size]);
+    body.extend(d.stamp.to_le_bytes());
+}
+
+fn descriptor_written(records: &mut Records, d: Volume) {
+    let mut body = Vec::new();
+    put_volume(&mut body, d);
+    body.extend(theirs::write_descriptor(d));
+    records.push(b'd', &body);
+}
+
+fn descriptor_read(records: &mut Records, bytes: &[u8]) {
+    let mut body = Vec::new();
+    let said = theirs::read_descriptor(bytes);
+    put(&mut body, &[if said.is_some() { 0 } else { 20 }]);
+    put_volume(&mut body, said.unwrap_or(Volume { root: Table { sector: 0, size: 0 }, stamp: 0 }));
+    body.extend(bytes);
+    records.push(b'v', &body);
+}
+
+/// Descriptors written; and others read, a third of them as they were written, the others damaged or cut or both, some with bytes behind them.
+fn descriptors(records: &mut Records, dice: &mut Dice) {
+    (0..40).for_each(|round| descriptor_written(records, volume(dice, round)));
+    for round in 0..48 {
+        let mut bytes = theirs::write_descriptor(volume(dice, round));
+        let end = dice.below(3);
+        bytes.resize(2048 + end, 9);
+        if round % 3 > 0 {
+            damage_descriptor(dice, &mut bytes);
+        }
+        descriptor_read(records, &bytes);
     }
 }
 
@@ -293,8 +328,10 @@ fn main() {
     reads(&mut records, &mut dice);
     images(&mut records, &mut dice);
     plans(&mut records, &mut Dice(2025));
-    let [tables, plans, lookups, paths, walks] = records.counts;
+    descriptors(&mut records, &mut Dice(2026));
+    let [tables, plans, lookups, paths, walks, written, read] = records.counts;
     std::fs::write(file, &records.bytes).expect("the file");
-    let text = format!("{tables} tables\n{plans} plans\n{lookups} lookups\n{paths} paths\n{walks} walks\n0 differ\n");
+    let first = format!("{tables} tables\n{plans} plans\n{lookups} lookups\n{paths} paths\n{walks} walks\n");
+    let text = format!("{first}{written} descriptors written\n{read} descriptors read\n0 differ\n");
     std::fs::write(summary, text).expect("the summary");
 }

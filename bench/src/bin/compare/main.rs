@@ -6,24 +6,31 @@ mod tables;
 mod tally;
 
 use bench::inputs::Dice;
+use bench::theirs::{hear_panics, heard};
 use tally::Tally;
 
 fn main() {
-    bench::theirs::hear_panics();
+    hear_panics();
     let words: Vec<String> = std::env::args().skip(1).collect();
     let number = |at: usize, or: u64| words.get(at).map_or(or, |word| word.parse().expect("a number"));
     let (what, rounds, seed) = (words.first().map_or("all", |word| word), number(1, 1) as usize, number(2, 2024));
     assert!(["all", "reads", "tables", "plans"].contains(&what), "reads, tables, plans or all");
     println!("seed {seed}");
     let mut tally = Tally::default();
-    if ["all", "reads"].contains(&what) {
-        reads::all(&mut tally, &mut Dice(seed), rounds);
-    }
-    if ["all", "tables"].contains(&what) {
-        tables::all(&mut tally, &mut Dice(seed), rounds);
-    }
-    if ["all", "plans"].contains(&what) {
-        plans::all(&mut tally, &mut Dice(seed), rounds);
+    let wanted = |kind: &str| ["all", kind].contains(&what);
+    let compared = heard(|| {
+        if wanted("reads") {
+            reads::all(&mut tally, &mut Dice(seed), rounds);
+        }
+        if wanted("tables") {
+            tables::all(&mut tally, &mut Dice(seed), rounds);
+        }
+        if wanted("plans") {
+            plans::all(&mut tally, &mut Dice(seed), rounds);
+        }
+    });
+    if let Err(said) = compared {
+        tally.wrong("and nothing more was compared", said); // lent memory or cells are not as a contract has them
     }
     let mut all = 0;
     for ((what, how), count) in &tally.counts {

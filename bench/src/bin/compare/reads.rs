@@ -1,7 +1,7 @@
 //! The readers on the same windows.
 use crate::tally::Tally;
-use bench::inputs::{damage, image, name, names, noise, shortest_names, written, Dice, Folder};
-use bench::{ours, plain, theirs, Said, Table, View};
+use bench::inputs::{damage, damage_descriptor, image, name, names, noise, shortest_names, volume, written, Dice, Folder};
+use bench::{ours, plain, theirs, Said, Table, View, Volume};
 
 fn kind(said: &Said) -> String {
     match said {
@@ -294,8 +294,8 @@ fn images(tally: &mut Tally, dice: &mut Dice, rounds: usize) {
         let paths = folder.paths();
         let mut bytes = image(&mut folder);
         let first = [0, 32][round % 2];
-        let Some(t) = theirs::read_descriptor(&bytes[65_536..]) else { panic!("a volume") };
-        assert_eq!(ours::read_descriptor(&bytes[65_536..]), Some(t));
+        let Some(Volume { root: t, stamp: 0 }) = theirs::read_descriptor(&bytes[65_536..]) else { panic!("a volume with no date") };
+        assert_eq!(ours::read_descriptor(&bytes[65_536..]), Some(Volume { root: t, stamp: 0 }));
         if round % 3 == 2 {
             damage(dice, &mut bytes[2048 * t.sector as usize..], t.size);
         }
@@ -320,29 +320,39 @@ fn images(tally: &mut Tally, dice: &mut Dice, rounds: usize) {
     }
 }
 
+fn read_descriptor(tally: &mut Tally, bytes: &[u8]) {
+    let (a, b) = (ours::read_descriptor(bytes), theirs::read_descriptor(bytes));
+    if a != b {
+        tally.wrong("descriptor, read", format!("ours {a:?}, the Rust {b:?}"));
+    }
+    let how = a.map_or("20", |volume| if volume.stamp == 0 { "volume, no date" } else { "volume" });
+    tally.count("descriptor, read", how.into());
+    tally.asked += 1;
+}
+
+/// Each written, read as it was written, and read once more damaged or cut; some are written into an output that is too short.
 fn descriptors(tally: &mut Tally, dice: &mut Dice, rounds: usize) {
-    for _ in 0..rounds {
-        let t = Table { sector: dice.next() as u32, size: dice.next() as u32 };
-        let theirs = theirs::write_descriptor(t);
+    for round in 0..rounds {
+        let d = volume(dice, round);
         let mut bytes = vec![9; 2048 + dice.below(3)];
-        let end = bytes[2048..].to_vec();
-        if ours::write_descriptor(&mut bytes, t) != 0 || bytes[..2048] != theirs || bytes[2048..] != end {
-            tally.wrong("descriptor, write", format!("{t:?}"));
+        let wanted = [theirs::write_descriptor(d), bytes[2048..].to_vec()].concat();
+        if ours::write_descriptor(&mut bytes, d) != 0 || bytes != wanted {
+            let at = (0..bytes.len()).find(|&i| bytes[i] != wanted[i]);
+            tally.wrong("descriptor, write", format!("{d:?}: first at byte {at:?}"));
         }
         tally.count("descriptor, write", "done".into());
-        tally.asked += 2;
-        if dice.below(3) > 0 {
-            let at = [dice.below(20), 2028 + dice.below(20), dice.below(2048)][dice.below(3)];
-            bytes[at] = dice.next() as u8;
+        tally.asked += 1;
+        if dice.below(8) == 0 {
+            let mut short = vec![9; 2047 - dice.below(2) * dice.below(2048)];
+            if ours::write_descriptor(&mut short, d) != 9 {
+                tally.wrong("descriptor, write", format!("{d:?} into {} bytes", short.len()));
+            }
+            tally.count("descriptor, write", "9, the Rust not asked".into());
         }
-        if dice.below(4) == 0 {
-            bytes.truncate(dice.below(2049));
-        }
-        let (a, b) = (ours::read_descriptor(&bytes), theirs::read_descriptor(&bytes));
-        if a != b {
-            tally.wrong("descriptor, read", format!("{a:?} {b:?}"));
-        }
-        tally.count("descriptor, read", if a.is_some() { "volume" } else { "20" }.into());
+        let mut bytes = wanted;
+        read_descriptor(tally, &bytes);
+        damage_descriptor(dice, &mut bytes);
+        read_descriptor(tally, &bytes);
     }
 }
 
