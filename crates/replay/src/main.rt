@@ -27,10 +27,15 @@
 //         one byte, then the names; then, where it is planned, for each directory its size, for each its table's
 //         sector, and for each entry its sector. There are at most 16 directories and 2,112 entries. Which entry or
 //         directory is refused and the next free sector are not in it: the Rust does not tell.
+//   d     a descriptor written:
+//         1 sector and 5 size of the root, 9 stamp (eight bytes), 17 the descriptor's 2,048 bytes.
+//   v     a descriptor read:
+//         1 number, 5 sector and 9 size of the root, 13 stamp (eight bytes), 21 the bytes that are read.
 mod plan; // recorded plans
 mod read; // recorded lookups, paths and walks
 mod record; // what stands at a place of a record
 mod table; // recorded tables
+mod volume; // recorded descriptors
 
 use record::part;
 use record::short_at;
@@ -42,6 +47,8 @@ struct Tally {
     lookups: u32,
     paths: u32,
     walks: u32,
+    written: u32,
+    volumes: u32,
     differ: u32,
 }
 
@@ -86,6 +93,14 @@ fn run(t: Tally, s: &[u8]) -> Tally {
     if s[0] == b'w' {
         u.walks = one_more(t.walks);
         return with(u, read::same_walk(s));
+    }
+    if s[0] == b'd' {
+        u.written = one_more(t.written);
+        return with(u, volume::same_written(s));
+    }
+    if s[0] == b'v' {
+        u.volumes = one_more(t.volumes);
+        return with(u, volume::same_read(s));
     }
     with(u, false)
 }
@@ -132,6 +147,8 @@ fn main() {
         lookups: 0,
         paths: 0,
         walks: 0,
+        written: 0,
+        volumes: 0,
         differ: 0,
     };
     let mut i: u32 = 0;
@@ -145,5 +162,7 @@ fn main() {
     show(t.lookups, b" lookups\n");
     show(t.paths, b" paths\n");
     show(t.walks, b" walks\n");
+    show(t.written, b" descriptors written\n");
+    show(t.volumes, b" descriptors read\n");
     show(t.differ, b" differ\n");
 }
