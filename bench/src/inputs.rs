@@ -1,5 +1,5 @@
 //! What the readers are given: tables and images that the Rust's own writer makes, damaged copies of them, and random bytes.
-use crate::{Table, Volume};
+use crate::{Descriptor, Table};
 use std::collections::HashSet;
 use xdvdfs::blockdev::Memory;
 use xdvdfs::write::dirtab::{AvlDirectoryEntryTableBuilder, DirtabWriterBuffers};
@@ -221,10 +221,10 @@ pub fn noise(dice: &mut Dice) -> (Vec<u8>, u32, Table) {
 const STAMPS: [u64; 6] = [0, 1, u32::MAX as u64, 1 << 32, 1 << 63, u64::MAX];
 
 /// What a descriptor may say: a random root, and in every other round a stamp of those at the edges, each in turn, else a random one.
-pub fn volume(dice: &mut Dice, round: usize) -> Volume {
+pub fn descriptor(dice: &mut Dice, round: usize) -> Descriptor {
     let root = Table { sector: dice.next() as u32, size: dice.next() as u32 };
     let stamp = if round % 2 == 0 { STAMPS[round / 2 % STAMPS.len()] } else { dice.next() };
-    Volume { root, stamp }
+    Descriptor { root, stamp }
 }
 
 /// A descriptor's bytes, one of them changed in two of three (in a mark, in the stamp, in what is unused, anywhere), and cut in one of four (about the end, about the fields,

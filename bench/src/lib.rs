@@ -23,7 +23,7 @@ pub struct Table {
 
 /// What a volume descriptor says: where the root table stands, and the stamp, in units of 100 ns since the start of 1601; 0 is no date.
 #[derive(Clone, Copy, Debug, PartialEq, Eq)]
-pub struct Volume {
+pub struct Descriptor {
     pub root: Table,
     pub stamp: u64,
 }

@@ -6,14 +6,14 @@ mod plan;
 mod sys;
 mod write;
 
-use crate::{Entry, Said, Table, View, Volume};
+use crate::{Descriptor, Entry, Said, Table, View};
 pub use plan::{plan, Prepared};
 use sys::Fields;
 pub use write::{add_in_turn, whole, write_list, Entries, Lent};
 
 /// What stands in every cell before a call.
 const BEFORE: u32 = 0x0707_0707;
-const BEFORE_VOLUME: Volume = Volume { root: Table { sector: BEFORE, size: BEFORE }, stamp: 0x0707_0707_0707_0707 };
+const BEFORE_DESCRIPTOR: Descriptor = Descriptor { root: Table { sector: BEFORE, size: BEFORE }, stamp: 0x0707_0707_0707_0707 };
 
 /// The cells of a reader's answer.
 struct Answer {
@@ -185,16 +185,16 @@ pub fn check(v: View, t: Table, places: usize) -> Said {
     listed(t, a, count, list, scratch.iter().all(|&x| x == 0))
 }
 
-pub fn read_descriptor(bytes: &[u8]) -> Option<Volume> {
-    let mut d = BEFORE_VOLUME;
+pub fn read_descriptor(bytes: &[u8]) -> Option<Descriptor> {
+    let mut d = BEFORE_DESCRIPTOR;
     let (sector, size) = (&mut d.root.sector, &mut d.root.size);
     let number = unsafe { sys::xdvdfs_read_descriptor(bytes.as_ptr(), bytes.len(), sector, size, &mut d.stamp) };
-    assert!(number == 0 || (number, d) == (20, BEFORE_VOLUME), "cells after {number}: {d:?}");
+    assert!(number == 0 || (number, d) == (20, BEFORE_DESCRIPTOR), "cells after {number}: {d:?}");
     (number == 0).then_some(d)
 }
 
 /// Its number. After a refusal the output has to be as it was.
-pub fn write_descriptor(out: &mut [u8], d: Volume) -> u32 {
+pub fn write_descriptor(out: &mut [u8], d: Descriptor) -> u32 {
     let before = out.to_vec();
     let number = unsafe { sys::xdvdfs_write_descriptor(out.as_mut_ptr(), out.len(), d.root.sector, d.root.size, d.stamp) };
     assert!(number == 0 || (number, &before[..]) == (9, &out[..]), "output after {number}");

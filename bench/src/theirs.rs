@@ -2,7 +2,7 @@
 mod plan;
 mod write;
 
-use crate::{Entry, Said, Table, View, Volume};
+use crate::{Descriptor, Entry, Said, Table, View};
 pub use plan::{fast_plan, listed, plan};
 use std::panic::{catch_unwind, AssertUnwindSafe};
 pub use write::{add_in_turn, hear_panics, heard, write_list, Heard};
@@ -107,14 +107,14 @@ pub fn walk(v: View, t: Table) -> Said {
     }
 }
 
-pub fn read_descriptor(bytes: &[u8]) -> Option<Volume> {
+pub fn read_descriptor(bytes: &[u8]) -> Option<Descriptor> {
     let volume = VolumeDescriptor::deserialize(bytes.get(..2048)?.try_into().unwrap()).ok()?;
     let region = volume.root_table.region;
-    volume.is_valid().then_some(Volume { root: Table { sector: region.sector, size: region.size }, stamp: volume.filetime })
+    volume.is_valid().then_some(Descriptor { root: Table { sector: region.sector, size: region.size }, stamp: volume.filetime })
 }
 
 /// With no stamp the bytes are those of the Rust's own value, untouched.
-pub fn write_descriptor(d: Volume) -> Vec<u8> {
+pub fn write_descriptor(d: Descriptor) -> Vec<u8> {
     let mut volume = VolumeDescriptor::new(table(d.root));
     if d.stamp != 0 {
         volume.filetime = d.stamp;

@@ -26,7 +26,7 @@ fn main() -> std::io::Result<()> {
     std::panic::set_hook(Box::new(|_| ()));
     let image = std::fs::read(file)?;
     let v = View { bytes: byte.parse().ok().and_then(|b: usize| image.get(b..)).unwrap_or(&[]), first: 0 };
-    let root = theirs::read_descriptor(v.bytes.get(65536..).unwrap_or(&[])).map(|volume| volume.root);
+    let root = theirs::read_descriptor(v.bytes.get(65536..).unwrap_or(&[])).map(|d| d.root);
     let mut out = std::io::stdout().lock();
     for line in std::io::stdin().lock().lines() {
         let line = line?;

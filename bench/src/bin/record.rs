@@ -1,9 +1,9 @@
 //! record FILE SUMMARY: asks the Rust some thousands of questions and writes the answers to FILE in the form that crates/replay/src/main.rt describes, and to SUMMARY what the program
 //! `replay` prints where it gives the same answers. The same in each run. Nothing of this repository's readers and writers is asked.
-use bench::inputs::{damage, damage_descriptor, image, name, names, noise, volume, written, Dice, Folder};
+use bench::inputs::{damage, damage_descriptor, descriptor, image, name, names, noise, written, Dice, Folder};
 use bench::lists::{list_about, list_near_top, random_list, small_lists};
 use bench::plans::{even_request, may_ask, random_request, request_near_sector, request_up_to, spoiled, Columns, Planned, Request};
-use bench::{plain, theirs, Entry, Job, Said, Table, View, Volume, Wrote};
+use bench::{plain, theirs, Descriptor, Entry, Job, Said, Table, View, Wrote};
 
 const BLOCK: usize = 65_536;
 const PLACES: usize = 256;
@@ -284,14 +284,14 @@ fn images(records: &mut Records, dice: &mut Dice) {
     }
 }
 
-fn put_volume(body: &mut Vec<u8>, d: Volume) {
+fn put_descriptor(body: &mut Vec<u8>, d: Descriptor) {
     put(body, &[d.root.sector, d.root.size]);
     body.extend(d.stamp.to_le_bytes());
 }
 
-fn descriptor_written(records: &mut Records, d: Volume) {
+fn descriptor_written(records: &mut Records, d: Descriptor) {
     let mut body = Vec::new();
-    put_volume(&mut body, d);
+    put_descriptor(&mut body, d);
     body.extend(theirs::write_descriptor(d));
     records.push(b'd', &body);
 }
@@ -300,16 +300,16 @@ fn descriptor_read(records: &mut Records, bytes: &[u8]) {
     let mut body = Vec::new();
     let said = theirs::read_descriptor(bytes);
     put(&mut body, &[if said.is_some() { 0 } else { 20 }]);
-    put_volume(&mut body, said.unwrap_or(Volume { root: Table { sector: 0, size: 0 }, stamp: 0 }));
+    put_descriptor(&mut body, said.unwrap_or(Descriptor { root: Table { sector: 0, size: 0 }, stamp: 0 }));
     body.extend(bytes);
     records.push(b'v', &body);
 }
 
 /// Descriptors written; and others read, a third of them as they were written, the others damaged or cut or both, some with bytes behind them.
 fn descriptors(records: &mut Records, dice: &mut Dice) {
-    (0..40).for_each(|round| descriptor_written(records, volume(dice, round)));
+    (0..40).for_each(|round| descriptor_written(records, descriptor(dice, round)));
     for round in 0..48 {
-        let mut bytes = theirs::write_descriptor(volume(dice, round));
+        let mut bytes = theirs::write_descriptor(descriptor(dice, round));
         let end = dice.below(3);
         bytes.resize(2048 + end, 9);
         if round % 3 > 0 {

@@ -1,7 +1,7 @@
 //! Plans of the Rust: its image writer is run on a tree that is given to it, with a device that only notes what is written where; what the progress visitor hears are the sectors.
 use super::write::heard;
 use crate::plans::{Planned, Request};
-use crate::{Table, Volume};
+use crate::{Descriptor, Table};
 use std::cell::RefCell;
 use xdvdfs::blockdev::BlockDeviceWrite;
 use xdvdfs::layout::NameEncodingError;
@@ -118,7 +118,7 @@ pub fn plan(request: &Request) -> Planned {
     }
     let (tables, sectors, sizes) = (tables.into_inner(), sectors.into_inner(), sizes_of(request));
     let root = Table { sector: tables[0], size: sizes[0] };
-    assert_eq!(super::read_descriptor(&log.descriptor), Some(Volume { root, stamp: 0 }), "the descriptor of a plan");
+    assert_eq!(super::read_descriptor(&log.descriptor), Some(Descriptor { root, stamp: 0 }), "the descriptor of a plan");
     for (table, size) in tables.iter().zip(&sizes) {
         let wanted = (2048 * *table as u64, size.next_multiple_of(2048) as u64);
         assert!(log.writes.contains(&wanted), "where a table was written: {wanted:?}");

@@ -1,7 +1,7 @@
 //! The readers on the same windows.
 use crate::tally::Tally;
-use bench::inputs::{damage, damage_descriptor, image, name, names, noise, shortest_names, volume, written, Dice, Folder};
-use bench::{ours, plain, theirs, Said, Table, View, Volume};
+use bench::inputs::{damage, damage_descriptor, descriptor, image, name, names, noise, shortest_names, written, Dice, Folder};
+use bench::{ours, plain, theirs, Descriptor, Said, Table, View};
 
 fn kind(said: &Said) -> String {
     match said {
@@ -294,8 +294,8 @@ fn images(tally: &mut Tally, dice: &mut Dice, rounds: usize) {
         let paths = folder.paths();
         let mut bytes = image(&mut folder);
         let first = [0, 32][round % 2];
-        let Some(Volume { root: t, stamp: 0 }) = theirs::read_descriptor(&bytes[65_536..]) else { panic!("a volume with no date") };
-        assert_eq!(ours::read_descriptor(&bytes[65_536..]), Some(Volume { root: t, stamp: 0 }));
+        let Some(Descriptor { root: t, stamp: 0 }) = theirs::read_descriptor(&bytes[65_536..]) else { panic!("a volume with no date") };
+        assert_eq!(ours::read_descriptor(&bytes[65_536..]), Some(Descriptor { root: t, stamp: 0 }));
         if round % 3 == 2 {
             damage(dice, &mut bytes[2048 * t.sector as usize..], t.size);
         }
@@ -325,7 +325,7 @@ fn read_descriptor(tally: &mut Tally, bytes: &[u8]) {
     if a != b {
         tally.wrong("descriptor, read", format!("ours {a:?}, the Rust {b:?}"));
     }
-    let how = a.map_or("20", |volume| if volume.stamp == 0 { "volume, no date" } else { "volume" });
+    let how = a.map_or("20", |d| if d.stamp == 0 { "volume, no date" } else { "volume" });
     tally.count("descriptor, read", how.into());
     tally.asked += 1;
 }
@@ -333,7 +333,7 @@ fn read_descriptor(tally: &mut Tally, bytes: &[u8]) {
 /// Each written, read as it was written, and read once more damaged or cut; some are written into an output that is too short.
 fn descriptors(tally: &mut Tally, dice: &mut Dice, rounds: usize) {
     for round in 0..rounds {
-        let d = volume(dice, round);
+        let d = descriptor(dice, round);
         let mut bytes = vec![9; 2048 + dice.below(3)];
         let wanted = [theirs::write_descriptor(d), bytes[2048..].to_vec()].concat();
         if ours::write_descriptor(&mut bytes, d) != 0 || bytes != wanted {
