@@ -1,6 +1,6 @@
 -- WHAT THE STATEMENTS SUPPOSE CAN BE MET, computed: by a list of `a`, `b`, `c`, files of size 1, written from sector 34 on; by an arena that holds them; by an
 -- image with a directory `d` and a file `a` in its root, and a file `b` in `d`; by a chain that reads an offset again; and by a descriptor with the greatest numbers that its
--- fields hold, and two windows that differ in their stamp alone. Assumes nothing.
+-- fields hold, and the bytes of two that differ in the stamp alone. Assumes nothing.
 use Prim.Native.Nat.{ℕ, zero, suc, _+_, _≤_, _<_}
 use native.Mathlib.Omega.{arith}
 use mathlib.Core.Path.{_≡_, refl, sym, ap, _∙_}
