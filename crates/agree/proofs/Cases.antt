@@ -14,8 +14,8 @@ use Rattle.layout_node.specs.Header.{headerOf, headerBytes, isBlank}
 use Rattle.layout_sector.specs.Counter.{sectorsFor}
 use Rattle.dirtab_entry.specs.Entry.{anyBad, checkOf}
 use Rattle.read_entry.specs.Entry.{Placed, readHere, readAt, nameOf}
-use Rattle.read_entry.specs.Links.{isIn}
-use Rattle.read_lookup.specs.Lookup.{byLink, stepAt, chainFrom, lookupBy}
+use Rattle.read_entry.specs.Links.{isIn, absentUnder}
+use Rattle.read_lookup.specs.Lookup.{byLink, stepAt, chainFrom, lookupBy, lookupOf}
 use Rattle.lookup_way.specs.Along.{Along, there, left}
 use Rattle.read_walk.specs.Walk.{push, toEntry, walkFrom, walkOf}
 use Rattle.avl_model.specs.Tree.{bal}
@@ -31,7 +31,7 @@ use Rattle.agree.specs.Cases.{a, b, c, bytesOf, regionOf, starred, Each,
 
 computed : Each starred
 unfolding grown bal items endOf freeOf startAfter sectorsFor tableBytes bytesFrom entryBytes headerBytes raised numberOrder listOrder givenOrder givenKeys storedOf least
-    anyBad checkOf walkOf walkFrom toEntry push readAt locateOf readHere isBlank all headerOf nameOf isIn lookupBy badSought soughtOrder soughtKeys storedKeys chainFrom stepAt byLink
+    anyBad checkOf walkOf walkFrom toEntry push readAt locateOf readHere isBlank all headerOf nameOf isIn lookupOf absentUnder lookupBy badSought soughtOrder soughtKeys storedKeys chainFrom stepAt byLink
 computed = (
   (refl, refl),
   (
@@ -80,7 +80,7 @@ computed = (
                                               refl,
                                               (
                                                 refl,
-                                                (refl, (refl, tt)),
+                                                (refl, (refl, (refl, tt))),
                                               ),
                                             ),
                                           ),

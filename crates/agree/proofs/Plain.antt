@@ -1,24 +1,28 @@
 -- DEMAND 3 once more, clause by clause as the paper says it. Assumes nothing.
 --     found-listed      what is found is listed, under the name sought, raised, at the same offset, after at most 19 headers
---     listed-found      what is listed is found, unless a link of 255 stands on the way from the first entry; then 22
+--     listed-found      under rule one what is listed is found, unless a link of 255 stands on the way from the first entry; then 22
+--     always-found      under rule two what is listed is found, after at most 19 headers
 --     unlisted          what is not listed is 22
---     always-found      with the walk's absent links in the place of lookup's own, every item is found
--- The first three are of lookup's own set of absent links; found-listed-by, listed-found-by and unlisted-by say the same of every set.
+--     one-then-two      what is found under rule one is found the same under rule two: entry, offset and headers
+-- found-listed and unlisted are of both rules. found-listed-by, listed-found-by, unlisted-by and found-again-by say the same of every set of absent links.
 use Prim.Native.Nat.{ℕ, _+_, _≤_, _<_}
 use mathlib.Core.Path.{_≡_, refl, sym, ap, _∙_}
-use mathlib.Core.Bool.{true, false}
+use mathlib.Core.Bool.{Bool, true, false}
+use mathlib.Core.Logic.{inl, inr}
 use mathlib.Core.List.{List, [], _∷_, map, List·Memᴰ}
 use native.Mathlib.Omega.{arith}
+use mathlib.Core.Option.{some}
 use lib.ListN.{length}
-use Rattle.units.specs.Told.{Told, gives, refuses}
+use Rattle.units.specs.Told.{Told, gives, refuses, pick}
 use Rattle.units.specs.declared.Sector.{Sector}
 use Rattle.units.specs.declared.Region.{Region}
 use Rattle.name_role.specs.Roles.{badSought}
-use Rattle.read_entry.specs.Links.{isIn, lookupAbsent, walkAbsent}
+use Rattle.read_entry.specs.Links.{isIn, oneAbsent, walkAbsent, absentUnder}
 use Rattle.read_lookup.specs.Lookup.{Finding, lookupBy, lookupOf}
-use Rattle.lookup_way.specs.Along.{Clear, Cut}
-use Rattle.lookup_way.proofs.Along.{along-clear, along-absent}
-use Rattle.lookup_way.proofs.Sets.{lookup-0, without-255, with-255, walk-clear}
+use Rattle.read_lookup.proofs.Rules.{under, rule-one, rule-two}
+use Rattle.lookup_way.specs.Along.{Real, Clear, Cut}
+use Rattle.lookup_way.proofs.Along.{along-clear, along-absent, clear-or-cut}
+use Rattle.lookup_way.proofs.Sets.{one-0, walk-0, rule-0, without-255, with-255, walk-clear}
 use Rattle.avl_model.specs.Tree.{Tree}
 use Rattle.table_model.specs.Entry.{Entry, Item}
 use Rattle.table_model.specs.Place.{items}
@@ -55,6 +59,19 @@ module _ (place : ℕ) (xs : List Item) (name : List ℕ) where
   sound-missing a (found y c m q k) f = absurd (f y m q)
   sound-missing a (missing c k) f = (c, k, refl)
 
+-- what is found has a name of ASCII bytes
+not-2 : (b : Bool) (x : Told Finding) (a : Finding) → pick b (refuses 2 []) x ≡ gives a → b ≡ false
+not-2 true x a e = let z : _≡_ {A = ℕ} 0 1 = cc in absurd (omega arith)
+not-2 false x a e = refl
+
+found-ascii : (absent w : List ℕ) (first : Sector) (t : Region) (name : List ℕ) (a : Finding) → lookupBy absent w first t name ≡ gives a → badSought name ≡ false
+unfolding lookupBy
+found-ascii absent w first t name a e = not-2 (badSought name) _ a e
+
+-- what is found is not 22
+given-not-22 : {x : Told Finding} {a : Finding} {c : ℕ} → x ≡ gives a → x ≡ refuses 22 (c ∷ []) → _≡_ {A = ℕ} 0 1
+given-not-22 e f = cc
+
 -- EVERY SET OF ABSENT LINKS: where reading agrees with the items, and for a name of ASCII bytes
 module _ (w : List ℕ) (first : Sector) (t : Region) (place : ℕ) (xs : List Item) (all : Agreement w first t place xs) (absent name : List ℕ) (ascii : badSought name ≡ false) where
   pub found-listed-by : isIn 0 absent ≡ true → (a : Finding) → lookupBy absent w first t name ≡ gives a → Listed xs place name a
@@ -75,30 +92,64 @@ module _ (w : List ℕ) (first : Sector) (t : Region) (place : ℕ) (xs : List I
       → (c : ℕ) × (c ≤ mostHeaders) × (lookupBy absent w first t name ≡ refuses 22 (c ∷ []))
   unlisted-by none f = sound-missing place xs name (lookupBy absent w first t name) (all .sound absent none name ascii) f
 
+-- what is found with one set of absent links is found the same with another, of which no link on a way is
+pub found-again-by : (w : List ℕ) (first : Sector) (t : Region) (place : ℕ) (xs : List Item) → Agreement w first t place xs → (absent other : List ℕ) → isIn 0 absent ≡ true
+    → ((ks : List ℕ) → Real ks → Clear other ks) → (name : List ℕ) (a : Finding) → lookupBy absent w first t name ≡ gives a → lookupBy other w first t name ≡ gives a
+found-again-by w first t place xs all absent other none clear name a e =
+    let ascii : badSought name ≡ false = found-ascii absent w first t name a e in
+    let l = found-listed-by w first t place xs all absent name ascii none a e in
+    let y : Item = l .item in
+    let r = of-item (Reached w first t place xs) xs y (all .reached) (l .among) in
+    let at-other = r .answers other name ascii (l .named) in
+    let at-absent = r .answers absent name ascii (l .named) in
+    elim (clear-or-cut absent (r .links)) [
+      | inl f ↦
+          at-other ∙ along-clear other (placedAt place y) (y .offset) 1 (r .links) (clear (r .links) (r .real))
+          ∙ sym (at-absent ∙ along-clear absent (placedAt place y) (y .offset) 1 (r .links) f) ∙ e
+      | inr f ↦
+          let z : _≡_ {A = ℕ} 0 1 = given-not-22 e (at-absent ∙ along-absent absent (placedAt place y) (y .offset) 1 (r .links) f .1) in
+          absurd (omega arith)
+    ]
+
 -- THE TWO RULES, of a written table, in a window where it stands
-module _ (entry : ℕ → Entry) (align s : ℕ) (x : Tree) (w : List ℕ) (first : Sector) (t : Region) (g : Written entry align s x w first t) (name : List ℕ) (ascii : badSought name ≡ false) where
+module _ (entry : ℕ → Entry) (align s : ℕ) (x : Tree) (w : List ℕ) (first : Sector) (t : Region) (g : Written entry align s x w first t) where
   abbrev xs : List Item
   xs = items entry align 0 s x
 
   all : Agreement w first t (g .stand .place) xs
   all = agreement entry align s x w first t g
 
-  pub found-listed : (a : Finding) → lookupOf w first t name ≡ gives a → Listed xs (g .stand .place) name a
-  found-listed = found-listed-by w first t (g .stand .place) xs all lookupAbsent name ascii lookup-0
+  pub one-then-two : (name : List ℕ) (a : Finding) → lookupOf 1 w first t name ≡ gives a → lookupOf 2 w first t name ≡ gives a
+  one-then-two name a e =
+      rule-two w first t name ∙ found-again-by w first t (g .stand .place) xs all oneAbsent walkAbsent one-0 walk-clear name a (sym (rule-one w first t name) ∙ e)
 
-  pub listed-found : (y : Item) → List·Memᴰ y xs → Same name (y .entry .name) → (r : Reached w first t (g .stand .place) xs y)
-      × ((List·Memᴰ 255 (r .links) → ⊥)
-      → lookupOf w first t name ≡ gives (record { entry = placedAt (g .stand .place) y; offset = y .offset; headers = 1 + length (r .links) }))
-      × (List·Memᴰ 255 (r .links) → (c : ℕ) × (lookupOf w first t name ≡ refuses 22 (c ∷ [])))
-  listed-found y m e =
-      let f = listed-found-by w first t (g .stand .place) xs all lookupAbsent name ascii y m e in
-      (f .0, (λ n. f .1 (without-255 (f .0 .links) (f .0 .real) n)), (λ n. f .2 (with-255 (f .0 .links) n)))
+  module _ (name : List ℕ) (ascii : badSought name ≡ false) where
+    pub found-listed : (rule : ℕ) (absent : List ℕ) → absentUnder rule ≡ some absent → (a : Finding) → lookupOf rule w first t name ≡ gives a → Listed xs (g .stand .place) name a
+    found-listed rule absent e a f =
+        found-listed-by w first t (g .stand .place) xs all absent name ascii (rule-0 rule absent e) a (sym (under w first t name rule absent e) ∙ f)
 
-  pub unlisted : ((y : Item) → List·Memᴰ y xs → Same name (y .entry .name) → ⊥) → (c : ℕ) × (c ≤ mostHeaders) × (lookupOf w first t name ≡ refuses 22 (c ∷ []))
-  unlisted = unlisted-by w first t (g .stand .place) xs all lookupAbsent name ascii lookup-0
+    pub listed-found : (y : Item) → List·Memᴰ y xs → Same name (y .entry .name) → (r : Reached w first t (g .stand .place) xs y)
+        × ((List·Memᴰ 255 (r .links) → ⊥)
+        → lookupOf 1 w first t name ≡ gives (record { entry = placedAt (g .stand .place) y; offset = y .offset; headers = 1 + length (r .links) }))
+        × (List·Memᴰ 255 (r .links) → (c : ℕ) × (lookupOf 1 w first t name ≡ refuses 22 (c ∷ [])))
+    listed-found y m e =
+        let one = rule-one w first t name in
+        let f = listed-found-by w first t (g .stand .place) xs all oneAbsent name ascii y m e in (
+          f .0,
+          (λ n. one ∙ f .1 (without-255 (f .0 .links) (f .0 .real) n)),
+          (λ n. let k = f .2 (with-255 (f .0 .links) n) in (k .0, one ∙ k .1)),
+        )
 
-  pub always-found : (y : Item) → List·Memᴰ y xs → Same name (y .entry .name)
-      → (c : ℕ) × (lookupBy walkAbsent w first t name ≡ gives (record { entry = placedAt (g .stand .place) y; offset = y .offset; headers = c }))
-  always-found y m e =
-      let f = listed-found-by w first t (g .stand .place) xs all walkAbsent name ascii y m e in
-      (1 + length (f .0 .links), f .1 (walk-clear (f .0 .links) (f .0 .real)))
+    pub always-found : (y : Item) → List·Memᴰ y xs → Same name (y .entry .name)
+        → (c : ℕ) × (c ≤ mostHeaders) × (lookupOf 2 w first t name ≡ gives (record { entry = placedAt (g .stand .place) y; offset = y .offset; headers = c }))
+    always-found y m e =
+        let f = listed-found-by w first t (g .stand .place) xs all walkAbsent name ascii y m e in
+        let found = f .1 (walk-clear (f .0 .links) (f .0 .real)) in
+        let l = found-listed-by w first t (g .stand .place) xs all walkAbsent name ascii walk-0 _ found in
+        (1 + length (f .0 .links), l .headers, rule-two w first t name ∙ found)
+
+    pub unlisted : (rule : ℕ) (absent : List ℕ) → absentUnder rule ≡ some absent → ((y : Item) → List·Memᴰ y xs → Same name (y .entry .name) → ⊥)
+        → (c : ℕ) × (c ≤ mostHeaders) × (lookupOf rule w first t name ≡ refuses 22 (c ∷ []))
+    unlisted rule absent e f =
+        let u = unlisted-by w first t (g .stand .place) xs all absent name ascii (rule-0 rule absent e) f in
+        (u .0, u .1, under w first t name rule absent e ∙ u .2)

@@ -49,7 +49,7 @@ module _ (w : List ℕ) (first : Sector) (t : Region) (place : ℕ) where
   pub record Reached (xs : List Item) (y : Item) : Type 0 where
     pub links : List ℕ
     pub way : Along (readAt w first t) 0 (y .offset) links
-    -- none of these links is 0 or 65,535, so that of them lookup takes exactly 255 for absent, and the walk none
+    -- none of these links is 0 or 65,535, so that of them rule one takes exactly 255 for absent, and rule two none
     pub real : Real links
     -- each is a link that an item has
     pub written : (k : ℕ) → List·Memᴰ k links → (z : Item) × List·Memᴰ z xs × ((k ≡ z .left) ⊎ (k ≡ z .right))

@@ -67,8 +67,8 @@ pub data Case : Type 0 where
   bytes : List Given → ℕ → List ℕ → Case
   -- the same: the offsets that a walk lists
   walked : List Given → ℕ → List ℕ → Case
-  -- the same: what a lookup of a name answers
-  looked : List Given → ℕ → List ℕ → Told Hit → Case
+  -- the same: what a lookup of a name answers under a rule
+  looked : List Given → ℕ → ℕ → List ℕ → Told Hit → Case
   -- after these entries, a name that is there already: the number of the entry that has it
   duplicate : List Given → List ℕ → ℕ → Case
   -- two names and their order
@@ -88,7 +88,8 @@ abbrev pub Holds : Case → Type 0
 Holds (written gs s xs n) = (rows (itemsOf gs s) ≡ xs) × (sizeOf (entryOf gs) (treeOf gs) ≡ n)
 Holds (bytes gs s b) = bytesOf gs s ≡ b
 Holds (walked gs s os) = walkOf (bytesOf gs s) (record { 0 = 33 }) (regionOf gs) (length gs) ≡ gives os
-Holds (looked gs s name a) = hit (lookupOf (bytesOf gs s) (record { 0 = 33 }) (regionOf gs) name) ≡ a
+Holds (looked gs s rule name a) =
+    hit (lookupOf rule (bytesOf gs s) (record { 0 = 33 }) (regionOf gs) name) ≡ a
 Holds (duplicate gs name i) = spotIn (λ j. givenOrder name (givenName gs j)) (treeOf gs) Root ≡ Same i
 Holds (ordered a b o) = givenOrder a b ≡ o
 Holds (long n m) = entryLength n ≡ m
@@ -141,8 +142,8 @@ starred =
     ∷ 0x20 ∷ 0x02 ∷ 0x61 ∷ 0x62 ∷ []) ++ replicate 2032 0xff)
     ∷ written (a ∷ b ∷ c ∷ []) 34 bac 48
     ∷ walked (a ∷ b ∷ c ∷ []) 34 (0 ∷ 16 ∷ 32 ∷ [])
-    ∷ looked (a ∷ b ∷ c ∷ []) 34 (0x43 ∷ []) (gives (record { offset = 32; headers = 2 }))
-    ∷ looked (a ∷ b ∷ c ∷ []) 34 (0x64 ∷ []) (refuses 22 (2 ∷ []))
+    ∷ looked (a ∷ b ∷ c ∷ []) 34 1 (0x43 ∷ []) (gives (record { offset = 32; headers = 2 }))
+    ∷ looked (a ∷ b ∷ c ∷ []) 34 1 (0x64 ∷ []) (refuses 22 (2 ∷ []))
     ∷ written (c ∷ a ∷ b ∷ []) 34 bac 48
     ∷ duplicate (abb ∷ []) (0x41 ∷ 0x42 ∷ 0x42 ∷ []) 0
     ∷ ordered (0x61 ∷ 0x62 ∷ 0x62 ∷ []) (0x61 ∷ 0x5f ∷ 0x62 ∷ []) Less
@@ -159,7 +160,8 @@ starred =
     ∷ fewest 19 10945
     ∷ fewest 20 17710
     ∷ walked at-1020 33 (0 ∷ 272 ∷ 544 ∷ 816 ∷ 1020 ∷ [])
-    ∷ looked at-1020 33 (0x66 ∷ []) (refuses 22 (1 ∷ []))
+    ∷ looked at-1020 33 1 (0x66 ∷ []) (refuses 22 (1 ∷ []))
+    ∷ looked at-1020 33 2 (0x66 ∷ []) (gives (record { offset = 1020; headers = 2 }))
     ∷ []
 
 abbrev pub Each : List Case → Type 0

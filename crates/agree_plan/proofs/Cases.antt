@@ -14,7 +14,7 @@ use Rattle.name_role.specs.Roles.{givenKeys, storedKeys, soughtKeys, storedOf, 
 use Rattle.layout_node.specs.Header.{headerOf, headerBytes, isBlank}
 use Rattle.layout_sector.specs.Counter.{sectorsFor}
 use Rattle.read_entry.specs.Entry.{readHere, readAt, nameOf}
-use Rattle.read_entry.specs.Links.{isIn}
+use Rattle.read_entry.specs.Links.{isIn, absentUnder}
 use Rattle.read_lookup.specs.Lookup.{byLink, stepAt, chainFrom, lookupBy}
 use Rattle.read_path.specs.Path.{trim, split, unended, partsFrom, pathBy, pathOf}
 use Rattle.dirtab_entry.specs.Entry.{rounded, anyBad, checkOf}
@@ -92,13 +92,13 @@ led =
     (last 1 0 (66 ∷ []) (omega arith) (record { some = omega arith; plain = refl; good = refl }) refl)
 
 -- and it is found there: its sector is 37, its size 1
-found-there : pathOf window window-first (rootOf its-plan) (68 ∷ 47 ∷ 66 ∷ [])
+found-there : pathOf 1 window window-first (rootOf its-plan) (68 ∷ 47 ∷ 66 ∷ [])
     ≡ gives (record {
       header = record { left = record { 0 = 0 }; right = record { 0 = 0 }; sector = record { 0 = 37 }; size = 1; attributes = 32; «name_len» = 1 };
       place = 2048;
     })
 unfolding startSector treeIn growFrom checkOf anyBad givenOrder givenKeys storedOf listOrder numberOrder raised bal placeOf anyFar items endOf freeOf startAfter sectorsFor
-    tableBytes bytesFrom entryBytes headerBytes pathBy trim split unended partsFrom badSought soughtOrder soughtKeys storedKeys readAt locateOf readHere isBlank all headerOf nameOf isIn lookupBy chainFrom
+    tableBytes bytesFrom entryBytes headerBytes pathOf absentUnder pathBy trim split unended partsFrom badSought soughtOrder soughtKeys storedKeys readAt locateOf readHere isBlank all headerOf nameOf isIn lookupBy chainFrom
     stepAt byLink
 found-there = refl
 

@@ -1,8 +1,7 @@
 -- PATHS IN A PLANNED IMAGE: a path whose parts lead to an entry finds it with its planned sector and size, unless a link on the way is taken for absent.
 -- Assumes nothing.
 --     path-finds-by     of every set of absent links
---     path-finds        of lookup's own: unless a link of 255 stands on the way; then 22
---     path-always       of the walk's: always
+--     path-found        under rule one: unless a link of 255 stands on the way; then 22. Under rule two: always
 use Prim.Native.Nat.{ℕ, _+_, _/_, _%_, _≤_, _<_}
 use native.Mathlib.Omega.{arith}
 use native.Mathlib.Decide.{ℕ-discrete}
@@ -19,10 +18,11 @@ use Rattle.units.specs.declared.Region.{Region}
 use Rattle.name_role.specs.Roles.{storedKeys}
 use Rattle.layout_node.specs.Header.{isDirectory}
 use Rattle.read_entry.specs.Entry.{Placed, readAt, nameOf}
-use Rattle.read_entry.specs.Links.{lookupAbsent, walkAbsent}
+use Rattle.read_entry.specs.Links.{oneAbsent, walkAbsent}
 use Rattle.read_lookup.specs.Lookup.{Finding, lookupBy}
 use Rattle.read_path.specs.Path as path
 use Rattle.read_path.specs.Path.{lastOf, turnOf, onward, partsFrom, pathBy, pathOf}
+use Rattle.read_path.proofs.Rules.{rule-one, rule-two}
 use Rattle.lookup_way.specs.Along.{Along, Real, Clear, Cut}
 use Rattle.lookup_way.proofs.Along.{along-clear, along-absent, clear-or-cut}
 use Rattle.lookup_way.proofs.Sets.{without-255, with-255, walk-clear}
@@ -320,15 +320,16 @@ module _ (R : Request) (places : ℕ) (tables sectors : List ℕ) (p : Plan) (w 
   path-finds-by e j cs l =
       subst (Finds R p w first (rootOf p) cs e j) (sym (λ k absent. joined-path absent w first (rootOf p) cs (all-parts 0 e j cs l) k)) (parts-find e j cs l)
 
-  -- A PATH finds the planned entry, unless a link of 255 stands on the way; then 22
-  pub path-finds : (e j : ℕ) (cs : List (List ℕ)) → Leads R p 0 cs e j → (f : Finds R p w first (rootOf p) cs e j (λ absent. pathBy absent w first (rootOf p) (joined cs)))
-      × ((List·Memᴰ 255 (f .links) → ⊥) → pathOf w first (rootOf p) (joined cs) ≡ gives (placedAt (f .place) (f .item)))
-      × (List·Memᴰ 255 (f .links) → pathOf w first (rootOf p) (joined cs) ≡ refuses 22 [])
-  path-finds e j cs l =
+  -- A PATH finds the planned entry: under rule one, unless a link of 255 stands on the way, and then 22; under rule two always
+  pub path-found : (e j : ℕ) (cs : List (List ℕ)) → Leads R p 0 cs e j → (f : Finds R p w first (rootOf p) cs e j (λ absent. pathBy absent w first (rootOf p) (joined cs)))
+      × ((List·Memᴰ 255 (f .links) → ⊥) → pathOf 1 w first (rootOf p) (joined cs) ≡ gives (placedAt (f .place) (f .item)))
+      × (List·Memᴰ 255 (f .links) → pathOf 1 w first (rootOf p) (joined cs) ≡ refuses 22 [])
+      × (pathOf 2 w first (rootOf p) (joined cs) ≡ gives (placedAt (f .place) (f .item)))
+  path-found e j cs l =
       let f = path-finds-by e j cs l in
-      (f, (λ n. f .found lookupAbsent (without-255 (f .links) (f .real) n)), (λ m. f .lost lookupAbsent (with-255 (f .links) m)))
-
-  -- WITH THE WALK'S ABSENT LINKS in the place of lookup's own, it always finds it
-  pub path-always : (e j : ℕ) (cs : List (List ℕ)) → Leads R p 0 cs e j → (f : Finds R p w first (rootOf p) cs e j (λ absent. pathBy absent w first (rootOf p) (joined cs)))
-      × (pathBy walkAbsent w first (rootOf p) (joined cs) ≡ gives (placedAt (f .place) (f .item)))
-  path-always e j cs l = let f = path-finds-by e j cs l in (f, f .found walkAbsent (walk-clear (f .links) (f .real)))
+      let one = rule-one w first (rootOf p) (joined cs) in (
+        f,
+        (λ n. one ∙ f .found oneAbsent (without-255 (f .links) (f .real) n)),
+        (λ m. one ∙ f .lost oneAbsent (with-255 (f .links) m)),
+        rule-two w first (rootOf p) (joined cs) ∙ f .found walkAbsent (walk-clear (f .links) (f .real)),
+      )

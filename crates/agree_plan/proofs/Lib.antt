@@ -7,8 +7,9 @@
 --     Writes      table-writes, table-left: the lists of entries, written in turn, answer the planned sizes and sectors
 -- AND OF A WINDOW in which the tables stand at their planned sectors.
 --     Agrees      table-agrees, table-passes: every table is listed and found as it was written, and passes the strict check
---     Found       path-finds: a path to a planned entry finds it, unless a link of 255 stands on the way; then 22. path-finds-by: of every set of absent links
---     Only        path-only, path-only-by: no path finds anything else
+--     Found       path-found: a path to a planned entry finds it, under rule one unless a link of 255 stands on the way, and then 22; under rule two always.
+--                 path-finds-by: of every set of absent links
+--     Only        path-only, path-only-by: no path finds anything else. path-one-then-two: what is found under rule one is found the same under rule two
 --     Cases       a request that meets all that is supposed, computed; and one with an entry in two shares
 pub mod Grew
 pub mod Down

@@ -1,4 +1,4 @@
--- PATHS IN A PLANNED IMAGE, the other way round: what any path finds is a planned entry to which its parts lead. Assumes nothing.
+-- PATHS IN A PLANNED IMAGE, the other way round: what any path finds is a planned entry to which its parts lead; and what it finds under rule one it finds under rule two. Assumes nothing.
 use Prim.Native.Nat.{ℕ, suc, _/_, _%_, _≤_, _<_}
 use native.Mathlib.Omega.{arith}
 use native.Mathlib.Decide.{decLe}
@@ -6,19 +6,23 @@ use mathlib.Core.Path.{_≡_, refl, sym, ap, subst, _∙_}
 use mathlib.Core.Bool.{Bool, true, false}
 use mathlib.Core.Logic.{_⊎_, inl, inr}
 use mathlib.Core.List.{List, [], _∷_, map, List·Memᴰ, List·Memᴰ·not-nil, List·Memᴰ·cases-cons}
+use mathlib.Core.Option.{some}
 use lib.Dec.{eqb}
-use Rattle.units.specs.Told.{Told, refuses, pick}
+use Rattle.units.specs.Told.{Told, gives, refuses, pick}
 use Rattle.units.specs.declared.Sector.{Sector}
 use Rattle.units.specs.declared.Region.{Region}
 use Rattle.name_role.specs.Roles.{storedKeys}
 use Rattle.layout_node.specs.Header as node
 use Rattle.dirtab_entry.specs.declared.Kind.the-variants.{File, Directory}
 use Rattle.read_entry.specs.Entry.{Placed}
-use Rattle.read_entry.specs.Links.{isIn, lookupAbsent}
+use Rattle.read_entry.specs.Links.{isIn, oneAbsent, walkAbsent, absentUnder}
 use Rattle.read_lookup.specs.Lookup.{Finding, lookupBy}
 use Rattle.read_path.specs.Path.{lastOf, turnOf, onward, partsFrom, pathBy, pathOf}
 use Rattle.read_path.specs.Path as path
-use Rattle.lookup_way.proofs.Sets.{lookup-0}
+use Rattle.read_path.proofs.Rules.{under, rule-one, rule-two}
+use Rattle.lookup_way.specs.Along.{Real, Clear}
+use Rattle.lookup_way.proofs.Along.{clear-or-cut}
+use Rattle.lookup_way.proofs.Sets.{one-0, rule-0, walk-clear}
 use Rattle.avl_model.proofs.Frame.{δ-same}
 use Rattle.table_model.specs.Entry.{Entry, Item, attributes, headerFor}
 use Rattle.img_model.specs.Shares.{Request, shareOf, directoriesOf, countOf, isDirectory, valueOf}
@@ -33,6 +37,7 @@ use Rattle.agree_plan.proofs.Tables.{rule-kept}
 use Rattle.agree_plan.proofs.Sectors.{sectors-planned}
 use Rattle.agree_plan.proofs.Agrees.{directory-kind, table-agrees, root-region, entry-region}
 use Rattle.agree_plan.proofs.Paths.{joined-path}
+use Rattle.agree_plan.proofs.Found.{path-finds-by}
 
 -- the number of an item
 record Numbered (entry : ℕ → Entry) (sector : ℕ → ℕ) (is : List ℕ) (y : Item) : Type 0 where
@@ -64,6 +69,10 @@ numbered entry sector (x ∷ xs) (j ∷ is) a b y m =
 file-kind : (b : Bool) → b ≡ false → attributes (pick b Directory File) ≡ 32
 file-kind true e = let z : _≡_ {A = ℕ} 0 1 = cc in absurd (omega arith)
 file-kind false e = refl
+
+-- what is found is not 22
+given-not-22 : {a : Told Placed} {x : Placed} → a ≡ gives x → a ≡ refuses 22 [] → _≡_ {A = ℕ} 0 1
+given-not-22 e f = cc
 
 -- no parts lead nowhere
 no-parts : {R : Request} {p : Plan} {d e j : ℕ} (cs : List (List ℕ)) → Leads R p d cs e j → cs ≡ [] → ⊥
@@ -157,7 +166,28 @@ module _ (R : Request) (places : ℕ) (tables sectors : List ℕ) (p : Plan) (w 
       subst (Only R p first 0 cs) (sym (joined-path absent w first (rootOf p) cs ps))
       (parts-only cs ps 0 (some-directory R (rule-kept R places tables sectors p (I .planned))) (rootOf p) (root-region R places tables sectors p w first I))
 
--- ANY PATH of them, from the root
-pub path-only : (R : Request) (places : ℕ) (tables sectors : List ℕ) (p : Plan) (w : List ℕ) (first : Sector) → Imaged R places tables sectors p w first
-    → (cs : List (List ℕ)) → AllParts cs → Only R p first 0 cs (pathOf w first (rootOf p) (joined cs))
-path-only R places tables sectors p w first I = path-only-by R places tables sectors p w first I lookupAbsent lookup-0
+-- BOTH RULES, of a planned image
+module _ (R : Request) (places : ℕ) (tables sectors : List ℕ) (p : Plan) (w : List ℕ) (first : Sector) (I : Imaged R places tables sectors p w first) (cs : List (List ℕ)) (ps : AllParts cs) where
+  -- any path of these parts, from the root, under a rule
+  pub path-only : (rule : ℕ) (absent : List ℕ) → absentUnder rule ≡ some absent → Only R p first 0 cs (pathOf rule w first (rootOf p) (joined cs))
+  path-only rule absent e =
+      subst (Only R p first 0 cs) (sym (under w first (rootOf p) (joined cs) rule absent e)) (path-only-by R places tables sectors p w first I absent (rule-0 rule absent e) cs ps)
+
+  -- what is found with one set of absent links is found the same with another, of which no link on a way is
+  found-again-by : (absent other : List ℕ) → ((ks : List ℕ) → Real ks → Clear other ks) → (a : Told Placed) → Only R p first 0 cs a → (x : Placed) → a ≡ gives x
+      → pathBy absent w first (rootOf p) (joined cs) ≡ gives x → pathBy other w first (rootOf p) (joined cs) ≡ gives x
+  found-again-by absent other clear a (finds e j place item leads is at sector) x q found =
+      let f = path-finds-by R places tables sectors p w first I e j cs leads in
+      elim (clear-or-cut absent (f .links)) [
+        | inl c ↦ f .found other (clear (f .links) (f .real)) ∙ sym (f .found absent c) ∙ found
+        | inr c ↦ let z : _≡_ {A = ℕ} 0 1 = given-not-22 found (f .lost absent c) in absurd (omega arith)
+      ]
+  found-again-by absent other clear a misses x q found = let z : _≡_ {A = ℕ} 0 1 = cc in absurd (omega arith)
+  found-again-by absent other clear a (meets e j front b bs is leads file) x q found = let z : _≡_ {A = ℕ} 0 1 = cc in absurd (omega arith)
+
+  -- what is found under rule one is found the same under rule two
+  pub path-one-then-two : (x : Placed) → pathOf 1 w first (rootOf p) (joined cs) ≡ gives x → pathOf 2 w first (rootOf p) (joined cs) ≡ gives x
+  path-one-then-two x e =
+      let found : pathBy oneAbsent w first (rootOf p) (joined cs) ≡ gives x = sym (rule-one w first (rootOf p) (joined cs)) ∙ e in
+      rule-two w first (rootOf p) (joined cs)
+      ∙ found-again-by oneAbsent walkAbsent walk-clear (pathBy oneAbsent w first (rootOf p) (joined cs)) (path-only-by R places tables sectors p w first I oneAbsent one-0 cs ps) x found found

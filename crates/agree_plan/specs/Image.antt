@@ -104,8 +104,8 @@ pub record Finds (R : Request) (p : Plan) (w : List ℕ) (first : Sector) (t : R
   pub sector-is : item .sector ≡ sectorAt R p e j
   pub place : ℕ
   pub at-sector : 2048 * tableSector p e ≡ 2048 * first .0 + place
-  -- the way to it, and its links. None of them is 0 or 65,535, so that of them lookup takes exactly 255 for absent,
-  -- and the walk none
+  -- the way to it, and its links. None of them is 0 or 65,535, so that of them rule one takes exactly 255 for absent,
+  -- and rule two none
   pub links : List ℕ
   pub way : Way w first t parts links (placedAt place item)
   pub real : Real links

@@ -137,10 +137,10 @@ pub extern "C" fn xdvdfs_entry_name(
     store_name(w, place, name_len, start, len)
 }
 
-// Looks a name up in a table: the entry's fields, its place in the window and its offset in the table, and the
-// number of headers read. 2, 21, then 22 with the number of headers, 23, 24 with the offset, 25. 22 is that the chain
-// came to an absent link, 0 or 255, or to no entry: below a link of 255 an entry may have the name, and the walk
-// lists it.
+// Looks a name up in a table, under the rule of a number: the entry's fields, its place in the window and its offset
+// in the table, and the number of headers read. 29, 2, 21, then 22 with the number of headers, 23, 24 with the offset,
+// 25. 22 is that the chain came to a link that is absent under the rule (1: 0 and 255; 2: 0 and 65,535), or to no
+// entry: where rule one came to a link of 255, an entry below it may have the name, and the walk lists it.
 #[no_mangle]
 pub extern "C" fn xdvdfs_look_up(
     w: &[u8],
@@ -148,25 +148,27 @@ pub extern "C" fn xdvdfs_look_up(
     sector: u32,
     size: u32,
     name: &[u8],
+    rule: u32,
     fields: &mut [u32; 6],
     place: &mut usize,
     offset: &mut u32,
     headers: &mut u32,
 ) -> u32
     ensures { λ n.
-        let answer = lookup.lookupOf (was w) (sectorOf first) (regionOf sector size) (was name) in
+        let answer = lookup.lookupOf rule (was w) (sectorOf first) (regionOf sector size) (was name) in
         ⌜ n ≡ numberOf answer ⌝
         ∗ ⌜ is fields ≡ ofGiven foundFields answer (was fields) ⌝
         ∗ ⌜ is place ≡ ofGiven foundPlace answer (was place) ⌝
         ∗ ⌜ is offset ≡ ofRefusal atOffset answer (ofGiven foundOffset answer (was offset)) ⌝
         ∗ ⌜ is headers ≡ ofRefusal afterHeaders answer (ofGiven foundHeaders answer (was headers)) ⌝ }
 {
-    let r = xdvdfs::look_up(w, sector_of(first), region_of(sector, size), name);
+    let r = xdvdfs::look_up(w, sector_of(first), region_of(sector, size), name, rule);
     store_looked(r, fields, place, offset, headers)
 }
 
-// Follows a path from a table: the entry's fields and its place in the window. 2, 28, then as the lookup of each
-// part, 22 without its count, and 27. A part below a link of 255 is not found, though the walk lists it.
+// Follows a path from a table, under the rule of a number: the entry's fields and its place in the window. 29, 2, 28,
+// then as the lookup of each part, 22 without its count, and 27. Under rule one a part below a link of 255 is not
+// found, though the walk lists it.
 #[no_mangle]
 pub extern "C" fn xdvdfs_find_path(
     w: &[u8],
@@ -174,24 +176,25 @@ pub extern "C" fn xdvdfs_find_path(
     sector: u32,
     size: u32,
     path: &[u8],
+    rule: u32,
     fields: &mut [u32; 6],
     place: &mut usize,
     offset: &mut u32,
 ) -> u32
     ensures { λ n.
-        let answer = following.pathOf (was w) (sectorOf first) (regionOf sector size) (was path) in
+        let answer = following.pathOf rule (was w) (sectorOf first) (regionOf sector size) (was path) in
         ⌜ n ≡ numberOf answer ⌝
         ∗ ⌜ is fields ≡ ofGiven placedFields answer (was fields) ⌝
         ∗ ⌜ is place ≡ ofGiven placedAt answer (was place) ⌝
         ∗ ⌜ is offset ≡ ofRefusal atOffset answer (was offset) ⌝ }
 {
-    let r = xdvdfs::find_path(w, sector_of(first), region_of(sector, size), path);
+    let r = xdvdfs::find_path(w, sector_of(first), region_of(sector, size), path, rule);
     store_path(r, fields, place, offset)
 }
 
 // Lists the offsets of a table's entries in preorder, and says how many they are. 6, then 23, 24 with the offset, 26
-// where an entry is read when the list is full, as in a ring. What stands below a link of 255 is listed here and not
-// found by lookup.
+// where an entry is read when the list is full, as in a ring. What stands below a link of 255 is listed here, and found
+// by lookup under rule two alone.
 #[no_mangle]
 pub extern "C" fn xdvdfs_walk(
     w: &[u8],

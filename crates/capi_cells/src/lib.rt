@@ -135,6 +135,7 @@ pub fn store_looked(
             *headers = n;
             0
         }
+        Looked::BadRule => 29,
         Looked::BadByte => 2,
         Looked::DirectoryEmpty => 21,
         Looked::DoesNotExist(n) => {
@@ -166,6 +167,7 @@ pub fn store_path(r: PathFound, fields: &mut [u32; 6], place: &mut usize, offset
             *place = p;
             0
         }
+        PathFound::BadRule => 29,
         PathFound::BadByte => 2,
         PathFound::DirectoryEmpty => 21,
         PathFound::DoesNotExist => 22,

@@ -7,7 +7,9 @@ use lib.ListN.{length, take, replicate, length-map}
 use Rattle.units.specs.Told.{gives}
 use Rattle.units.specs.declared.Sector.{Sector}
 use Rattle.units.specs.declared.Region.{Region}
-use Rattle.read_entry.specs.Links.{lookupAbsent}
+use mathlib.Core.Option.{some}
+use Rattle.read_entry.specs.Links.{oneAbsent, walkAbsent}
+use Rattle.read_lookup.proofs.Rules.{under, rule-one, rule-two}
 use Rattle.read_walk.specs.Walk as walking
 use Rattle.strict_rule.specs.Strict as checking
 use Rattle.strict_rule.specs.Strict.{strictOf}
@@ -21,9 +23,10 @@ use Rattle.dirtab_arena.proofs.Passed.{held}
 use Rattle.dirtab.specs.Serialise as serialise
 use Rattle.dirtab_list.specs.Whole as whole
 use Rattle.dirtab_list.specs.Whole.{Listing, givenName, entryIn}
-use Rattle.agree.specs.Agreement.{offsets, placedAt, ReadBack, Reached, Agreement}
+use Rattle.agree.specs.Agreement.{offsets, placedAt, ReadBack, Reached, Sound, Agreement}
 use Rattle.agree.specs.Given.{EachOnce}
 use Rattle.agree.proofs.FromList.{grown-size}
+use Rattle.agree.proofs.Plain.{found-listed-by, found-again-by}
 use Rattle.agree_list.proofs.Same.{same-answer, same-output}
 use Rattle.agree_writers.specs.Wrote.{WroteList, WroteArena}
 use Rattle.agree_writers.proofs.OfList.{list-agrees, list-each, list-strict}
@@ -31,23 +34,26 @@ use Rattle.agree_writers.proofs.OfArena.{arena-agrees, arena-each, arena-strict
 use Rattle.agree_causes.specs.Lists.{treeFor, itemsFor}
 use Rattle.lookup_way.specs.Along.{Along, Real}
 use Rattle.lookup_way.proofs.Along.{along-clear, along-absent}
-use Rattle.lookup_way.proofs.Sets.{lookup-0, without-255, with-255}
+use Rattle.lookup_way.proofs.Sets.{one-0, walk-0, rule-0, without-255, with-255, walk-clear}
 use Rattle.agree_causes.proofs.Listed.{walk-lists, check-lists}
 use Rattle.agree_causes.proofs.Serialised.{serialised-arena}
-use Rattle.claims.specs.Found.{FoundUnless255, Kept, ListRead, ListKept, TurnRead, TurnKept, ArenaRead, ArenaKept}
+use Rattle.claims.specs.Found.{FoundByName, Kept, ListRead, ListKept, TurnRead, TurnKept, ArenaRead, ArenaKept}
 
 module _ (w : List ℕ) (first : Sector) (t : Region) (place : ℕ) where
-  found-unless : (xs : List Item) (y : Item) → Agreement w first t place xs → Reached w first t place xs y → FoundUnless255 w first t place y
-  found-unless xs y a r = record {
+  found-by-name : (xs : List Item) (y : Item) → Agreement w first t place xs → Reached w first t place xs y → FoundByName w first t place y
+  found-by-name xs y a r = record {
     links = r .links;
     way = r .way;
     real = r .real;
     one-way = λ ks k q. a .one-way (y .offset) ks (r .links) k q (r .way) (r .real);
-    found = λ none name low same.
-        r .answers lookupAbsent name low same ∙ along-clear lookupAbsent (placedAt place y) (y .offset) 1 (r .links) (without-255 (r .links) (r .real) none);
-    lost = λ some name low same.
-        let b = along-absent lookupAbsent (placedAt place y) (y .offset) 1 (r .links) (with-255 (r .links) some) in
-        (b .0, r .answers lookupAbsent name low same ∙ b .1);
+    found-one = λ none name low same.
+        rule-one w first t name ∙ r .answers oneAbsent name low same ∙ along-clear oneAbsent (placedAt place y) (y .offset) 1 (r .links) (without-255 (r .links) (r .real) none);
+    lost-one = λ some name low same.
+        let b = along-absent oneAbsent (placedAt place y) (y .offset) 1 (r .links) (with-255 (r .links) some) in
+        (b .0, rule-one w first t name ∙ r .answers oneAbsent name low same ∙ b .1);
+    found-two = λ name low same.
+        let f = r .answers walkAbsent name low same ∙ along-clear walkAbsent (placedAt place y) (y .offset) 1 (r .links) (walk-clear (r .links) (r .real)) in
+        (rule-two w first t name ∙ f, found-listed-by w first t place xs a walkAbsent name low walk-0 _ f .headers);
   }
 
   -- what the agreement of a table, its entries and the strict check give
@@ -65,8 +71,9 @@ module _ (w : List ℕ) (first : Sector) (t : Region) (place : ℕ) where
             × (walking.listAfter w first t list (length scratch) ≡ offsets xs ++ replicate (length list - k) 0)) same
             (walk-lists w first t list (length scratch) l (offsets xs) (a .listed (length list) (omega arith)));
         read = λ y m. of-item (ReadBack w first t place) xs y (a .read) m;
-        found = λ y m. found-unless xs y a (of-item (Reached w first t place xs) xs y (a .reached) m);
-        only = a .sound lookupAbsent lookup-0;
+        found = λ y m. found-by-name xs y a (of-item (Reached w first t place xs) xs y (a .reached) m);
+        only = λ rule absent e name low. subst (Sound place xs 19 name) (sym (under w first t name rule absent e)) (a .sound absent (rule-0 rule absent e) name low);
+        same = λ name x f. rule-two w first t name ∙ found-again-by w first t place xs a oneAbsent walkAbsent one-0 walk-clear name x (sym (rule-one w first t name) ∙ f);
         accepted = λ list scratch h l.
             subst (λ (k : ℕ). (checking.strictAnswer w first t (length list) (length scratch) ≡ gives k)
             × (checking.listAfter w first t list (length scratch) ≡ offsets xs ++ replicate (length list - k) 0)) same

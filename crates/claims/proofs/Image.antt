@@ -21,8 +21,8 @@ use Rattle.agree_plan.proofs.Sectors.{sectors-planned}
 use Rattle.agree_plan.proofs.Follows.{runs-follow, runs-apart}
 use Rattle.agree_plan.proofs.Writes.{table-writes, table-left}
 use Rattle.agree_plan.proofs.Agrees.{table-agrees, table-passes}
-use Rattle.agree_plan.proofs.Found.{path-finds}
-use Rattle.agree_plan.proofs.Only.{path-only}
+use Rattle.agree_plan.proofs.Found.{path-found}
+use Rattle.agree_plan.proofs.Only.{path-only, path-one-then-two}
 use Rattle.agree_causes.specs.Plans.{GivenIn}
 use Rattle.claims.specs.Found.{Kept}
 use Rattle.claims.specs.Image.{ImageRead, ImageFound, ImageKept, TablesWritten}
@@ -52,8 +52,9 @@ image-kept A m f q w first g =
     let I : Imaged R places tables sectors p w first = record { planned = q .planned; apart = g .apart; stand = g .stand } in
     record {
       tables = table R places tables sectors p w first I;
-      path = path-finds R places tables sectors p w first I;
+      path = path-found R places tables sectors p w first I;
       only = path-only R places tables sectors p w first I;
+      same = path-one-then-two R places tables sectors p w first I;
       follow = subst (Follow 33 (runsOf R (p .sizes) (directoriesOf R))) (q .free) (runs-follow R places tables sectors p (q .planned));
       runs = runs-apart R places tables sectors p (q .planned);
     }

@@ -295,7 +295,7 @@ pub itself-bytes : (i : ℕ) → getD itself i 0 < 256
 unfolding below
 itself-bytes = all-bytes itself refl
 
-pub itself-looped : lookup.told looked.Looped ≡ lookupOf itself first (of-size 32) (122 ∷ [])
+pub itself-looped : lookup.told looked.Looped ≡ lookupOf 1 itself first (of-size 32) (122 ∷ [])
 itself-looped = sym loops.itself-looped
 
 -- ---- a descriptor

@@ -9,12 +9,12 @@ use Rattle.units.specs.Told.{Told, gives, refuses, pick}
 use Rattle.units.specs.declared.Sector.{Sector}
 use Rattle.units.specs.declared.Region.{Region}
 use Rattle.name_role.specs.Roles.{badSought}
-use Rattle.read_entry.specs.Links.{lookupAbsent}
 use Rattle.read_lookup.specs.declared.Looked.{Looked}
 use Rattle.read_lookup.specs.declared.Looked.the-variants as looked
 use Rattle.read_lookup.specs.Lookup as lookup
-use Rattle.read_lookup.specs.Lookup.{Finding, lookupBy, lookupOf}
-use Rattle.read_lookup.specs.Chain.{countOf}
+use Rattle.read_lookup.specs.Lookup.{Finding, stepAt, lookupBy}
+use Rattle.read_lookup.proofs.Rules.{under}
+use Rattle.read_lookup.specs.Chain.{Endless, countOf}
 use Rattle.read_lookup.proofs.Laws.{looped-endless, looped-again, again-endless, endless-looped, count-is-length}
 use Rattle.read_lookup.proofs.Told.{told-one}
 use Rattle.strict_rule.proofs.Accepted.{accepted}
@@ -28,25 +28,25 @@ not-2 : (a : Bool) (x : Told Finding) → pick a (refuses 2 []) x ≡ refuses 25
 not-2 true x e = let z : _≡_ {A = ℕ} 2 25 = cc in absurd (omega arith)
 not-2 false x e = refl
 
-let-through : (w : List ℕ) (first : Sector) (t : Region) (name : List ℕ) → lookupOf w first t name ≡ refuses 25 [] → badSought name ≡ false
+let-through : (absent w : List ℕ) (first : Sector) (t : Region) (name : List ℕ) → lookupBy absent w first t name ≡ refuses 25 [] → badSought name ≡ false
 unfolding lookupBy
-let-through w first t name e = not-2 (badSought name) _ e
+let-through absent w first t name e = not-2 (badSought name) _ e
 
 pub looped-exactly : LoopedExactly
-looped-exactly w bytes first t name r c =
-    let said : r ≡ looked.Looped → lookupOf w first t name ≡ refuses 25 [] = λ q. sym c ∙ ap lookup.told q in
+looped-exactly w bytes first t name rule absent named r c =
+    let by-links = c ∙ under w first t name rule absent named in
+    let said : r ≡ looked.Looped → lookupBy absent w first t name ≡ refuses 25 [] = λ q. sym by-links ∙ ap lookup.told q in
+    let endless : badSought name ≡ false → Endless (stepAt absent w first t name) 0 → r ≡ looked.Looped = λ low e. told-one r looked.Looped (by-links ∙ endless-looped absent w first t name low (λ z. empty-ends absent w first t name z e) e) in
     record {
-      never-ends = λ q. looped-endless lookupAbsent w first t name bytes (said q);
-      reads-again = λ q. looped-again lookupAbsent w first t name bytes (said q);
-      let-through = λ q. let-through w first t name (said q);
-      where-endless = λ low e. told-one r looked.Looped (c ∙ endless-looped lookupAbsent w first t name low (λ z. empty-ends lookupAbsent w first t name z e) e);
-      where-again = λ low a.
-          let e = again-endless lookupAbsent w first t name a in
-          told-one r looked.Looped (c ∙ endless-looped lookupAbsent w first t name low (λ z. empty-ends lookupAbsent w first t name z e) e);
+      never-ends = λ q. looped-endless absent w first t name bytes (said q);
+      reads-again = λ q. looped-again absent w first t name bytes (said q);
+      let-through = λ q. let-through absent w first t name (said q);
+      where-endless = endless;
+      where-again = λ low a. endless low (again-endless absent w first t name a);
     }
 
 pub counted : Counted
-counted w first t name r c n e = count-is-length lookupAbsent w first t name n (ap countOf (sym c) ∙ e)
+counted w first t name rule absent named r c n e = count-is-length absent w first t name n (ap countOf (sym (c ∙ under w first t name rule absent named)) ∙ e)
 
 pub strict-exactly : StrictExactly
 strict-exactly w first t list scratch = record {

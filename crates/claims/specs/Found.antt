@@ -4,13 +4,15 @@ use Prim.Native.Nat.{ℕ, _+_, _-_, _≤_, _<_}
 use mathlib.Core.Path.{_≡_}
 use mathlib.Core.Bool.{true, false}
 use mathlib.Core.List.{List, [], _∷_, _++_, List·Memᴰ}
+use mathlib.Core.Option.{some}
 use lib.ListN.{length, getD, take, replicate}
 use Rattle.units.specs.Told.{gives, refuses}
 use Rattle.units.specs.declared.Sector.{Sector}
 use Rattle.units.specs.declared.Region.{Region}
 use Rattle.name_role.specs.Roles.{badSought}
 use Rattle.read_entry.specs.Entry.{readAt}
-use Rattle.read_lookup.specs.Lookup.{lookupOf}
+use Rattle.read_entry.specs.Links.{absentUnder}
+use Rattle.read_lookup.specs.Lookup.{Finding, lookupOf}
 use Rattle.read_walk.specs.Walk as walking
 use Rattle.strict_rule.specs.Strict as checking
 use Rattle.table_model.specs.Entry.{Entry, Item}
@@ -31,19 +33,25 @@ use Rattle.agree_causes.specs.Lists.{itemsFor}
 
 -- a window, the number of its first sector, a table's region, and the place of the table's first byte in the window
 module _ (w : List ℕ) (first : Sector) (t : Region) (place : ℕ) where
-  -- a lookup of an item's name, raised, finds it, unless a link of 255 stands on the way to it from the first
-  -- entry, along links that are read; then it answers 22
-  pub record FoundUnless255 (y : Item) : Type 0 where
+  -- what a lookup of an item's name, raised, answers, by the links on the way to it from the first entry, along
+  -- links that are read
+  pub record FoundByName (y : Item) : Type 0 where
     pub links : List ℕ
     pub way : Along (readAt w first t) 0 (y .offset) links
     -- the way is the only one along links of which none is 0 or 65,535
     pub real : Real links
     pub one-way : (ks : List ℕ) → Along (readAt w first t) 0 (y .offset) ks → Real ks → ks ≡ links
-    pub found : (List·Memᴰ 255 links → ⊥) → (name : List ℕ) → badSought name ≡ false → Same name (y .entry .name)
-        → lookupOf w first t name
+    -- under rule one the item is found, unless a link of 255 stands on the way; then the answer is 22
+    pub found-one : (List·Memᴰ 255 links → ⊥) → (name : List ℕ) → badSought name ≡ false → Same name (y .entry .name)
+        → lookupOf 1 w first t name
         ≡ gives (record { entry = placedAt place y; offset = y .offset; headers = 1 + length links })
-    pub lost : List·Memᴰ 255 links → (name : List ℕ) → badSought name ≡ false → Same name (y .entry .name)
-        → (c : ℕ) × (lookupOf w first t name ≡ refuses 22 (c ∷ []))
+    pub lost-one : List·Memᴰ 255 links → (name : List ℕ) → badSought name ≡ false → Same name (y .entry .name)
+        → (c : ℕ) × (lookupOf 1 w first t name ≡ refuses 22 (c ∷ []))
+    -- under rule two it is found, whatever links stand on the way, and after at most 19 headers
+    pub found-two : (name : List ℕ) → badSought name ≡ false → Same name (y .entry .name)
+        → (lookupOf 2 w first t name
+        ≡ gives (record { entry = placedAt place y; offset = y .offset; headers = 1 + length links }))
+        × (1 + length links ≤ 19)
 
   -- DEMAND 3, of n entries and the items xs of their table
   pub record Kept (n : ℕ) (entry : ℕ → Entry) (xs : List Item) : Type 0 where
@@ -60,11 +68,14 @@ module _ (w : List ℕ) (first : Sector) (t : Region) (place : ℕ) where
         × (walking.listAfter w first t list (length scratch) ≡ offsets xs ++ replicate (length list - n) 0)
     -- reading gives each back: name, size, kind, sector and links
     pub read : (y : Item) → List·Memᴰ y xs → ReadBack w first t place y
-    -- lookup finds each, unless a link of 255 stands on the way
-    pub found : (y : Item) → List·Memᴰ y xs → FoundUnless255 y
-    -- it finds nothing else: any other name is 22; and it reads at most 19 headers
-    pub only : (name : List ℕ) → badSought name ≡ false
-        → Sound place xs 19 name (lookupOf w first t name)
+    -- a lookup of its name finds each: under rule one unless a link of 255 stands on the way, under rule two always
+    pub found : (y : Item) → List·Memᴰ y xs → FoundByName y
+    -- nothing else is found under either rule: any other name is 22; and at most 19 headers are read
+    pub only : (rule : ℕ) (absent : List ℕ) → absentUnder rule ≡ some absent → (name : List ℕ)
+        → badSought name ≡ false → Sound place xs 19 name (lookupOf rule w first t name)
+    -- what is found under rule one is found the same under rule two: entry, offset and number of headers
+    pub same : (name : List ℕ) (a : Finding) → lookupOf 1 w first t name ≡ gives a
+        → lookupOf 2 w first t name ≡ gives a
     -- the strict check accepts the table, and lists the same
     pub accepted : (list scratch : List ℕ) → n ≤ length list → length list < length scratch
         → (checking.strictAnswer w first t (length list) (length scratch) ≡ gives n)

@@ -4,11 +4,14 @@ use Prim.Native.Nat.{ℕ, suc, _≤_, _<_}
 use mathlib.Core.Path.{_≡_}
 use mathlib.Core.Bool.{true}
 use mathlib.Core.List.{List, [], _++_, List·Memᴰ}
+use mathlib.Core.Option.{some}
 use lib.ListN.{length, drop}
 use Rattle.units.specs.Told.{gives, refuses}
 use Rattle.units.specs.declared.Sector.{Sector}
 use Rattle.units.specs.declared.Region.{Region}
 use Rattle.dirtab_entry.specs.Entry.{rounded}
+use Rattle.read_entry.specs.Entry.{Placed}
+use Rattle.read_entry.specs.Links.{absentUnder}
 use Rattle.read_path.specs.Path.{pathBy, pathOf}
 use Rattle.table_model.specs.Table.{tableBytes}
 use Rattle.dirtab_list.specs.Whole as whole
@@ -38,15 +41,21 @@ pub record ImageFound (R : Request) (p : Plan) (f : ℕ) (w : List ℕ) (first :
   -- every table, in the root's region and in that of a directory's entry
   pub tables : (d : ℕ) (h : d < directoriesOf R) (t : Region) → RegionFor p d t
       → Kept w first t (g .stand d h .place) (countOf R d) (entriesAt R (p .sizes) d) (itemsAt R (p .sizes) d)
-  -- a path to a planned entry finds it, unless a link of 255 stands on the way, which is the only one; then 22
+  -- a path to a planned entry finds it: under rule one unless a link of 255 stands on the way, which is the only one,
+  -- and then the answer is 22; under rule two always
   pub path : (e j : ℕ) (parts : List (List ℕ)) → Leads R p 0 parts e j
       → (f : Finds R p w first (rootOf p) parts e j (λ absent. pathBy absent w first (rootOf p) (joined parts)))
       × ((List·Memᴰ 255 (f .links) → ⊥)
-      → pathOf w first (rootOf p) (joined parts) ≡ gives (placedAt (f .place) (f .item)))
-      × (List·Memᴰ 255 (f .links) → pathOf w first (rootOf p) (joined parts) ≡ refuses 22 [])
-  -- no path finds anything else
+      → pathOf 1 w first (rootOf p) (joined parts) ≡ gives (placedAt (f .place) (f .item)))
+      × (List·Memᴰ 255 (f .links) → pathOf 1 w first (rootOf p) (joined parts) ≡ refuses 22 [])
+      × (pathOf 2 w first (rootOf p) (joined parts) ≡ gives (placedAt (f .place) (f .item)))
+  -- no path finds anything else, under either rule
   pub only : (parts : List (List ℕ)) → AllParts parts
-      → Only R p first 0 parts (pathOf w first (rootOf p) (joined parts))
+      → (rule : ℕ) (absent : List ℕ) → absentUnder rule ≡ some absent
+      → Only R p first 0 parts (pathOf rule w first (rootOf p) (joined parts))
+  -- what a path finds under rule one it finds under rule two
+  pub same : (parts : List (List ℕ)) → AllParts parts → (x : Placed)
+      → pathOf 1 w first (rootOf p) (joined parts) ≡ gives x → pathOf 2 w first (rootOf p) (joined parts) ≡ gives x
   -- all runs of sectors follow one another from 33 to the next free sector f, and no two overlap
   pub follow : Follow 33 (runsOf R (p .sizes) (directoriesOf R)) f
   pub runs : RunsApart (runsOf R (p .sizes) (directoriesOf R))

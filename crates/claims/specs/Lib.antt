@@ -1,5 +1,6 @@
 -- What is claimed, a file for each group of statements.
 pub mod Answers
+pub mod Rules
 pub mod Found
 pub mod Image
 pub mod Reading

@@ -10,7 +10,7 @@ use Rattle.units.specs.Told.{gives}
 use Rattle.units.specs.declared.Sector.{Sector}
 use Rattle.units.specs.declared.Region.{Region}
 use Rattle.name_role.specs.Roles.{badSought}
-use Rattle.read_entry.specs.Links.{lookupAbsent}
+use Rattle.read_entry.specs.Links.{absentUnder}
 use Rattle.read_lookup.specs.declared.Looked.{Looked}
 use Rattle.read_lookup.specs.declared.Looked.the-variants as looked
 use Rattle.read_lookup.specs.Lookup as lookup
@@ -19,25 +19,27 @@ use Rattle.read_lookup.specs.Chain.{Endless, ReadsAgain, LengthIs, countOf}
 use Rattle.strict_rule.specs.Strict as checking
 use Rattle.strict_rule.specs.Accepts.{Accepts}
 
--- 25 EXACTLY WHERE THE CHAIN NEVER ENDS, which is exactly where it would read an offset again. (2 comes before it; a
--- chain in a table of size 0, which is 21, ends.) w is a list of bytes: each element is below 256, as those of a
--- `&[u8]` are (claims_bytes)
-pub record Looped (w : List ℕ) (first : Sector) (t : Region) (name : List ℕ) (r : Looked) : Type 0 where
-  pub never-ends : r ≡ looked.Looped → Endless (stepAt lookupAbsent w first t name) 0
-  pub reads-again : r ≡ looked.Looped → ReadsAgain (stepAt lookupAbsent w first t name) 0
+-- 25 EXACTLY WHERE THE CHAIN NEVER ENDS, which is exactly where it would read an offset again: the chain along links
+-- of which those in `absent` are taken for absent. (29 and 2 come before it; a chain in a table of size 0, which is 21,
+-- ends.) w is a list of bytes: each element is below 256, as those of a `&[u8]` are (claims_bytes)
+pub record Looped (absent w : List ℕ) (first : Sector) (t : Region) (name : List ℕ) (r : Looked) : Type 0 where
+  pub never-ends : r ≡ looked.Looped → Endless (stepAt absent w first t name) 0
+  pub reads-again : r ≡ looked.Looped → ReadsAgain (stepAt absent w first t name) 0
   pub let-through : r ≡ looked.Looped → badSought name ≡ false
-  pub where-endless : badSought name ≡ false → Endless (stepAt lookupAbsent w first t name) 0 → r ≡ looked.Looped
-  pub where-again : badSought name ≡ false → ReadsAgain (stepAt lookupAbsent w first t name) 0 → r ≡ looked.Looped
+  pub where-endless : badSought name ≡ false → Endless (stepAt absent w first t name) 0 → r ≡ looked.Looped
+  pub where-again : badSought name ≡ false → ReadsAgain (stepAt absent w first t name) 0 → r ≡ looked.Looped
 
+-- under either rule, with its absent links
 abbrev pub LoopedExactly : Type 0
 LoopedExactly = (w : List ℕ) → ((i : ℕ) → getD w i 0 < 256) → (first : Sector) (t : Region) (name : List ℕ)
-    (r : Looked) → lookup.told r ≡ lookupOf w first t name → Looped w first t name r
+    (rule : ℕ) (absent : List ℕ) → absentUnder rule ≡ some absent
+    → (r : Looked) → lookup.told r ≡ lookupOf rule w first t name → Looped absent w first t name r
 
--- THE COUNT that an answer carries is the length of the chain
+-- THE COUNT that an answer carries is the length of the chain, under either rule
 abbrev pub Counted : Type 0
-Counted = (w : List ℕ) (first : Sector) (t : Region) (name : List ℕ) (r : Looked)
-    → lookup.told r ≡ lookupOf w first t name
-    → (n : ℕ) → countOf (lookup.told r) ≡ some n → LengthIs (stepAt lookupAbsent w first t name) 0 n
+Counted = (w : List ℕ) (first : Sector) (t : Region) (name : List ℕ) (rule : ℕ) (absent : List ℕ)
+    → absentUnder rule ≡ some absent → (r : Looked) → lookup.told r ≡ lookupOf rule w first t name
+    → (n : ℕ) → countOf (lookup.told r) ≡ some n → LengthIs (stepAt absent w first t name) 0 n
 
 -- THE STRICT CHECK ACCEPTS EXACTLY the tables of the rule: where it answers a number, the table whose walk lists xs
 -- keeps the rule, and the list has xs and then zeros; and where a table keeps the rule, and the list has room for

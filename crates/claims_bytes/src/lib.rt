@@ -1,8 +1,12 @@
 // What a `&[u8]` is by its type, as a contract, and with it the law of 25 of `look_up` itself: no hypothesis is left.
 // Neither function is exported by a door; they stand here for what their contracts say.
 ghost use Prim.Native.Nat.{ℕ, _<_};
+ghost use mathlib.Core.Path.{_≡_};
+ghost use mathlib.Core.List.{List};
+ghost use mathlib.Core.Option.{some};
 ghost use lib.ListN.{getD};
 ghost use Rattle.units.specs.Lent.{was};
+ghost use Rattle.read_entry.specs.Links.{absentUnder};
 ghost use Rattle.claims.specs.Reading.{Looped};
 use read_lookup::Looked;
 use units::Region;
@@ -18,11 +22,13 @@ pub fn know_bytes(w: &[u8])
     }
 }
 
-// Looks a name up, as `xdvdfs::look_up` does. It answers 25 exactly where 2 is not answered and the chain of headers
-// never ends, which is exactly where it would read an offset again.
-pub fn look_up(w: &[u8], first: Sector, table: Region, name: &[u8]) -> Looked
-    ensures { λ r. ⌜ Looped (was w) first table (was name) r ⌝ }
+// Looks a name up under a rule, as `xdvdfs::look_up` does. It answers 25 exactly where neither 29 nor 2 is answered
+// and the chain of headers, by the links that are absent under the rule, never ends, which is exactly where it would
+// read an offset again.
+pub fn look_up(w: &[u8], first: Sector, table: Region, name: &[u8], rule: u32) -> Looked
+    ensures { λ r.
+        ⌜ ((absent : List ℕ) → absentUnder rule ≡ some absent → Looped absent (was w) first table (was name) r) ⌝ }
 {
     know_bytes(w);
-    xdvdfs::look_up(w, first, table, name)
+    xdvdfs::look_up(w, first, table, name, rule)
 }

@@ -102,7 +102,7 @@ module _ (absent w : List ℕ) (first : Sector) (t : Region) (name : List ℕ) w
       let f = refusal-is w first t o k us d in
       (omega (arith, f .0), omega (arith, f .1))
 
-  step-reads : (o : ℕ) → chains.Reading (stepAt absent w first t name o)
+  pub step-reads : (o : ℕ) → chains.Reading (stepAt absent w first t name o)
   unfolding stepAt
   step-reads o = read-reads o (readAt w first t o) refl
 

@@ -18,13 +18,13 @@ use Rattle.layout_name.specs.declared.Order.the-variants.{Less, Equal, Greater}
 use Rattle.name_role.specs.Roles.{soughtOrder, badSought}
 use Rattle.layout_node.specs.declared.Header.{Header}
 use Rattle.read_entry.specs.Entry.{Placed, readAt, nameOf}
-use Rattle.read_entry.specs.Links.{isIn, lookupAbsent}
+use Rattle.read_entry.specs.Links.{isIn}
 use Rattle.read_entry.specs.inner.Part.{partOf, placedOn, moved}
 use Rattle.read_entry.proofs.Fit.{entry-held}
 use Rattle.read_entry.proofs.Moved.{read-moved, name-moved, read-nothing, Starts, inside, outside, starts}
 use Rattle.read_lookup.specs.declared.Looked.{Looked}
 use Rattle.read_lookup.specs.declared.Looked.the-variants as looked
-use Rattle.read_lookup.specs.Lookup.{Leads, found, missing, refused, onward, Finding, byLink, byOrder, byRead, stepAt, ending, most, chainFrom, lookupBy, lookupOf, told}
+use Rattle.read_lookup.specs.Lookup.{Leads, found, missing, refused, onward, Finding, byLink, byOrder, byRead, stepAt, ending, most, chainFrom, lookupBy, told}
 use Rattle.read_lookup.proofs.Laws.{found-stands}
 
 -- where a step leads, and an answer, with places counted from b on
@@ -123,36 +123,39 @@ pub part-short : (w : List ℕ) (first : Sector) (t : Region) (part : List ℕ) 
 part-short w first t part e = part-short-by w first t part (starts w first t part e)
 
 -- each answer in the part, as the code has it, and the answer for the window
-module _ (w : List ℕ) (first : Sector) (t : Region) (name part : List ℕ) (is-part : part ≡ partOf w first t) (f s : Sector) (f-is : f .0 ≡ 0) (s-is : s .0 ≡ 0)
-    (r : Looked) (looked-in : told r ≡ lookupOf part f (record { sector = s; size = t .size }) name) where
+module _ (absent w : List ℕ) (first : Sector) (t : Region) (name part : List ℕ) (is-part : part ≡ partOf w first t) (f s : Sector) (f-is : f .0 ≡ 0) (s-is : s .0 ≡ 0)
+    (r : Looked) (looked-in : told r ≡ lookupBy absent part f (record { sector = s; size = t .size }) name) where
   -- an entry that is found stands in the part
   pub place-held : (h : Header) (p : ℕ) (o : Offset) (n : ℕ) → r ≡ looked.Found h p o n → p + 14 ≤ length part
   place-held h p o n e =
       let u : Region = record { sector = s; size = t .size } in
       entry-held part f u (o .0) (record { header = h; place = p })
-      (found-stands lookupAbsent part f u name (record { entry = record { header = h; place = p }; offset = o .0; headers = n }) (sym (rw e at looked-in)) .0)
+      (found-stands absent part f u name (record { entry = record { header = h; place = p }; offset = o .0; headers = n }) (sym (rw e at looked-in)) .0)
 
   module _ (base : ℕ) (base-is : base ≡ length w - length part) where
-    whole : movedAnswer base (told r) ≡ lookupOf w first t name
-    whole = rw (looked-in, base-is) (sym (lookup-moved lookupAbsent w first t name f (record { sector = s; size = t .size }) f-is s-is refl part is-part))
+    whole : movedAnswer base (told r) ≡ lookupBy absent w first t name
+    whole = rw (looked-in, base-is) (sym (lookup-moved absent w first t name f (record { sector = s; size = t .size }) f-is s-is refl part is-part))
 
-    pub found-there : (h : Header) (p : ℕ) (o : Offset) (n : ℕ) → r ≡ looked.Found h p o n → (q : ℕ) → q ≡ base + p → told (looked.Found h q o n) ≡ lookupOf w first t name
+    pub found-there : (h : Header) (p : ℕ) (o : Offset) (n : ℕ) → r ≡ looked.Found h p o n → (q : ℕ) → q ≡ base + p → told (looked.Found h q o n) ≡ lookupBy absent w first t name
     found-there h p o n e q d = rw d (rw e at whole)
 
-    pub bad-byte : r ≡ looked.BadByte → told looked.BadByte ≡ lookupOf w first t name
+    pub bad-rule : r ≡ looked.BadRule → told looked.BadRule ≡ lookupBy absent w first t name
+    bad-rule e = rw e at whole
+
+    pub bad-byte : r ≡ looked.BadByte → told looked.BadByte ≡ lookupBy absent w first t name
     bad-byte e = rw e at whole
 
-    pub empty-there : r ≡ looked.DirectoryEmpty → told looked.DirectoryEmpty ≡ lookupOf w first t name
+    pub empty-there : r ≡ looked.DirectoryEmpty → told looked.DirectoryEmpty ≡ lookupBy absent w first t name
     empty-there e = rw e at whole
 
-    pub not-there : (n : ℕ) → r ≡ looked.DoesNotExist n → told (looked.DoesNotExist n) ≡ lookupOf w first t name
+    pub not-there : (n : ℕ) → r ≡ looked.DoesNotExist n → told (looked.DoesNotExist n) ≡ lookupBy absent w first t name
     not-there n e = rw e at whole
 
-    pub out-there : (o : Offset) → r ≡ looked.OutOfBounds o → told (looked.OutOfBounds o) ≡ lookupOf w first t name
+    pub out-there : (o : Offset) → r ≡ looked.OutOfBounds o → told (looked.OutOfBounds o) ≡ lookupBy absent w first t name
     out-there o e = rw e at whole
 
-    pub cut-there : (o : Offset) → r ≡ looked.Truncated o → told (looked.Truncated o) ≡ lookupOf w first t name
+    pub cut-there : (o : Offset) → r ≡ looked.Truncated o → told (looked.Truncated o) ≡ lookupBy absent w first t name
     cut-there o e = rw e at whole
 
-    pub looped-there : r ≡ looked.Looped → told looked.Looped ≡ lookupOf w first t name
+    pub looped-there : r ≡ looked.Looped → told looked.Looped ≡ lookupBy absent w first t name
     looped-there e = rw e at whole

@@ -7,7 +7,7 @@ use lib.ListN.{getD}
 use Rattle.units.specs.Told.{Told, gives, refuses, pick}
 use Rattle.units.specs.declared.Offset.{Offset}
 use Rattle.read_lookup.specs.declared.Looked.{Looked}
-use Rattle.read_lookup.specs.declared.Looked.the-variants.{Found, BadByte, DirectoryEmpty, DoesNotExist, OutOfBounds, Truncated, Looped}
+use Rattle.read_lookup.specs.declared.Looked.the-variants.{Found, BadRule, BadByte, DirectoryEmpty, DoesNotExist, OutOfBounds, Truncated, Looped}
 use Rattle.read_lookup.specs.Lookup.{Finding, told}
 
 -- the offset that a refusal carries
@@ -18,14 +18,16 @@ carried vs = record { 0 = getD vs 0 0 }
 back : Told Finding → Looked
 back (gives x) = Found (x .entry .header) (x .entry .place) (record { 0 = x .offset }) (x .headers)
 back (refuses k vs) =
-    pick (eqb k 2) BadByte
+    pick (eqb k 29) BadRule
+    (pick (eqb k 2) BadByte
     (pick (eqb k 21) DirectoryEmpty
     (pick (eqb k 22) (DoesNotExist (getD vs 0 0))
-    (pick (eqb k 23) (OutOfBounds (carried vs)) (pick (eqb k 24) (Truncated (carried vs)) Looped))))
+    (pick (eqb k 23) (OutOfBounds (carried vs)) (pick (eqb k 24) (Truncated (carried vs)) Looped)))))
 
 back-told : (a : Looked) → back (told a) ≡ a
 unfolding back
 back-told (Found h p o n) = refl
+back-told BadRule = refl
 back-told BadByte = refl
 back-told DirectoryEmpty = refl
 back-told (DoesNotExist n) = refl

@@ -13,7 +13,7 @@ use Rattle.layout_name.specs.declared.Order.{Order}
 use Rattle.layout_name.specs.declared.Order.the-variants.{Less, Equal, Greater}
 use Rattle.name_role.specs.Roles.{soughtOrder, badSought}
 use Rattle.read_entry.specs.Entry.{Placed, readAt, nameOf}
-use Rattle.read_entry.specs.Links.{isIn, lookupAbsent}
+use Rattle.read_entry.specs.Links.{isIn, absentUnder}
 use Rattle.read_lookup.specs.declared.Looked.{Looked}
 use Rattle.read_lookup.specs.declared.Looked.the-variants as looked
 
@@ -73,13 +73,19 @@ lookupBy absent w first t name =
     (pick (eqb (t .size) 0) (refuses 21 [])
     (chainFrom (stepAt absent w first t name) most 0 0))
 
--- the answer of a lookup
-abbrev pub lookupOf : List ℕ → Sector → Region → List ℕ → Told Finding
-lookupOf = lookupBy lookupAbsent
+-- with the links that are absent under a rule, or 29 where there is no such rule
+abbrev pub underRule : {A : Type 0} → Option (List ℕ) → (List ℕ → Told A) → Told A
+underRule (some absent) next = next absent
+underRule none next = refuses 29 []
+
+-- the answer of a lookup under the rule of a number: 29, then as by the rule's links
+unfoldable pub lookupOf : ℕ → List ℕ → Sector → Region → List ℕ → Told Finding
+lookupOf rule w first t name = underRule (absentUnder rule) (λ absent. lookupBy absent w first t name)
 
 -- what each answer of the code stands for
 abbrev pub told : Looked → Told Finding
 told (looked.Found h p o n) = gives (record { entry = record { header = h; place = p }; offset = o .0; headers = n })
+told looked.BadRule = refuses 29 []
 told looked.BadByte = refuses 2 []
 told looked.DirectoryEmpty = refuses 21 []
 told (looked.DoesNotExist n) = refuses 22 (n ∷ [])

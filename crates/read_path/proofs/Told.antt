@@ -8,7 +8,7 @@ use Rattle.units.specs.Told.{Told, gives, refuses, pick}
 use Rattle.units.specs.declared.Offset.{Offset}
 use Rattle.read_entry.specs.Entry.{Placed}
 use Rattle.read_path.specs.declared.PathFound.{PathFound}
-use Rattle.read_path.specs.declared.PathFound.the-variants.{Entry, BadByte, DirectoryEmpty, DoesNotExist, OutOfBounds, Truncated, Looped, IsNotDirectory, NoDirent}
+use Rattle.read_path.specs.declared.PathFound.the-variants.{Entry, BadRule, BadByte, DirectoryEmpty, DoesNotExist, OutOfBounds, Truncated, Looped, IsNotDirectory, NoDirent}
 use Rattle.read_path.specs.Path.{told}
 
 -- the offset that a refusal carries
@@ -19,16 +19,18 @@ carried vs = record { 0 = getD vs 0 0 }
 back : Told Placed → PathFound
 back (gives x) = Entry (x .header) (x .place)
 back (refuses k vs) =
-    pick (eqb k 2) BadByte
+    pick (eqb k 29) BadRule
+    (pick (eqb k 2) BadByte
     (pick (eqb k 21) DirectoryEmpty
     (pick (eqb k 22) DoesNotExist
     (pick (eqb k 23) (OutOfBounds (carried vs))
     (pick (eqb k 24) (Truncated (carried vs))
-    (pick (eqb k 25) Looped (pick (eqb k 27) IsNotDirectory NoDirent))))))
+    (pick (eqb k 25) Looped (pick (eqb k 27) IsNotDirectory NoDirent)))))))
 
 back-told : (a : PathFound) → back (told a) ≡ a
 unfolding back
 back-told (Entry h p) = refl
+back-told BadRule = refl
 back-told BadByte = refl
 back-told DirectoryEmpty = refl
 back-told DoesNotExist = refl

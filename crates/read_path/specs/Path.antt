@@ -9,8 +9,8 @@ use Rattle.units.specs.declared.Region.{Region}
 use Rattle.name_role.specs.Roles.{badSought}
 use Rattle.layout_node.specs.Header.{isDirectory}
 use Rattle.read_entry.specs.Entry.{Placed}
-use Rattle.read_entry.specs.Links.{lookupAbsent}
-use Rattle.read_lookup.specs.Lookup.{Finding, lookupBy}
+use Rattle.read_entry.specs.Links.{absentUnder}
+use Rattle.read_lookup.specs.Lookup.{Finding, lookupBy, underRule}
 use Rattle.read_path.specs.declared.PathFound.{PathFound}
 use Rattle.read_path.specs.declared.PathFound.the-variants as path-found
 
@@ -65,17 +65,19 @@ partsFrom absent w first t (p ∷ []) = lastOf (lookupBy absent w first t p)
 partsFrom absent w first t (p ∷ q ∷ ps) =
     onward (turnOf (lookupBy absent w first t p)) (λ u. partsFrom absent w first u (q ∷ ps))
 
--- the answer of a path: 2, then the parts
+-- the answer of a path whose parts are looked up so: 2, then the parts
 unfoldable pub pathBy : List ℕ → List ℕ → Sector → Region → List ℕ → Told Placed
 pathBy absent w first t path =
     pick (badSought path) (refuses 2 []) (partsFrom absent w first t (unended (split (trim path))))
 
-abbrev pub pathOf : List ℕ → Sector → Region → List ℕ → Told Placed
-pathOf = pathBy lookupAbsent
+-- the answer of a path under the rule of a number, one rule for all its parts: 29, then as by the rule's links
+unfoldable pub pathOf : ℕ → List ℕ → Sector → Region → List ℕ → Told Placed
+pathOf rule w first t path = underRule (absentUnder rule) (λ absent. pathBy absent w first t path)
 
 -- what each answer of the code stands for
 abbrev pub told : PathFound → Told Placed
 told (path-found.Entry h p) = gives (record { header = h; place = p })
+told path-found.BadRule = refuses 29 []
 told path-found.BadByte = refuses 2 []
 told path-found.DirectoryEmpty = refuses 21 []
 told path-found.DoesNotExist = refuses 22 []

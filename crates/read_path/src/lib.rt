@@ -1,21 +1,26 @@
-// A path is followed from a table: each part of it is looked up in the table that the part before it names.
+// A path is followed from a table, under a rule: each part of it is looked up in the table that the part before it
+// names.
 use layout_node::Header;
 use read_lookup::Looked;
+use read_lookup::Ruled;
 use units::Offset;
 use units::Region;
 use units::Sector;
 ghost use mathlib.Core.Path.{_≡_};
+ghost use mathlib.Core.List.{[], _∷_};
 ghost use Prim.Native.Nat.{_+_, _≤_};
 ghost use lib.ListN.{length, drop};
 ghost use Rattle.units.specs.Lent.{was};
 ghost use Rattle.read_lookup.specs.Lookup as lookup;
-ghost use Rattle.read_path.specs.Path.{trim, told, lastOf, turnOf, pathOf};
+ghost use Rattle.read_path.specs.Path.{trim, told, lastOf, turnOf, pathBy, pathOf};
 ghost use Rattle.read_path.specs.inner.Path.{firstLen, turning};
 
 // What a path leads to.
 pub enum PathFound {
     // The entry: its header, and the place in the window of its first byte.
     Entry(Header, usize),
+    // 29: no rule has the number.
+    BadRule,
     // 2: a byte of the path is above 127.
     BadByte,
     // 21, 22, 23, 24, 25: as the lookup of a part answers, 22 without its count.
@@ -71,6 +76,7 @@ fn last_of(a: Looked) -> PathFound
 {
     match a {
         Looked::Found(h, place, _, _) => PathFound::Entry(h, place),
+        Looked::BadRule => PathFound::BadRule,
         Looked::BadByte => PathFound::BadByte,
         Looked::DirectoryEmpty => PathFound::DirectoryEmpty,
         Looked::DoesNotExist(_) => PathFound::DoesNotExist,
@@ -93,6 +99,7 @@ fn turn_of(a: Looked) -> Turn
             }
             Turn::Stop(PathFound::IsNotDirectory)
         }
+        Looked::BadRule => Turn::Stop(PathFound::BadRule),
         Looked::BadByte => Turn::Stop(PathFound::BadByte),
         Looked::DirectoryEmpty => Turn::Stop(PathFound::DirectoryEmpty),
         Looked::DoesNotExist(_) => Turn::Stop(PathFound::DoesNotExist),
@@ -102,9 +109,9 @@ fn turn_of(a: Looked) -> Turn
     }
 }
 
-// The entry that a path leads to from a table.
-pub fn find_path(w: &[u8], first: Sector, table: Region, path: &[u8]) -> PathFound
-    ensures { λ r. ⌜ told r ≡ pathOf (was w) first table (was path) ⌝ }
+// The entry that a path leads to from a table, by links of which 0 and `absent` lead nowhere.
+fn find_path_by(w: &[u8], first: Sector, table: Region, path: &[u8], absent: u16) -> PathFound
+    ensures { λ r. ⌜ told r ≡ pathBy (0 ∷ absent ∷ []) (was w) first table (was path) ⌝ }
 {
     if read_lookup::is_bad_sought(path) {
         return PathFound::BadByte;
@@ -113,7 +120,7 @@ pub fn find_path(w: &[u8], first: Sector, table: Region, path: &[u8]) -> PathFou
     let mut i = trimmed(path);
     while i < path.len() {
         let e = part_end(path, i);
-        let a = read_lookup::look_up(w, first, t, &path[i..e]);
+        let a = read_lookup::look_up_by(w, first, t, &path[i..e], absent);
         if path.len() <= e + 1 {
             return last_of(a);
         }
@@ -124,4 +131,14 @@ pub fn find_path(w: &[u8], first: Sector, table: Region, path: &[u8]) -> PathFou
         i = e + 1;
     }
     PathFound::NoDirent
+}
+
+// The entry that a path leads to from a table, under the rule of a number.
+pub fn find_path(w: &[u8], first: Sector, table: Region, path: &[u8], rule: u32) -> PathFound
+    ensures { λ r. ⌜ told r ≡ pathOf rule (was w) first table (was path) ⌝ }
+{
+    match read_lookup::absent_under(rule) {
+        Ruled::Absent(n) => find_path_by(w, first, table, path, n),
+        Ruled::BadRule => PathFound::BadRule,
+    }
 }

@@ -37,7 +37,7 @@ use Rattle.read_place.proofs.Linked as Linked
 use Rattle.read_place.proofs.Linked.Laws as Linked′
 use Rattle.reader.specs.declared.Reader.{Reader}
 use Rattle.reader.proofs.Thin.{Thin}
-use Rattle.reader.proofs.Contracts.{bytes, held, sector, region, offset}
+use Rattle.reader.proofs.Contracts.{bytes, held, sector, region, offset, number}
 
 pub record Answer : Type 2 where
   pub type : Slot 1
@@ -92,30 +92,35 @@ left = link (λ d κs r. place.linked r ≡ place.leftAt (now (d .window)) (d .f
 abbrev pub right : Answer
 right = link (λ d κs r. place.linked r ≡ place.rightAt (now (d .window)) (d .first) (d .table) (d .at .0))
 
--- ---- what is sought: of bytes that are lent besides, in a table of a window, wherever the reader stands
+-- ---- what is sought: of bytes that are lent besides, under the rule of a number, in a table of a window, wherever the reader stands
 pub record Sought : Type 2 where
   pub type : RattleType
-  pub Says : List ℕ → Sector → Region → List ℕ → type .Denot → Type 0
+  pub Says : ℕ → List ℕ → Sector → Region → List ℕ → type .Denot → Type 0
   pub mir : Ty
   pub typed : {M : Type 1} (𝓤 : URA M) (H : Heap 𝓤) (A : Atoms 𝓤) → Given 𝓤 H A → (r : type .Denot) (u : Val) → Is type r (u ∷ []) → Holds (hasTy mir u) × WT u
 
 -- the contract of a function of a reader that seeks so, and of one of a window, its first sector and a table
 abbrev pub byReader : Sought → Thin
-byReader x = record { lifetimes = 2; params = held 1 ∷ bytes 2 1 tt ∷ []; result = plain (λ _. x .type); Says = λ κs a r. x .Says (now (a .0 .window)) (a .0 .first) (a .0 .table) (now (a .1 .0)) r }
+byReader x = record {
+  lifetimes = 2;
+  params = held 1 ∷ bytes 2 1 tt ∷ number ∷ [];
+  result = plain (λ _. x .type);
+  Says = λ κs a r. x .Says (a .1 .1 .0) (now (a .0 .window)) (a .0 .first) (a .0 .table) (now (a .1 .0)) r;
+}
 
 abbrev pub inWindow : Sought → Thin
 inWindow x = record {
   lifetimes = 2;
-  params = bytes 2 0 tt ∷ sector ∷ region ∷ bytes 2 1 tt ∷ [];
+  params = bytes 2 0 tt ∷ sector ∷ region ∷ bytes 2 1 tt ∷ number ∷ [];
   result = plain (λ _. x .type);
-  Says = λ κs a r. x .Says (now (a .0)) (a .1 .0) (a .1 .1 .0) (now (a .1 .1 .1 .0)) r;
+  Says = λ κs a r. x .Says (a .1 .1 .1 .1 .0) (now (a .0)) (a .1 .0) (a .1 .1 .0) (now (a .1 .1 .1 .0)) r;
 }
 
 -- a name, and a path
 abbrev pub by-name : Sought
 by-name = record {
   type = Looked.the-row;
-  Says = λ w first t name r. lookup.told r ≡ lookup.lookupOf w first t name;
+  Says = λ rule w first t name r. lookup.told r ≡ lookup.lookupOf rule w first t name;
   mir = Looked′.mir;
   typed = λ 𝓤 H A W r u is. EL.lawful Looked.the-type Looked′.the-laws 𝓤 H A W tt .typed r _ is .0;
 }
@@ -123,7 +128,7 @@ by-name = record {
 abbrev pub by-path : Sought
 by-path = record {
   type = PathFound.the-row;
-  Says = λ w first t path r. following.told r ≡ following.pathOf w first t path;
+  Says = λ rule w first t path r. following.told r ≡ following.pathOf rule w first t path;
   mir = PathFound′.mir;
   typed = λ 𝓤 H A W r u is. EL.lawful PathFound.the-type PathFound′.the-laws 𝓤 H A W tt .typed r _ is .0;
 }

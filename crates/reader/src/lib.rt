@@ -6,13 +6,14 @@
 // `xdvdfs::read_descriptor` gives:
 //
 //     let r = Reader::new(w, Sector::new(32), root);
-//     r.look_up(b"media")                          answers Looked::Found(_, _, at, _)
-//     r.placed(at).enter()                         answers Entered::Into(table)
-//     r.within(table).look_up(b"default.xbe")      answers Looked::Found(h, _, _, _)
+//     r.look_up(b"media", 2)                          answers Looked::Found(_, _, at, _)
+//     r.placed(at).enter()                            answers Entered::Into(table)
+//     r.within(table).look_up(b"default.xbe", 2)      answers Looked::Found(h, _, _, _)
 //
-// and h.sector and h.size say where the bytes stand. In one call, where only the entry is asked for:
+// and h.sector and h.size say where the bytes stand; 2 is the number of a rule, which says what links are absent. In
+// one call, where only the entry is asked for:
 //
-//     r.find_path(b"media/default.xbe")            answers PathFound::Entry(h, _)
+//     r.find_path(b"media/default.xbe", 2)            answers PathFound::Entry(h, _)
 //
 // An answer holds no reader, since an enum holds no reference: `look_up`, `left` and `right` answer an offset, for
 // `placed`, and `enter` a table, for `within`.
@@ -85,23 +86,27 @@ impl<'a> Reader<'a> {
         Reader::new(self.window, self.first, table)
     }
 
-    // Looks a name up in the table, from offset 0 on, wherever the position is. 2, 21, then 22 with the number of
-    // headers read, 23, 24, 25. 22 is that the chain came to an absent link, 0 or 255, or to no entry: below a link
-    // of 255 an entry may have the name, and going by `left` and `right` leads to it.
-    pub fn look_up(self, name: &[u8]) -> Looked
+    // Looks a name up in the table, from offset 0 on, wherever the position is, under the rule of a number. 29 where
+    // no rule has the number, then 2, 21, then 22 with the number of headers read, 23, 24, 25. 22 is that the chain
+    // came to an absent link or to no entry. Under rule one (1) links 0 and 255 are absent: an entry at or below a
+    // link of 255 may have the name, and going by `left` and `right` leads to it. Under rule two (2) 0 and 65,535
+    // are absent, as for the walk, `left` and `right`.
+    pub fn look_up(self, name: &[u8], rule: u32) -> Looked
         ensures { λ r. let s = self .entry in
-            ⌜ lookup.told r ≡ lookup.lookupOf (now (s .window)) (s .first) (s .table) (was name) ⌝ }
+            ⌜ lookup.told r ≡ lookup.lookupOf rule (now (s .window)) (s .first) (s .table) (was name) ⌝ }
     {
-        read_lookup::look_up(self.window, self.first, self.table, name)
+        read_lookup::look_up(self.window, self.first, self.table, name, rule)
     }
 
-    // Follows a path from the table, wherever the position is. 2, 28, then for each part what its lookup gives, and
-    // 27 where a part but the last is no directory.
-    pub fn find_path(self, path: &[u8]) -> PathFound
+    // Follows a path from the table, wherever the position is, each part under the rule of the number. 29, 2, 28,
+    // then for each part what its lookup gives, and 27 where a part but the last is no directory. Under rule one (1)
+    // links 0 and 255 are absent, and an entry at or below a link of 255 may have the part's name; under rule two (2)
+    // 0 and 65,535 are.
+    pub fn find_path(self, path: &[u8], rule: u32) -> PathFound
         ensures { λ r. let s = self .entry in
-            ⌜ following.told r ≡ following.pathOf (now (s .window)) (s .first) (s .table) (was path) ⌝ }
+            ⌜ following.told r ≡ following.pathOf rule (now (s .window)) (s .first) (s .table) (was path) ⌝ }
     {
-        read_path::find_path(self.window, self.first, self.table, path)
+        read_path::find_path(self.window, self.first, self.table, path, rule)
     }
 
     // The entry at the position: its header and place in the window, or that there is none. 23, 24 with the offset.

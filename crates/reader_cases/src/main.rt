@@ -19,22 +19,31 @@ ghost use Rattle.read_lookup.specs.Lookup as lookup;
 ghost use Rattle.read_path.specs.Path as following;
 ghost use Rattle.read_place.specs.Place as place;
 
-fn find(w: &[u8], first: Sector, table: Region, name: &[u8]) -> Looked
-    ensures { λ r. ⌜ lookup.told r ≡ lookup.lookupOf (was w) first table (was name) ⌝ }
+fn find(w: &[u8], first: Sector, table: Region, name: &[u8], rule: u32) -> Looked
+    ensures { λ r. ⌜ lookup.told r ≡ lookup.lookupOf rule (was w) first table (was name) ⌝ }
 {
-    Reader::new(w, first, table).look_up(name)
+    Reader::new(w, first, table).look_up(name, rule)
 }
 
-fn find_within(w: &[u8], first: Sector, table: Region, inner: Region, name: &[u8]) -> Looked
-    ensures { λ r. ⌜ lookup.told r ≡ lookup.lookupOf (was w) first inner (was name) ⌝ }
+fn find_within(
+    w: &[u8],
+    first: Sector,
+    table: Region,
+    inner: Region,
+    name: &[u8],
+    rule: u32,
+) -> Looked
+    ensures { λ r. ⌜ lookup.told r ≡ lookup.lookupOf rule (was w) first inner (was name) ⌝ }
 {
-    Reader::new(w, first, table).within(inner).look_up(name)
+    Reader::new(w, first, table)
+        .within(inner)
+        .look_up(name, rule)
 }
 
-fn find_by_path(w: &[u8], first: Sector, table: Region, path: &[u8]) -> PathFound
-    ensures { λ r. ⌜ following.told r ≡ following.pathOf (was w) first table (was path) ⌝ }
+fn find_by_path(w: &[u8], first: Sector, table: Region, path: &[u8], rule: u32) -> PathFound
+    ensures { λ r. ⌜ following.told r ≡ following.pathOf rule (was w) first table (was path) ⌝ }
 {
-    Reader::new(w, first, table).find_path(path)
+    Reader::new(w, first, table).find_path(path, rule)
 }
 
 fn entry_at(w: &[u8], first: Sector, table: Region, at: Offset) -> Read
@@ -148,6 +157,7 @@ fn show_looked(name: &[u8], a: Looked) {
             let sector = h.sector;
             show_region(sector, h.size);
         }
+        Looked::BadRule => show_refusal(29),
         Looked::BadByte => show_refusal(2),
         Looked::DirectoryEmpty => show_refusal(21),
         Looked::DoesNotExist(n) => {
@@ -168,9 +178,9 @@ fn show_stop(n: u64) {
 }
 
 // A name in the directory at an offset of a table.
-fn show_within(w: &[u8], first: Sector, table: Region, at: Offset, name: &[u8]) {
+fn show_within(w: &[u8], first: Sector, table: Region, at: Offset, name: &[u8], rule: u32) {
     match enter_at(w, first, table, at) {
-        Entered::Into(inner) => show_looked(name, find_within(w, first, table, inner, name)),
+        Entered::Into(inner) => show_looked(name, find_within(w, first, table, inner, name, rule)),
         Entered::DoesNotExist => show_stop(22),
         Entered::OutOfBounds(_) => show_stop(23),
         Entered::Truncated(_) => show_stop(24),
@@ -179,9 +189,10 @@ fn show_within(w: &[u8], first: Sector, table: Region, at: Offset, name: &[u8]) 
 }
 
 // A path of two names, as a loader goes it.
-fn show_path(w: &[u8], first: Sector, table: Region, dir: &[u8], name: &[u8]) {
-    match find(w, first, table, dir) {
-        Looked::Found(_, _, at, _) => show_within(w, first, table, at, name),
+fn show_path(w: &[u8], first: Sector, table: Region, dir: &[u8], name: &[u8], rule: u32) {
+    match find(w, first, table, dir, rule) {
+        Looked::Found(_, _, at, _) => show_within(w, first, table, at, name, rule),
+        Looked::BadRule => show_stop(29),
         Looked::BadByte => show_stop(2),
         Looked::DirectoryEmpty => show_stop(21),
         Looked::DoesNotExist(_) => show_stop(22),
@@ -200,6 +211,7 @@ fn show_found(path: &[u8], a: PathFound) {
             let sector = h.sector;
             show_region(sector, h.size);
         }
+        PathFound::BadRule => show_refusal(29),
         PathFound::BadByte => show_refusal(2),
         PathFound::DirectoryEmpty => show_refusal(21),
         PathFound::DoesNotExist => show_refusal(22),
@@ -212,6 +224,23 @@ fn show_found(path: &[u8], a: PathFound) {
     io::write_all(1, b"\n");
 }
 
+// Names and paths under the rule of a number. The rules differ in the root, left of `art` and right of `media`, and
+// in the directory `media`, right of `default.xbe`.
+fn show_rule(w: &[u8], first: Sector, root: Region, rule: u32) {
+    io::write_all(1, b"rule ");
+    io::print_decimal(1, rule as u64);
+    io::write_all(1, b"\n");
+    show_looked(b"aaa", find(w, first, root, b"aaa", rule));
+    show_looked(b"zebra", find(w, first, root, b"zebra", rule));
+    show_path(w, first, root, b"media", b"zebra", rule);
+    show_within(w, first, root, Offset::new(0), b"Default.xbe", rule);
+    show_found(
+        b"media/zebra",
+        find_by_path(w, first, root, b"media/zebra", rule),
+    );
+    show_found(b"/", find_by_path(w, first, root, b"/", rule));
+}
+
 fn show_image(w: &[u8]) {
     match layout_volume::read_descriptor(w) {
         DescriptorRead::Volume(d) => {
@@ -221,18 +250,24 @@ fn show_image(w: &[u8]) {
             show_place(w, first, root, 20);
             show_place(w, first, root, 40);
             show_place(w, first, root, 64);
-            show_looked(b"ART", find(w, first, root, b"ART"));
-            show_looked(b"aaa", find(w, first, root, b"aaa"));
-            show_looked(b"zebra", find(w, first, root, b"zebra"));
-            show_path(w, first, root, b"media", b"Default.xbe");
-            show_path(w, first, root, b"media", b"zebra");
-            show_path(w, first, root, b"art", b"zebra");
+            show_looked(b"ART", find(w, first, root, b"ART", 1));
+            show_looked(b"aaa", find(w, first, root, b"aaa", 1));
+            show_looked(b"zebra", find(w, first, root, b"zebra", 1));
+            show_path(w, first, root, b"media", b"Default.xbe", 1);
+            show_path(w, first, root, b"media", b"zebra", 1);
+            show_path(w, first, root, b"art", b"zebra", 1);
             show_found(
                 b"/Media/default.XBE",
-                find_by_path(w, first, root, b"/Media/default.XBE"),
+                find_by_path(w, first, root, b"/Media/default.XBE", 1),
             );
-            show_found(b"art/zebra", find_by_path(w, first, root, b"art/zebra"));
-            show_found(b"/", find_by_path(w, first, root, b"/"));
+            show_found(b"art/zebra", find_by_path(w, first, root, b"art/zebra", 1));
+            show_found(b"/", find_by_path(w, first, root, b"/", 1));
+            show_found(
+                b"media/zebra",
+                find_by_path(w, first, root, b"media/zebra", 1),
+            );
+            show_rule(w, first, root, 2);
+            show_rule(w, first, root, 3);
         }
         DescriptorRead::NoVolume => show_stop(20),
     }

@@ -1,6 +1,7 @@
 // The strict check: a walk that stops at the first fault. A map of units tells in one step whether an entry was
 // listed before, and in a few whether it stands on one that was. That a table passes does not say that lookup finds
-// every name that it lists: a link of 255 is no fault, and a name is compared with its parent's alone.
+// every name that it lists: a link of 255, behind which rule one finds nothing, is no fault, and a name is compared
+// with its parent's alone.
 use layout_name::Order;
 use layout_node::Header;
 use read_entry::Read;

@@ -54,9 +54,12 @@ ghost use Rattle.strict_rule.specs.Strict as checking;
 // READING. A window is a slice of image bytes and the number of the sector that it starts with; a table is its
 // region, first sector and size.
 //
-// A name that the walk lists may not be found. A link of 255 is absent for lookup and for a path, and not for the
-// walk: an entry at offset 1,020, and every entry below it, is listed and answered 22. So is an entry that stands on
-// the wrong side of one above it. The strict check finds neither a link of 255 nor every such fault of order.
+// A lookup and a path take the number of a rule, which says what links are absent: 1 is rule one, with 0 and 255, as
+// the Rust has it; 2 is rule two, with 0 and 65,535, as for the walk; any other number is 29.
+//
+// A name that the walk lists may not be found. Under rule one an entry at offset 1,020, which a link of 255 names, and
+// every entry below it, is listed and answered 22; rule two finds it. Under either rule an entry that stands on the
+// wrong side of one above it is not found. The strict check finds neither a link of 255 nor every such fault of order.
 
 // Reads the volume descriptor that the bytes start with: where the root table stands, and the stamp, of which
 // `Descriptor::read_date` says whether it is a date. 20 where a mark differs or is cut.
@@ -82,25 +85,27 @@ pub fn entry_name(w: &[u8], place: usize, n: u8) -> &[u8]
     read_entry::name_of(w, place, n)
 }
 
-// Looks a name up in a table. 2, 21, then 22 with the number of headers read, 23, 24, 25. 22 is that the chain came
-// to an absent link, 0 or 255, or to no entry: with a link of 255 an entry may have the name, and the walk lists it.
-pub fn look_up(w: &[u8], first: Sector, table: Region, name: &[u8]) -> Looked
-    ensures answer { λ r. ⌜ lookup.told r ≡ lookup.lookupOf (was w) first table (was name) ⌝ }
+// Looks a name up in a table, under a rule. 29, 2, 21, then 22 with the number of headers read, 23, 24, 25. 22 is that
+// the chain came to a link that is absent under the rule, or to no entry: where rule one came to a link of 255, an
+// entry may have the name, and the walk lists it.
+pub fn look_up(w: &[u8], first: Sector, table: Region, name: &[u8], rule: u32) -> Looked
+    ensures answer { λ r. ⌜ lookup.told r ≡ lookup.lookupOf rule (was w) first table (was name) ⌝ }
 {
-    read_lookup::look_up(w, first, table, name)
+    read_lookup::look_up(w, first, table, name, rule)
 }
 
-// Follows a path from a table. 2, 28, then for each part what its lookup gives, and 27 where a part but the last is
-// no directory. 22 is as for lookup: a part below a link of 255 is not found, though the walk lists it.
-pub fn find_path(w: &[u8], first: Sector, table: Region, path: &[u8]) -> PathFound
-    ensures answer { λ r. ⌜ following.told r ≡ following.pathOf (was w) first table (was path) ⌝ }
+// Follows a path from a table, under one rule for all its parts. 29, 2, 28, then for each part what its lookup gives,
+// and 27 where a part but the last is no directory. 22 is as for lookup: under rule one a part below a link of 255 is
+// not found, though the walk lists it.
+pub fn find_path(w: &[u8], first: Sector, table: Region, path: &[u8], rule: u32) -> PathFound
+    ensures answer { λ r. ⌜ following.told r ≡ following.pathOf rule (was w) first table (was path) ⌝ }
 {
-    read_path::find_path(w, first, table, path)
+    read_path::find_path(w, first, table, path, rule)
 }
 
 // Lists the offsets of a table's entries in preorder. 6, then 23, 24, 26 as they are met. 26 is that an entry is read
 // when the list is full: the table has more entries, or its links lead round in a ring, which fills any list. Absent
-// are the links 0 and 65,535; what stands below one of 255 is listed here and not found by lookup.
+// are the links 0 and 65,535; what stands below one of 255 is listed here, and found by lookup under rule two alone.
 pub fn walk(w: &[u8], first: Sector, table: Region, list: &mut [u32], scratch: &mut [u32]) -> Walked
     ensures answer { λ r.
         ⌜ walking.told r ≡ walking.walkAnswer (was w) first table (length (was list)) (length (was scratch)) ⌝ }
@@ -113,8 +118,8 @@ pub fn walk(w: &[u8], first: Sector, table: Region, list: &mut [u32], scratch: &
 // Checks a table by a strict rule, and lists it: the walk ends, no entry is reached twice, none overlaps another,
 // crosses a sector line or leaves the table, and a left child's name is less than its parent's, a right child's
 // greater. 6, then the first fault in walk order: 23, 24, 30, 26, 32, 31. A listed name may still not be found by
-// lookup: a link of 255 is no fault, and names are compared with the parent's alone (the root m, its left child c and
-// c's right child z pass, and no lookup finds z).
+// lookup: a link of 255, behind which rule one finds nothing, is no fault, and names are compared with the parent's
+// alone (the root m, its left child c and c's right child z pass, and no lookup finds z under either rule).
 pub fn check_table(
     w: &[u8],
     first: Sector,

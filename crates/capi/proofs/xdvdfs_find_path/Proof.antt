@@ -13,7 +13,7 @@ use Rattle.capi.proofs.xdvdfs_find_path.Tie as tie
 returns : tie.Need-returns
 returns c =
     let a = c .before .before .before .before .before .before .before .before .before .args in
-    let e = c .before .before .before .before .find-path .ensures ∙ at-table (λ (s : Sector) (t : Region). following.pathOf (a .w .now) s t (a .path .now))
+    let e = c .before .before .before .before .find-path .ensures ∙ at-table (λ (s : Sector) (t : Region). following.pathOf (a .rule) (a .w .now) s t (a .path .now))
     (c .before .before .before .before .before .before .sector-of .ensures) (c .before .before .before .before .before .region-of .ensures) in
     let s = c .store-path .ensures in
     (number-by e (s .0), (given-by placedFields _ e (s .1 .0), (given-by placedAt _ e (s .1 .1 .0), refusal-by atOffset _ e (s .1 .1 .1))))

@@ -13,7 +13,7 @@ use Rattle.capi.proofs.xdvdfs_look_up.Tie as tie
 returns : tie.Need-returns
 returns c =
     let a = c .before .before .before .before .before .before .before .before .before .before .args in
-    let e = c .before .before .before .before .before .look-up .ensures ∙ at-table (λ (s : Sector) (t : Region). lookup.lookupOf (a .w .now) s t (a .name .now))
+    let e = c .before .before .before .before .before .look-up .ensures ∙ at-table (λ (s : Sector) (t : Region). lookup.lookupOf (a .rule) (a .w .now) s t (a .name .now))
     (c .before .before .before .before .before .before .before .sector-of .ensures) (c .before .before .before .before .before .before .region-of .ensures)
     in
     let s = c .store-looked .ensures in

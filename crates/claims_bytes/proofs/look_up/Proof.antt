@@ -5,4 +5,4 @@ use Rattle.claims_bytes.proofs.look_up.Statement.{statement}
 use Rattle.claims_bytes.proofs.look_up.Tie as tie
 
 pub look-up-spec : {M : Type 1} → statement M
-look-up-spec = tie.close (tie.spec (λ c κs. search needs) (λ c κs. search needs) (λ c. search looped-exactly))
+look-up-spec = tie.close (tie.spec (λ c κs. search needs) (λ c κs. search needs) (λ c absent e. search looped-exactly))

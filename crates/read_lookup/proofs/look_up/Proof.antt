@@ -1,61 +1,28 @@
--- `read_lookup::look_up` meets its contract: a lookup in the table's own part of the window is the lookup in the window (proofs/Moved.antt). Assumes nothing.
-use Rattle.read_lookup.proofs.Moved.{part-short, place-held, found-there, bad-byte, empty-there, not-there, out-there, cut-there, looped-there}
-use mathlib.Core.Path.{refl}
-use native.Mathlib.Omega.{arith}
+-- `read_lookup::look_up` meets its contract: by the links that are absent under the rule, or 29. Assumes nothing.
+use Prim.Native.Nat.{ℕ}
+use mathlib.Core.Path.{_≡_}
+use mathlib.Core.List.{List, [], _∷_}
 use borrow.Author.Needs.{needs}
+use Rattle.units.specs.declared.Sector.{Sector}
+use Rattle.units.specs.declared.Region.{Region}
+use Rattle.read_entry.specs.Links.{absentUnder}
+use Rattle.read_lookup.specs.declared.Ruled.{Ruled}
+use Rattle.read_lookup.specs.declared.Ruled.the-variants as ruled
+use Rattle.read_lookup.specs.declared.Looked.{Looked}
+use Rattle.read_lookup.specs.declared.Looked.the-variants as looked
+use Rattle.read_lookup.specs.Lookup.{lookupBy, lookupOf, told}
+use Rattle.read_lookup.specs.inner.Lookup.{ruling}
 use Rattle.read_lookup.proofs.look_up.Statement.{statement}
 use Rattle.read_lookup.proofs.look_up.Tie as tie
 
-add-t22 : tie.Need-add-t22
-add-t22 c =
-    let k = c .before .before .before in
-    let z = place-held _ _ _ _ _ (k .before .before .before .part-of .ensures) _ _ (k .before .before .new .ensures) (k .before .new2 .ensures) _ (k .look-in .ensures) _ _ _ _ (c .before .h .given .1) in
-    omega (arith, z, k .before .before .before .before .before .before .good .0)
+module _ (w : List ℕ) (first : Sector) (t : Region) (name : List ℕ) (rule : ℕ) (n : Ruled) (named : ruling n ≡ absentUnder rule) where
+  by-links : (absent : ℕ) → n ≡ ruled.Absent absent → (r : Looked) → told r ≡ lookupBy (0 ∷ absent ∷ []) w first t name → told r ≡ lookupOf rule w first t name
+  unfolding lookupOf
+  by-links absent is r e = rw (← named, is) e
 
-returns : tie.Need-returns
-returns c =
-    let k = c .before .before .before in
-    found-there _ _ _ _ _ (k .before .before .before .part-of .ensures) _ _ (k .before .before .new .ensures) (k .before .new2 .ensures) _ (k .look-in .ensures)
-    _ refl _ _ _ _ (c .before .h .given .1) _ refl
-
-returns-2 : tie.Need-returns-2
-returns-2 c =
-    let k = c .before .before in
-    bad-byte _ _ _ _ _ (k .before .before .before .part-of .ensures) _ _ (k .before .before .new .ensures) (k .before .new2 .ensures) _ (k .look-in .ensures) _
-    refl (c .enum-told .given .1)
-
-returns-3 : tie.Need-returns-3
-returns-3 c =
-    let k = c .before .before in
-    empty-there _ _ _ _ _ (k .before .before .before .part-of .ensures) _ _ (k .before .before .new .ensures) (k .before .new2 .ensures) _ (k .look-in .ensures)
-    _ refl (c .enum-told2 .given .1)
-
-returns-4 : tie.Need-returns-4
-returns-4 c =
-    let k = c .before .before .before in
-    not-there _ _ _ _ _ (k .before .before .before .part-of .ensures) _ _ (k .before .before .new .ensures) (k .before .new2 .ensures) _ (k .look-in .ensures) _
-    refl _ (c .before .n .given .1)
-
-returns-5 : tie.Need-returns-5
-returns-5 c =
-    let k = c .before .before .before in
-    out-there _ _ _ _ _ (k .before .before .before .part-of .ensures) _ _ (k .before .before .new .ensures) (k .before .new2 .ensures) _ (k .look-in .ensures) _
-    refl _ (c .before .o .given .1)
-
-returns-6 : tie.Need-returns-6
-returns-6 c =
-    let k = c .before .before .before in
-    cut-there _ _ _ _ _ (k .before .before .before .part-of .ensures) _ _ (k .before .before .new .ensures) (k .before .new2 .ensures) _ (k .look-in .ensures) _
-    refl _ (c .before .o2 .given .1)
-
-returns-7 : tie.Need-returns-7
-returns-7 c =
-    let k = c .before .before in
-    looped-there _ _ _ _ _ (k .before .before .before .part-of .ensures) _ _ (k .before .before .new .ensures) (k .before .new2 .ensures) _
-    (k .look-in .ensures) _ refl (c .enum-told3 .given .1)
+  no-rule : n ≡ ruled.BadRule → told looked.BadRule ≡ lookupOf rule w first t name
+  unfolding lookupOf
+  no-rule is = rw (← named, is)
 
 pub look-up-spec : {M : Type 1} → statement M
-look-up-spec = tie.close (tie.spec (λ c κs. search needs) (λ c. search part-short) (λ c κs. search needs)
-    (λ c κs. search needs) (λ c κs. search needs) (λ c. search needs) add-t22 (λ c. search needs) (λ c. search needs)
-    (λ c. search needs) (λ c. search needs) (λ c. search needs) (λ c. search needs) returns returns-2 returns-3
-    returns-4 returns-5 returns-6 returns-7)
+look-up-spec = tie.close (tie.spec (λ c κs. search needs) (λ c. search needs) (λ c κs. search needs) (λ c. search needs) (λ c. search by-links) (λ c. search no-rule))

@@ -1,45 +1,28 @@
--- `read_path::find_path` meets its contract. The loop's invariant: what is to be answered is the answer of the parts from i on, in the table t.
--- Assumes nothing.
-use Prim.Native.Nat.{ℕ, _-_, _≤_}
+-- `read_path::find_path` meets its contract: by the links that are absent under the rule, or 29. Assumes nothing.
+use Prim.Native.Nat.{ℕ}
 use mathlib.Core.Path.{_≡_}
-use mathlib.Core.Bool.{Bool, true, false}
-use mathlib.Core.List.{List}
+use mathlib.Core.List.{List, [], _∷_}
 use borrow.Author.Needs.{needs}
-use lib.ListN.{length, drop}
 use Rattle.units.specs.declared.Sector.{Sector}
 use Rattle.units.specs.declared.Region.{Region}
-use Rattle.name_role.specs.Roles.{badSought}
-use Rattle.read_entry.specs.Links.{lookupAbsent}
+use Rattle.read_entry.specs.Links.{absentUnder}
+use Rattle.read_lookup.specs.declared.Ruled.{Ruled}
+use Rattle.read_lookup.specs.declared.Ruled.the-variants as ruled
+use Rattle.read_path.specs.declared.PathFound.{PathFound}
 use Rattle.read_path.specs.declared.PathFound.the-variants as path-found
-use Rattle.read_path.specs.Path.{trim, split, unended, partsFrom, pathBy, pathOf, told}
-use Rattle.read_path.proofs.Parts.{at-end, last, into, stop}
+use Rattle.read_path.specs.Path.{pathBy, pathOf, told}
+use Rattle.read_lookup.specs.inner.Lookup.{ruling}
 use Rattle.read_path.proofs.find_path.Statement.{statement}
 use Rattle.read_path.proofs.find_path.Tie as tie
 
-abbrev Inv-loop : tie.InvT-loop
-Inv-loop w first path t₀ i₀ t i = (i ≤ length path) × (pathOf w first t₀ path ≡ partsFrom lookupAbsent w first t (unended (split (drop i path))))
+module _ (w : List ℕ) (first : Sector) (t : Region) (path : List ℕ) (rule : ℕ) (n : Ruled) (named : ruling n ≡ absentUnder rule) where
+  by-links : (absent : ℕ) → n ≡ ruled.Absent absent → (r : PathFound) → told r ≡ pathBy (0 ∷ absent ∷ []) w first t path → told r ≡ pathOf rule w first t path
+  unfolding pathOf
+  by-links absent is r e = rw (← named, is) e
 
-abbrev μ-loop : tie.MeasureT-loop
-μ-loop w first path t₀ i₀ t i = length path - i
-
--- before the loop
-module _ (w : List ℕ) (first : Sector) (t : Region) (path : List ℕ) (b : Bool) (high : b ≡ badSought path) where
-  bad : b ≡ true → told path-found.BadByte ≡ pathOf w first t path
-  unfolding pathBy
-  bad e = rw (← high, e)
-
-  begins : b ≡ false → (r : ℕ) → (r ≤ length path) × (drop r path ≡ trim path) → pathOf w first t path ≡ partsFrom lookupAbsent w first t (unended (split (drop r path)))
-  unfolding pathBy
-  begins e r d = rw (← high, e, d .1)
-
-loop-holds : tie.Need-loop-holds Inv-loop μ-loop
-loop-holds c = (search needs, search begins)
-
-loop-again : tie.Need-loop-again Inv-loop μ-loop
-loop-again c = (search needs, search into)
+  no-rule : n ≡ ruled.BadRule → told path-found.BadRule ≡ pathOf rule w first t path
+  unfolding pathOf
+  no-rule is = rw (← named, is)
 
 pub find-path-spec : {M : Type 1} → statement M
-find-path-spec = tie.close (tie.spec Inv-loop μ-loop (λ c κs. search needs) (λ c. search bad) (λ c κs. search needs)
-    loop-holds (λ c κs. search needs) (λ c. search needs) (λ c. search needs) (λ c. search needs) (λ c κs. search needs)
-    (λ c. search needs) (λ c κs. search needs) (λ c. search last) (λ c κs. search needs) (λ c. search needs)
-    (λ c. search needs) (λ c. search stop) (λ c. search needs) (λ c. search needs) loop-again (λ c. search at-end))
+find-path-spec = tie.close (tie.spec (λ c κs. search needs) (λ c. search needs) (λ c κs. search needs) (λ c. search needs) (λ c. search by-links) (λ c. search no-rule))

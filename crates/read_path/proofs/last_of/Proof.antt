@@ -24,5 +24,6 @@ module _ (a : Looked) where
 
 pub last-of-spec : {M : Type 1} → statement M
 last-of-spec = tie.close (tie.spec (λ c. search needs) (λ c. search needs) (λ c. search needs) (λ c. search needs)
-    (λ c. search needs) (λ c. search needs) (λ c. search needs) (λ c. search entry) (λ c. search needs)
+    (λ c. search needs) (λ c. search needs) (λ c. search needs) (λ c. search needs) (λ c. search entry)
+    (λ c. search needs) (λ c. search needs)
     (λ c. search needs) (λ c. search needs) (λ c. search outside) (λ c. search truncated) (λ c. search needs))

@@ -24,6 +24,9 @@ module _ (a : Looked) where
     file : b ≡ false → turning (turn.Stop path-found.IsNotDirectory) ≡ turnOf (lookup.told a)
     file e = rw (is, ← kind, e)
 
+  bad-rule : a ≡ looked.BadRule → turning (turn.Stop path-found.BadRule) ≡ turnOf (lookup.told a)
+  bad-rule e = rw e
+
   bad : a ≡ looked.BadByte → turning (turn.Stop path-found.BadByte) ≡ turnOf (lookup.told a)
   bad e = rw e
 
@@ -45,5 +48,5 @@ module _ (a : Looked) where
 pub turn-of-spec : {M : Type 1} → statement M
 turn-of-spec = tie.close (tie.spec (λ c. search needs) (λ c κs. search needs) (λ c. search into) (λ c. search needs)
     (λ c. search needs) (λ c. search needs) (λ c. search needs) (λ c. search needs) (λ c. search needs)
-    (λ c. search file) (λ c. search bad) (λ c. search empty) (λ c. search missing) (λ c. search outside)
+    (λ c. search needs) (λ c. search file) (λ c. search bad-rule) (λ c. search bad) (λ c. search empty) (λ c. search missing) (λ c. search outside)
     (λ c. search truncated) (λ c. search looping))
