@@ -27,15 +27,24 @@
  * the window starts. An offset is a byte offset in a table, a place is an index into the window. A stamp says when a
  * volume was made: it counts 100 ns since the start of 1601, UTC, and 0 is no date.
  *
- * A NAME THAT IS LISTED MAY NOT BE FOUND. The two readers of a table take different links for absent: xdvdfs_walk 0 and
- * 65,535, xdvdfs_look_up and xdvdfs_find_path 0 and 255. An entry at offset 1,020, which a link of 255 names, and every
- * entry below it, is listed by xdvdfs_walk and is XDVDFS_DOES_NOT_EXIST to the other two. Tables that this library
- * writes can have such an entry; so can those of the tool that it agrees with. The second cause is the order of names:
- * a lookup goes left or right by each name that it meets, so an entry that stands on the wrong side of one above it is
- * not found either; only a table that was not written in order has such an entry. xdvdfs_check_table finds neither a
- * link of 255 nor every fault of order. Who must not take "does not exist" for an answer about a file that is there
- * lists the table and compares the names. (The other way round: a lookup follows a link of 65,535, which a walk does
- * not. No table that this library writes has one.)
+ * RULES. xdvdfs_look_up and xdvdfs_find_path take the number of a rule, which says what links they take for absent:
+ *   - XDVDFS_RULE_TWO: 0 and 65,535, as xdvdfs_walk does. A new loader takes this one: in a table that this library
+ *     wrote it finds every entry by its name, and in an image that this library planned every file by its path;
+ *   - XDVDFS_RULE_ONE: 0 and 255, as the boards in the field do, and the tool that this library agrees with. It is for
+ *     what has to answer as they do, and does not find what stands below a link of 255.
+ * What rule one finds in a table that this library wrote, rule two finds too, at the same offset and after as many
+ * headers. Any other number is XDVDFS_BAD_RULE, before all else that a call refuses.
+ *
+ * A NAME THAT IS LISTED MAY NOT BE FOUND. Under rule one an entry at offset 1,020, which a link of 255 names, and every
+ * entry below it, is listed by xdvdfs_walk and is XDVDFS_DOES_NOT_EXIST to xdvdfs_look_up and xdvdfs_find_path. Tables
+ * that this library writes can have such an entry; so can those of the tool that it agrees with. Under rule two a link
+ * of 255 is followed. The second cause is there under both rules: a lookup goes left or right by each name that it
+ * meets, so an entry that stands on the wrong side of one above it, or below one of the same name, is not found; only a
+ * table that was not written in order has such an entry. (Nor is a stored name that has a byte above 127: it cannot be
+ * sought, XDVDFS_BAD_BYTE.) xdvdfs_check_table finds neither a link of 255 nor every fault of order. Who must not take
+ * "does not exist" for an answer about a file that is there takes rule two, and of a table that this library did not
+ * write lists the entries and compares the names. (The other way round: under rule one a lookup follows a link of
+ * 65,535, which neither rule two nor a walk does. No table that this library writes has one.)
  *
  * STACK. xdvdfs_check_table takes 65 KiB of stack, xdvdfs_add and xdvdfs_serialise at most 10 KiB, every other call
  * less than 2 KiB. (Read off the object code and measured; no theorem speaks of the stack.)
@@ -51,9 +60,10 @@ extern "C" {
 #endif
 
 /* The version of this interface: as text, and as 10,000 for the first of its numbers, 100 for the second, 1 for the
- * third. */
-#define XDVDFS_VERSION "0.2.0"
-#define XDVDFS_VERSION_NUMBER 200
+ * third. Where one of the first two is another, functions may have other parameters under the same names: a program is
+ * compiled with the header of the library that it is linked with. */
+#define XDVDFS_VERSION "0.3.0"
+#define XDVDFS_VERSION_NUMBER 300
 
 /* What a call returns. */
 enum xdvdfs_number {
@@ -77,8 +87,8 @@ enum xdvdfs_number {
     /* reading */
     XDVDFS_NO_VOLUME = 20,                 /* no descriptor: a mark differs or is cut */
     XDVDFS_DIRECTORY_EMPTY = 21,           /* a lookup in a table of size 0 */
-    XDVDFS_DOES_NOT_EXIST = 22,            /* the lookup came to a link that it takes for absent, 0 or 255, or to no
-                                              entry; where the link was 255 an entry below it may have the name */
+    XDVDFS_DOES_NOT_EXIST = 22,            /* the lookup came to a link that its rule takes for absent, or to no entry;
+                                              where that was 255, under rule one, an entry below it may have the name */
     XDVDFS_OUT_OF_BOUNDS = 23,             /* an offset is not below the table's size */
     XDVDFS_TRUNCATED = 24,                 /* an entry's header or name is not in the window */
     XDVDFS_LOOPED = 25,                    /* the entries' links lead a lookup round for ever */
@@ -86,6 +96,7 @@ enum xdvdfs_number {
                                               links lead a walk round for ever and no list would do */
     XDVDFS_IS_NOT_DIRECTORY = 27,          /* a part of the path, not its last, is a file */
     XDVDFS_NO_DIRENT = 28,                 /* the path has no part */
+    XDVDFS_BAD_RULE = 29,                  /* the rule of a lookup or of a path is neither 1 nor 2 */
     /* the strict check */
     XDVDFS_SHARED = 30,                    /* an entry is reached twice */
     XDVDFS_OUT_OF_ORDER = 31,              /* a left child's name is not less than its parent's, or a right child's not
@@ -130,7 +141,8 @@ static inline const char *xdvdfs_text(uint32_t number)
     case XDVDFS_DIRECTORY_EMPTY:
         return "the directory is empty: its table has size 0";
     case XDVDFS_DOES_NOT_EXIST:
-        return "the name was not found; what stands below a link of 255 is not found either, though a walk lists it";
+        return "the name was not found; under rule one what stands below a link of 255 is not found, "
+               "though a walk lists it";
     case XDVDFS_OUT_OF_BOUNDS:
         return "an offset is not below the table's size";
     case XDVDFS_TRUNCATED:
@@ -144,6 +156,8 @@ static inline const char *xdvdfs_text(uint32_t number)
         return "a part of the path, not its last, is no directory";
     case XDVDFS_NO_DIRENT:
         return "the path has no part";
+    case XDVDFS_BAD_RULE:
+        return "the rule is neither 1 nor 2";
     case XDVDFS_SHARED:
         return "an entry is reached twice";
     case XDVDFS_OUT_OF_ORDER:
@@ -162,6 +176,8 @@ static inline const char *xdvdfs_text(uint32_t number)
 #define XDVDFS_KIND_DIRECTORY 1u
 #define XDVDFS_NO_NODE 65535u         /* the root of an arena that holds nothing; its count is 0 */
 #define XDVDFS_NO_DATE 0u             /* the stamp of a volume without a date */
+#define XDVDFS_RULE_ONE 1u            /* a lookup as the boards in the field do it: links 0 and 255 are absent */
+#define XDVDFS_RULE_TWO 2u            /* a lookup for a new loader: links 0 and 65,535 are absent, as in a walk */
 
 /*
  * The header of an entry. Links are in units of four bytes. A directory is an entry with the attribute bit
@@ -336,19 +352,21 @@ void xdvdfs_entry_name(
     size_t *len);   /* [out] */
 
 /*
- * Looks a name up in a table; a to z count as A to Z.
+ * Looks a name up in a table; a to z count as A to Z. `rule` is XDVDFS_RULE_ONE or XDVDFS_RULE_TWO: see RULES, above.
  * 0: *fields and *place as xdvdfs_read_entry has them, *offset is the entry's in the table, *headers the number of
- * entry headers read. XDVDFS_BAD_BYTE, XDVDFS_DIRECTORY_EMPTY; XDVDFS_DOES_NOT_EXIST: *headers is the number of headers
- * read; XDVDFS_OUT_OF_BOUNDS, XDVDFS_TRUNCATED: *offset is the one that was to be read; XDVDFS_LOOPED.
+ * entry headers read. XDVDFS_BAD_RULE, XDVDFS_BAD_BYTE, XDVDFS_DIRECTORY_EMPTY; XDVDFS_DOES_NOT_EXIST: *headers is the
+ * number of headers read; XDVDFS_OUT_OF_BOUNDS, XDVDFS_TRUNCATED: *offset is the one that was to be read;
+ * XDVDFS_LOOPED.
  *
- * XDVDFS_DOES_NOT_EXIST does not say that no entry has the name: it says that the lookup came to an absent link, or to
- * no entry. A link of 255 counts as absent here and not for xdvdfs_walk, which lists what stands below it; see A NAME
- * THAT IS LISTED MAY NOT BE FOUND, above.
+ * XDVDFS_DOES_NOT_EXIST does not say that no entry has the name: it says that the lookup came to a link that the rule
+ * takes for absent, or to no entry. Under rule one a link of 255 is such a link; xdvdfs_walk lists what stands below
+ * it, and rule two follows it. See A NAME THAT IS LISTED MAY NOT BE FOUND, above.
  */
 uint32_t xdvdfs_look_up(
     const uint8_t *w, size_t w_len, uint32_t first,
     uint32_t sector, uint32_t size,
     const uint8_t *name, size_t name_len,
+    uint32_t rule,
     struct xdvdfs_fields *fields,  /* [out] */
     size_t *place,                 /* [out] */
     uint32_t *offset,              /* [out] */
@@ -356,18 +374,19 @@ uint32_t xdvdfs_look_up(
 
 /*
  * Follows a path from a table, through directories whose tables are in the window too. Leading slashes and one trailing
- * slash do not count.
- * 0: *fields and *place of the entry. XDVDFS_BAD_BYTE, XDVDFS_NO_DIRENT; then of each part XDVDFS_DIRECTORY_EMPTY,
- * XDVDFS_DOES_NOT_EXIST, XDVDFS_LOOPED, and XDVDFS_OUT_OF_BOUNDS, XDVDFS_TRUNCATED with *offset, the one that was to be
- * read in that part's table; XDVDFS_IS_NOT_DIRECTORY.
+ * slash do not count. `rule` is XDVDFS_RULE_ONE or XDVDFS_RULE_TWO, and that of every part: see RULES, above.
+ * 0: *fields and *place of the entry. XDVDFS_BAD_RULE, XDVDFS_BAD_BYTE, XDVDFS_NO_DIRENT; then of each part
+ * XDVDFS_DIRECTORY_EMPTY, XDVDFS_DOES_NOT_EXIST, XDVDFS_LOOPED, and XDVDFS_OUT_OF_BOUNDS, XDVDFS_TRUNCATED with
+ * *offset, the one that was to be read in that part's table; XDVDFS_IS_NOT_DIRECTORY.
  *
- * Each part is looked up as xdvdfs_look_up does it: XDVDFS_DOES_NOT_EXIST does not say that there is no such file. A
- * part that stands below a link of 255 in its table is not found, though xdvdfs_walk lists it.
+ * Each part is looked up as xdvdfs_look_up does it: XDVDFS_DOES_NOT_EXIST does not say that there is no such file.
+ * Under rule one a part that stands below a link of 255 in its table is not found, though xdvdfs_walk lists it.
  */
 uint32_t xdvdfs_find_path(
     const uint8_t *w, size_t w_len, uint32_t first,
     uint32_t sector, uint32_t size,
     const uint8_t *path, size_t path_len,
+    uint32_t rule,
     struct xdvdfs_fields *fields,  /* [out] */
     size_t *place,                 /* [out] */
     uint32_t *offset);             /* [out] */
@@ -381,8 +400,8 @@ uint32_t xdvdfs_find_path(
  * has more, or that its links lead round in a ring, which fills a list of any length.
  * The scratch is all zero afterwards, but after XDVDFS_ROOM.
  *
- * Links of 0 and 65,535 are absent here, one of 255 is not: what stands below it is listed, and XDVDFS_DOES_NOT_EXIST
- * to xdvdfs_look_up and xdvdfs_find_path.
+ * Links of 0 and 65,535 are absent here, as under rule two of xdvdfs_look_up and xdvdfs_find_path. One of 255 is not:
+ * what stands below it is listed, and under rule one XDVDFS_DOES_NOT_EXIST to those two.
  */
 uint32_t xdvdfs_walk(
     const uint8_t *w, size_t w_len, uint32_t first,
@@ -400,8 +419,9 @@ uint32_t xdvdfs_walk(
  * fault, and list is all zero. A ring is XDVDFS_SHARED, unless another fault or the end of the list comes before the
  * second visit.
  *
- * The rule does not say that every listed name is found: links of 255 are no fault, and names are compared with the
- * parent's alone (the root m, its left child c and c's right child z are accepted, and no lookup finds z).
+ * The strict rule does not say that every listed name is found: links of 255 are no fault, and hide names under rule
+ * one of a lookup; and names are compared with the parent's alone (the root m, its left child c and c's right child z
+ * are accepted, and no lookup finds z, under either rule).
  */
 uint32_t xdvdfs_check_table(
     const uint8_t *w, size_t w_len, uint32_t first,

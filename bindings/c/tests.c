@@ -1,6 +1,6 @@
 /*
- * tests: what include/xdvdfs.h says of empty slices, of names that are listed and not found, of rings, of shares that overlap, of a kind that is neither 0 nor 1, of the
- * bytes of a descriptor, of dates and of the numbers' texts.
+ * tests: what include/xdvdfs.h says of empty slices, of names that are listed and not found under the two rules, of numbers that are no rule's, of rings, of shares that
+ * overlap, of a kind that is neither 0 nor 1, of the bytes of a descriptor, of dates and of the numbers' texts.
  * For every slice of every function a call is made in which that slice is NULL with length 0 and the others are there, and one in which all are; each number, each [out] cell and all
  * lent memory are compared with what the header says. bin/test-bindings builds and runs it. It prints each difference; its last line counts.
  */
@@ -57,7 +57,7 @@ static const uint8_t abc[48] = {4, 0, 8, 0, 34, 0, 0, 0, 1, 0, 0, 0, 32, 1, 'b',
 static void reading(void)
 {
     struct xdvdfs_fields fields;
-    uint32_t sector = UNTOUCHED, size = UNTOUCHED, found, offset, headers;
+    uint32_t sector = UNTOUCHED, size = UNTOUCHED, found, offset, headers, rule;
     uint64_t stamp = UNTOUCHED;
     size_t place, start, len;
     int missing = 0;
@@ -81,26 +81,27 @@ static void reading(void)
     EXPECT("entry_name: start", start, 0);
     EXPECT("entry_name: len", len, 0);
 
-    for (missing = ALL; missing <= 1; missing++) { /* 0 is the window, 1 the name */
-        uint32_t number;
-        offset = headers = UNTOUCHED;
-        EXPECT("look_up of size 0", xdvdfs_look_up(SLICE(0, abc, 48), 0, 0, 0, SLICE(1, (const uint8_t *)"a", 1), &fields, &place, &offset, &headers),
-               XDVDFS_DIRECTORY_EMPTY);
-        number = xdvdfs_look_up(SLICE(0, abc, 48), 0, 0, 48, SLICE(1, (const uint8_t *)"a", 1), &fields, &place, &offset, &headers);
-        if (EMPTY(0)) {
-            EXPECT("look_up", number, XDVDFS_TRUNCATED);
-            EXPECT("look_up: offset", offset, 0);
-            EXPECT("look_up: headers", headers, UNTOUCHED);
-        } else { /* the name without bytes is less than every other: b, a, and no link */
-            EXPECT("look_up", number, XDVDFS_DOES_NOT_EXIST);
-            EXPECT("look_up: offset", offset, UNTOUCHED);
-            EXPECT("look_up: headers", headers, 2);
+    for (rule = XDVDFS_RULE_ONE; rule <= XDVDFS_RULE_TWO; rule++)
+        for (missing = ALL; missing <= 1; missing++) { /* 0 is the window, 1 the name */
+            uint32_t number;
+            offset = headers = UNTOUCHED;
+            EXPECT("look_up of size 0", xdvdfs_look_up(SLICE(0, abc, 48), 0, 0, 0, SLICE(1, (const uint8_t *)"a", 1), rule, &fields, &place, &offset, &headers),
+                   XDVDFS_DIRECTORY_EMPTY);
+            number = xdvdfs_look_up(SLICE(0, abc, 48), 0, 0, 48, SLICE(1, (const uint8_t *)"a", 1), rule, &fields, &place, &offset, &headers);
+            if (EMPTY(0)) {
+                EXPECT("look_up", number, XDVDFS_TRUNCATED);
+                EXPECT("look_up: offset", offset, 0);
+                EXPECT("look_up: headers", headers, UNTOUCHED);
+            } else { /* the name without bytes is less than every other: b, a, and no link */
+                EXPECT("look_up", number, XDVDFS_DOES_NOT_EXIST);
+                EXPECT("look_up: offset", offset, UNTOUCHED);
+                EXPECT("look_up: headers", headers, 2);
+            }
+            offset = UNTOUCHED;
+            number = xdvdfs_find_path(SLICE(0, abc, 48), 0, 0, 48, SLICE(1, (const uint8_t *)"a", 1), rule, &fields, &place, &offset);
+            EXPECT("find_path", number, EMPTY(1) ? XDVDFS_NO_DIRENT : XDVDFS_TRUNCATED);
+            EXPECT("find_path: offset", offset, EMPTY(1) ? UNTOUCHED : 0);
         }
-        offset = UNTOUCHED;
-        number = xdvdfs_find_path(SLICE(0, abc, 48), 0, 0, 48, SLICE(1, (const uint8_t *)"a", 1), &fields, &place, &offset);
-        EXPECT("find_path", number, EMPTY(1) ? XDVDFS_NO_DIRENT : XDVDFS_TRUNCATED);
-        EXPECT("find_path: offset", offset, EMPTY(1) ? UNTOUCHED : 0);
-    }
     missing = NONE;
     EXPECT("look_up: fields after refusals", same_bytes(&fields, sizeof fields, 0x4d), 1);
     EXPECT("look_up: place after refusals", place, UNTOUCHED);
@@ -389,7 +390,48 @@ static void shares(void)
     EXPECT("plan with an entry in no share: next_free", next_free, 36);
 }
 
-/* Names that are listed and not found, in tables that the strict check accepts */
+/* Looks a name up, and follows the same as a path: both numbers are `number`, and the cells are as it says; `at` and `headers` are the values of XDVDFS_DONE, and of
+ * XDVDFS_DOES_NOT_EXIST there are the headers alone. */
+static void sought(int line, const uint8_t *table, size_t size, const char *name, uint32_t rule, uint32_t number, uint32_t at, uint32_t headers)
+{
+    struct xdvdfs_fields fields;
+    uint32_t offset = UNTOUCHED, read = UNTOUCHED;
+    size_t place = UNTOUCHED, name_len = strlen(name);
+    int missing = NONE, is_found = number == XDVDFS_DONE, has_headers = is_found || number == XDVDFS_DOES_NOT_EXIST;
+    FILL(fields);
+    expect(line, "look_up", missing, xdvdfs_look_up(table, size, 0, 0, (uint32_t)size, (const uint8_t *)name, name_len, rule, &fields, &place, &offset, &read), number);
+    expect(line, "look_up: fields", missing, same_bytes(&fields, sizeof fields, 0x4d), !is_found);
+    expect(line, "look_up: place", missing, place, is_found ? at : UNTOUCHED);
+    expect(line, "look_up: offset", missing, offset, is_found ? at : UNTOUCHED);
+    expect(line, "look_up: headers", missing, read, has_headers ? headers : UNTOUCHED);
+    FILL(fields);
+    place = offset = UNTOUCHED;
+    expect(line, "find_path", missing, xdvdfs_find_path(table, size, 0, 0, (uint32_t)size, (const uint8_t *)name, name_len, rule, &fields, &place, &offset), number);
+    expect(line, "find_path: fields", missing, same_bytes(&fields, sizeof fields, 0x4d), !is_found);
+    expect(line, "find_path: place", missing, place, is_found ? at : UNTOUCHED);
+    expect(line, "find_path: offset", missing, offset, UNTOUCHED);
+}
+
+/* A number that is no rule's comes before all else that a lookup or a path refuses */
+static void no_rule(void)
+{
+    static const uint32_t none[] = {0, 3, 255, 65535, UINT32_MAX};
+    size_t i;
+    for (i = 0; i < sizeof none / sizeof *none; i++) {
+        sought(__LINE__, abc, 48, "a", none[i], XDVDFS_BAD_RULE, 0, 0);
+        sought(__LINE__, abc, 48, "\x80", none[i], XDVDFS_BAD_RULE, 0, 0); /* with a rule, 2 */
+        sought(__LINE__, abc, 48, "", none[i], XDVDFS_BAD_RULE, 0, 0);     /* a path without a part: 28 */
+        sought(__LINE__, abc, 0, "a", none[i], XDVDFS_BAD_RULE, 0, 0);     /* a table of size 0: 21 */
+        sought(__LINE__, NULL, 0, "a", none[i], XDVDFS_BAD_RULE, 0, 0);
+    }
+    for (i = XDVDFS_RULE_ONE; i <= XDVDFS_RULE_TWO; i++) {
+        sought(__LINE__, abc, 48, "a", (uint32_t)i, XDVDFS_DONE, 16, 2);
+        sought(__LINE__, abc, 48, "d", (uint32_t)i, XDVDFS_DOES_NOT_EXIST, 0, 2);
+        sought(__LINE__, abc, 48, "\x80", (uint32_t)i, XDVDFS_BAD_BYTE, 0, 0);
+    }
+}
+
+/* Names that are listed and not found, in tables that the strict check accepts: under either rule what is misfiled, under rule one what stands below a link of 255 */
 static void hidden(void)
 {
     /* m, its left child c, and c's right child z */
@@ -397,10 +439,11 @@ static void hidden(void)
                                     1, 0, 0, 0, 32, 1, 'c', 255, 0, 0, 0, 0, 36, 0, 0, 0, 1, 0, 0, 0, 32, 1, 'z', 255};
     /* m, and at 1,020 its right child z: the link is 255 */
     static uint8_t far_child[1036];
-    uint32_t list[4], scratch[5], offset = UNTOUCHED, headers = UNTOUCHED;
+    /* m, and at 262,140 its right child z: the link is 65,535, which rule one alone follows */
+    static uint8_t farthest_child[262156];
+    uint32_t list[4], scratch[5], offset = UNTOUCHED;
     uint64_t wide[5];
-    struct xdvdfs_fields fields;
-    size_t count = UNTOUCHED, place;
+    size_t count = UNTOUCHED;
     int missing = NONE;
     memset(far_child, 0xff, sizeof far_child);
     memcpy(far_child, mcz, 16);
@@ -408,15 +451,24 @@ static void hidden(void)
     far_child[0] = 0;
     far_child[2] = 255;
     far_child[3] = 0;
+    memset(farthest_child, 0xff, sizeof farthest_child);
+    memcpy(farthest_child, far_child, 16);
+    memcpy(farthest_child + 262140, mcz + 32, 16);
+    farthest_child[3] = 255;
     EXPECT("check m c z", xdvdfs_check_table(mcz, 48, 0, 0, 48, list, 4, wide, 5, &count, &offset), XDVDFS_DONE);
     EXPECT("check m c z: count", count, 3);
-    EXPECT("look z up", xdvdfs_look_up(mcz, 48, 0, 0, 48, (const uint8_t *)"z", 1, &fields, &place, &offset, &headers), XDVDFS_DOES_NOT_EXIST);
+    sought(__LINE__, mcz, 48, "z", XDVDFS_RULE_ONE, XDVDFS_DOES_NOT_EXIST, 0, 1);
+    sought(__LINE__, mcz, 48, "z", XDVDFS_RULE_TWO, XDVDFS_DOES_NOT_EXIST, 0, 1);
     EXPECT("check m z", xdvdfs_check_table(far_child, 1036, 0, 0, 1036, list, 4, wide, 5, &count, &offset), XDVDFS_DONE);
     EXPECT("check m z: listed", count == 2 && list[1] == 1020, 1);
     EXPECT("walk m z", xdvdfs_walk(far_child, 1036, 0, 0, 1036, list, 4, scratch, 5, &count, &offset), XDVDFS_DONE);
     EXPECT("walk m z: listed", count == 2 && list[1] == 1020, 1);
-    EXPECT("look z up at 1,020", xdvdfs_look_up(far_child, 1036, 0, 0, 1036, (const uint8_t *)"z", 1, &fields, &place, &offset, &headers), XDVDFS_DOES_NOT_EXIST);
-    EXPECT("find z at 1,020", xdvdfs_find_path(far_child, 1036, 0, 0, 1036, (const uint8_t *)"/z", 2, &fields, &place, &offset), XDVDFS_DOES_NOT_EXIST);
+    sought(__LINE__, far_child, 1036, "z", XDVDFS_RULE_ONE, XDVDFS_DOES_NOT_EXIST, 0, 1);
+    sought(__LINE__, far_child, 1036, "Z", XDVDFS_RULE_TWO, XDVDFS_DONE, 1020, 2);
+    EXPECT("walk m z at 262,140", xdvdfs_walk(farthest_child, 262156, 0, 0, 262156, list, 4, scratch, 5, &count, &offset), XDVDFS_DONE);
+    EXPECT("walk m z at 262,140: listed", count == 1 && list[0] == 0, 1);
+    sought(__LINE__, farthest_child, 262156, "z", XDVDFS_RULE_ONE, XDVDFS_DONE, 262140, 2);
+    sought(__LINE__, farthest_child, 262156, "z", XDVDFS_RULE_TWO, XDVDFS_DOES_NOT_EXIST, 0, 1);
 }
 
 /* A ring of two entries: the list is full however long it is */
@@ -581,7 +633,7 @@ static void others(void)
 
 static void texts(void)
 {
-    static const uint32_t known[] = {0, 1, 2, 3, 4, 5, 6, 7, 8, 9, 10, 11, 12, 20, 21, 22, 23, 24, 25, 26, 27, 28, 30, 31, 32};
+    static const uint32_t known[] = {0, 1, 2, 3, 4, 5, 6, 7, 8, 9, 10, 11, 12, 20, 21, 22, 23, 24, 25, 26, 27, 28, 29, 30, 31, 32};
     enum { KNOWN = sizeof known / sizeof *known };
     const char *other = xdvdfs_text(UINT32_MAX);
     int missing = NONE;
@@ -612,6 +664,7 @@ int main(void)
     listing();
     planning();
     shares();
+    no_rule();
     hidden();
     ringed();
     descriptors();

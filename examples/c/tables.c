@@ -69,12 +69,13 @@ static void list(struct window w, struct table t)
     printf("entries %lu\n", (unsigned long)count);
 }
 
+/* Under rule two, as a new loader looks up. */
 static void find(struct window w, struct table t, const char *path)
 {
     struct xdvdfs_fields fields;
     size_t place = 0;
     uint32_t offset = 0;
-    uint32_t number = xdvdfs_find_path(w.bytes, w.len, w.first, t.sector, t.size, (const uint8_t *)path, strlen(path), &fields, &place, &offset);
+    uint32_t number = xdvdfs_find_path(w.bytes, w.len, w.first, t.sector, t.size, (const uint8_t *)path, strlen(path), XDVDFS_RULE_TWO, &fields, &place, &offset);
     printf("%s: ", path);
     if (number == XDVDFS_DONE)
         show(w, fields, place);

@@ -2,6 +2,7 @@
 use clap::{Args, Parser, Subcommand};
 use std::ffi::OsString;
 use std::path::PathBuf;
+use xdvdfs_tables::Rule;
 
 const AFTER: &str = "\
 Examples:
@@ -16,13 +17,21 @@ The game partition is sought at the bytes 0, 0x18300000 (XGD1), 0x0fd90000
 has a volume descriptor at its sector 32. Sectors have 2048 bytes and are
 counted from the start of the partition.
 
+A name is looked up under one of two rules. Rule one (--rule 1, or no --rule) is
+that of the boards in the field: links of 0 and 255 are absent to it, so it does
+not find what stands below a link of 255, though ls lists it. Rule two (--rule
+2) is that of newer loaders: links of 0 and 65535 are absent to it, as they are
+to ls. What rule two finds and rule one does not is refused under rule one all
+the same, and a second line on standard error says where it is.
+
 Names are bytes. As text a backslash is doubled, and a byte that cannot be
 printed is \\xNN. In JSON a name is there twice: name is a string, or null where
 the bytes are not UTF-8, and name_hex is the bytes; so with path and path_hex.
 
 A refusal goes to standard error, in words and with its number. With --json
 there is an object on standard output too, {command, refused: {number, message,
-offset, headers}}; what does not apply is null.
+offset, headers, rule_two}}; what does not apply is null. rule_two is what rule
+two finds and rule one does not: {path, path_hex, table: {sector, size}, entry}.
 
 Exit status: 0 done; 1 refused, or check found a fault; 2 wrong usage.
 Each command says more with --help.";
@@ -70,9 +79,17 @@ pub struct ImageArguments {
     pub offset: Option<u64>,
 }
 
+#[derive(Debug, Args)]
+pub struct RuleArguments {
+    /// The rule under which names are looked up
+    #[arg(long, value_name = "1|2", value_parser = rule, default_value = "1")]
+    pub rule: Rule,
+}
+
 const LS: &str = "\
 The entries come in the order of the table's tree. A directory's name ends with
-a slash. An empty directory prints nothing.
+a slash. An empty directory prints nothing. The rule is for the path: under rule
+one a directory that stands below a link of 255 is not found.
 
 Examples:
   xdvdfs ls game.iso
@@ -95,19 +112,27 @@ pub struct LsArguments {
     /// With kind, first sector, size, and offset in the table
     #[arg(short, long)]
     pub long: bool,
+    #[command(flatten)]
+    pub rule: RuleArguments,
 }
 
 const FIND: &str = "\
 A name is found whatever the case of its letters a to z. The headers are the
 entry headers that the lookup read, the found one among them.
 
+Under rule one the answer is that of the boards in the field, under rule two
+that of newer loaders. What stands below a link of 255 is found under rule two
+alone: under rule one it is refused, and a second line on standard error says
+where it is.
+
 Examples:
   xdvdfs find game.iso default.xbe
   xdvdfs find game.iso Maps/ONE.BIN
+  xdvdfs find --rule 2 game.iso default.xbe
   xdvdfs find --json game.iso default.xbe | jq .entry.sector
 
-JSON: {command, image, partition: {offset, name}, path, path_hex, entry, byte,
-       headers, steps: [{name, name_hex, table: {sector, size}, offset,
+JSON: {command, image, partition: {offset, name}, path, path_hex, rule, entry,
+       byte, headers, steps: [{name, name_hex, table: {sector, size}, offset,
        headers}]}
 entry is as ls has it, byte the one of the file at which its data starts; there
 is a step for each part of the path.";
@@ -120,6 +145,8 @@ pub struct FindArguments {
     pub image: ImageArguments,
     /// The path, its parts separated by slashes
     pub path: OsString,
+    #[command(flatten)]
+    pub rule: RuleArguments,
 }
 
 const CHECK: &str = "\
@@ -130,6 +157,11 @@ that is listed, whether a lookup of it finds that same entry: a table may list a
 file that no lookup finds. A name that has a byte above 127, or a slash, cannot
 be asked for, and counts as hidden.
 
+Under rule one, that of the boards in the field, names below a link of 255 are
+hidden, and tables that are sound may have some. Under rule two, that of newer
+loaders, they are not: a name is hidden where it is on the wrong side of some
+entry above it, or below one of the same name, or cannot be asked for.
+
 With --all every directory is gone through, each table once; a directory inside
 of itself is a fault. So is what is too much to go through: directories more
 than 128 deep, 4194304 entries, a billion headers to read.
@@ -138,9 +170,10 @@ Examples:
   xdvdfs check game.iso
   xdvdfs check game.iso maps
   xdvdfs check --all game.iso && echo good
+  xdvdfs check --all --rule 2 game.iso && echo good for newer loaders
 
-JSON: {command, image, partition: {offset, name}, path, path_hex, all, good,
-       tables, entries, faults, hidden, shared, untold}
+JSON: {command, image, partition: {offset, name}, path, path_hex, rule, all,
+       good, tables, entries, faults, hidden, shared, untold}
 faults, hidden and shared are lists of {path, path_hex, table: {sector, size},
 kind, number, message, offset, name, name_hex}: faults with kind \"strict\",
 \"walk\" (the table cannot be listed), \"cycle\" or \"stopped\"; names that a lookup
@@ -158,6 +191,8 @@ pub struct CheckArguments {
     /// The tables of all directories below it too
     #[arg(long)]
     pub all: bool,
+    #[command(flatten)]
+    pub rule: RuleArguments,
 }
 
 const INFO: &str = "\
@@ -266,6 +301,15 @@ pub struct TableArguments {
     /// Where to write, standard output if not given
     #[arg(short, long, value_name = "FILE")]
     pub output: Option<PathBuf>,
+}
+
+/// A rule by its number.
+fn rule(text: &str) -> Result<Rule, String> {
+    match text {
+        "1" => Ok(Rule::One),
+        "2" => Ok(Rule::Two),
+        _ => Err("no rule; 1 and 2 are".to_owned()),
+    }
 }
 
 /// A number of bytes, decimal or with 0x in front.

@@ -1,17 +1,17 @@
-//! `check`: the strict check of tables, and whether a lookup finds each name that is listed.
+//! `check`: the strict check of tables, and whether a lookup under a rule finds each name that is listed.
 use crate::arguments::CheckArguments;
 use crate::fault::{offset_of, words, Fault};
 use crate::image::{open_volume, Image, JsonTable, Partition, Volume};
 use crate::listing::{entries_at, Listed};
 use crate::output::{Colour, Printer, Screen};
 use crate::place::{directory, Spelled};
-use crate::text::{counted, exact, hex, shown, JsonPath};
+use crate::text::{counted, exact, hex, rule_name, shown, JsonPath};
 use indicatif::{ProgressBar, ProgressDrawTarget, ProgressStyle};
 use serde::Serialize;
 use std::collections::{HashMap, HashSet};
 use std::os::unix::ffi::OsStrExt;
 use std::time::{Duration, Instant};
-use xdvdfs_tables::{Error, Table, Window};
+use xdvdfs_tables::{Error, Found, Rule, Table, Window};
 
 /// More entries than the sectors of any disc. An image whose directories list more is not gone through to its end.
 const MOST_ENTRIES: u64 = 4_194_304;
@@ -30,7 +30,7 @@ pub enum Kind {
     Strict,
     /// The table cannot be listed.
     Walk,
-    /// A lookup does not find the name that is listed.
+    /// A lookup under the rule does not find the name that is listed.
     Hidden,
     /// The directory has one of those above it as its table.
     Cycle,
@@ -80,6 +80,7 @@ struct Open<'a> {
 
 struct Checker<'a, 'b> {
     window: Window<'a>,
+    rule: Rule,
     start: &'b Spelled,
     directories: Vec<Directory<'a>>,
     /// By its place and size, the directory that a table was checked as, and whether that is being gone through.
@@ -99,9 +100,10 @@ struct Checker<'a, 'b> {
 }
 
 impl<'a, 'b> Checker<'a, 'b> {
-    fn new(window: Window<'a>, start: &'b Spelled, progress: Progress) -> Checker<'a, 'b> {
+    fn new(window: Window<'a>, rule: Rule, start: &'b Spelled, progress: Progress) -> Checker<'a, 'b> {
         Checker {
             window,
+            rule,
             start,
             directories: Vec::new(),
             met: HashMap::new(),
@@ -245,26 +247,24 @@ impl<'a, 'b> Checker<'a, 'b> {
                 self.stop(directory);
                 return;
             }
-            let looked_up = self.window.look_up(table, l.entry.name);
-            let read = match looked_up {
-                Ok(found) => u64::from(found.headers),
-                Err(Error::DoesNotExist { headers: Some(headers) }) => u64::from(headers),
-                Err(_) => MOST_IN_TABLE,
-            };
-            self.headers = self.headers.saturating_add(read);
-            let (number, why) = match looked_up {
-                Ok(found) if found.offset != l.offset => (None, format!("a lookup finds the entry at offset {}", found.offset)),
+            let rule = rule_name(self.rule);
+            let (number, why) = match self.look_up(table, l.entry.name, self.rule) {
+                Ok(found) if found.offset != l.offset => {
+                    (None, format!("a lookup under {rule} finds the entry at offset {}", found.offset))
+                }
                 Ok(_) if l.entry.name.contains(&b'/') => (None, "no path leads to it, for its name has a slash".to_owned()),
                 Ok(_) => continue,
                 Err(error) => {
-                    let mut why = format!("a lookup does not find it: {}", words(error));
-                    let behind = behind.get_or_insert_with(|| behind_unfollowed(entries));
-                    if let (Error::DoesNotExist { .. }, Some(at)) = (error, behind.get(&l.offset)) {
-                        why += &format!(
-                            "; a link of {} at offset {} is {UNFOLLOWED}, which a lookup takes for none",
-                            shown(at.entry.name),
-                            at.offset
-                        );
+                    let mut why = format!("a lookup under {rule} does not find it: {}", words(error));
+                    if let (Rule::One, Error::DoesNotExist { .. }) = (self.rule, error) {
+                        let behind = behind.get_or_insert_with(|| behind_unfollowed(entries));
+                        if let Some(at) = behind.get(&l.offset) {
+                            let name = shown(at.entry.name);
+                            why += &format!("; a link of {name} at offset {} is {UNFOLLOWED}, which {rule} takes for none", at.offset);
+                        }
+                        if self.look_up(table, l.entry.name, Rule::Two).is_ok_and(|found| found.offset == l.offset) {
+                            why += "; rule two finds it";
+                        }
                     }
                     (Some(error.number()), why)
                 }
@@ -272,6 +272,18 @@ impl<'a, 'b> Checker<'a, 'b> {
             let message = format!("{} at offset {} is listed, but {why}", shown(l.entry.name), l.offset);
             self.add(Kind::Hidden, directory, Some((l.offset, Some(l.entry.name))), number, message);
         }
+    }
+
+    /// A lookup whose headers count.
+    fn look_up(&mut self, table: Table, name: &[u8], rule: Rule) -> Result<Found<'a>, Error> {
+        let looked_up = self.window.look_up(table, name, rule);
+        let read = match looked_up {
+            Ok(found) => u64::from(found.headers),
+            Err(Error::DoesNotExist { headers: Some(headers) }) => u64::from(headers),
+            Err(_) => MOST_IN_TABLE,
+        };
+        self.headers = self.headers.saturating_add(read);
+        looked_up
     }
 
     fn add(&mut self, kind: Kind, directory: usize, at: Option<(u32, Option<&'a [u8]>)>, number: Option<u32>, message: String) {
@@ -319,7 +331,7 @@ impl<'a, 'b> Checker<'a, 'b> {
     }
 }
 
-/// The link that the walk follows and a lookup does not: an entry at offset 1,020, and what is below it, is listed and not found.
+/// The link that the walk and rule two follow and rule one does not: an entry at offset 1,020, and what is below it, is listed and not found.
 const UNFOLLOWED: u16 = 255;
 
 /// Of each offset to which such a link is on the way, the entry that has it; the first on the way down. Entries come in walk order, each after the one that leads to it.
@@ -396,8 +408,8 @@ pub fn check(a: &CheckArguments, printer: &mut Printer) -> Result<u8, Fault> {
     let image = Image::open(&a.image.image)?;
     let volume = open_volume(&image, &a.image.image, a.image.offset)?;
     let sought = a.path.as_ref().map_or(&b""[..], |p| p.as_bytes());
-    let (path, table) = directory(&volume, sought)?;
-    let mut checker = Checker::new(volume.window, &path, Progress::new(printer.screen()));
+    let (path, table) = directory(&volume, sought, a.rule.rule)?;
+    let mut checker = Checker::new(volume.window, a.rule.rule, &path, Progress::new(printer.screen()));
     checker.run(table, a.all);
     checker.progress.clear();
     let good = checker.faults == 0 && checker.hidden == 0;
@@ -418,11 +430,12 @@ fn print_text(checker: &Checker, good: bool, printer: &mut Printer) -> Result<()
     if checker.untold > 0 {
         printer.line(format_args!("and {} more that are not told", checker.untold))?;
     }
+    let rule = rule_name(checker.rule);
     let verdict = if good {
-        printer.coloured(Colour::Good, "good, and a lookup finds every name")
+        printer.coloured(Colour::Good, &format!("good, and a lookup under {rule} finds every name"))
     } else {
         let (faults, hidden) = (counted(checker.faults, "fault", "faults"), counted(checker.hidden, "hidden name", "hidden names"));
-        printer.coloured(Colour::Bad, &format!("{faults}, {hidden}"))
+        printer.coloured(Colour::Bad, &format!("{faults}, {hidden} under {rule}"))
     };
     let (tables, entries) = (counted(checker.tables, "table", "tables"), counted(checker.entries, "entry", "entries"));
     printer.line(format_args!("{tables}, {entries}: {verdict}"))
@@ -470,6 +483,7 @@ struct Answer<'c, 'a, 'b> {
     partition: Partition,
     #[serde(flatten)]
     path: JsonPath,
+    rule: u32,
     all: bool,
     good: bool,
     tables: u64,
@@ -487,6 +501,7 @@ fn print_json(a: &CheckArguments, volume: &Volume, checker: &Checker, good: bool
         image: a.image.image.to_string_lossy().into_owned(),
         partition: volume.partition,
         path: JsonPath::of(checker.start.bytes()),
+        rule: checker.rule.number(),
         all: a.all,
         good,
         tables: checker.tables,

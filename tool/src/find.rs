@@ -5,7 +5,7 @@ use crate::image::{open_volume, Image, JsonTable, Partition};
 use crate::listing::{kind, JsonEntry, Listed};
 use crate::output::{Colour, Printer};
 use crate::place::follow;
-use crate::text::{counted, shown, JsonName, JsonPath};
+use crate::text::{counted, rule_name, shown, JsonName, JsonPath};
 use serde::Serialize;
 use std::os::unix::ffi::OsStrExt;
 
@@ -25,6 +25,7 @@ struct Answer {
     partition: Partition,
     #[serde(flatten)]
     path: JsonPath,
+    rule: u32,
     entry: JsonEntry,
     byte: u64,
     headers: u32,
@@ -35,7 +36,8 @@ pub fn find(a: &FindArguments, printer: &mut Printer) -> Result<u8, Fault> {
     let image = Image::open(&a.image.image)?;
     let volume = open_volume(&image, &a.image.image, a.image.offset)?;
     let sought = a.path.as_bytes();
-    let followed = follow(&volume, sought)?;
+    let rule = a.rule.rule;
+    let followed = follow(&volume, sought, rule)?;
     let Some(last) = followed.steps.last() else {
         return Err(Fault::Unfit(format!("{}: the path has no part", shown(sought))));
     };
@@ -52,6 +54,7 @@ pub fn find(a: &FindArguments, printer: &mut Printer) -> Result<u8, Fault> {
             image: a.image.image.to_string_lossy().into_owned(),
             partition: volume.partition,
             path: JsonPath::of(followed.path.bytes()),
+            rule: rule.number(),
             entry: Listed { offset: last.found.offset, entry }.into(),
             byte,
             headers: last.found.headers,
@@ -68,12 +71,12 @@ pub fn find(a: &FindArguments, printer: &mut Printer) -> Result<u8, Fault> {
     printer.line(format_args!("sector   {}, byte {byte} of the file", entry.header.sector))?;
     printer.line(format_args!("size     {}", entry.header.size))?;
     printer.line(format_args!("offset   {} in the table at sector {}", last.found.offset, last.table.sector))?;
-    let read = |n: u32| counted(u64::from(n), "header", "headers");
+    let (read, under) = (counted(last.found.headers.into(), "header", "headers"), rule_name(rule));
     if followed.steps.len() == 1 {
-        printer.line(format_args!("lookup   {} read", read(last.found.headers)))?;
+        printer.line(format_args!("lookup   {read} read, under {under}"))?;
     } else {
         let all: Vec<String> = followed.steps.iter().map(|s| s.found.headers.to_string()).collect();
-        printer.line(format_args!("lookup   {} read in that table, {} along the path", read(last.found.headers), all.join(" + ")))?;
+        printer.line(format_args!("lookup   {read} read in that table, {} along the path, under {under}", all.join(" + ")))?;
     }
     Ok(crate::DONE)
 }

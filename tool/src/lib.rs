@@ -49,13 +49,16 @@ pub fn run(arguments: impl IntoIterator<Item = OsString>, out: &mut dyn Write, e
     }
 }
 
-/// A fault in words on `err`, and with `--json` as an object on `out` too.
+/// A fault in words on `err`, with a line of its own for what rule two finds, and with `--json` as an object on `out` too.
 fn tell_fault(command: &str, fault: &Fault, printer: &mut Printer, err: &mut dyn Write) -> u8 {
     if fault.is_closed_pipe() {
         return DONE;
     }
     // nothing is left to be done about a stream that takes no words
     let _ = writeln!(err, "{} {fault}", printer.error_mark());
+    if let Some(found) = fault.rule_two() {
+        let _ = writeln!(err, "{} {found}", printer.error_mark());
+    }
     if printer.json() && fault.status() == REFUSED {
         let _ = printer.object(&fault.told(command)).and_then(|()| printer.flush());
     }

@@ -16,15 +16,15 @@ pub struct Listed<'a> {
     pub entry: Entry<'a>,
 }
 
-#[derive(Serialize)]
+#[derive(Debug, Serialize)]
 pub struct JsonEntry {
     #[serde(flatten)]
-    name: JsonName,
-    kind: &'static str,
-    sector: u32,
-    size: u32,
-    offset: u32,
-    attributes: u8,
+    pub name: JsonName,
+    pub kind: &'static str,
+    pub sector: u32,
+    pub size: u32,
+    pub offset: u32,
+    pub attributes: u8,
 }
 
 impl From<Listed<'_>> for JsonEntry {
@@ -76,7 +76,7 @@ pub fn ls(a: &LsArguments, printer: &mut Printer) -> Result<u8, Fault> {
     let image = Image::open(&a.image.image)?;
     let volume = open_volume(&image, &a.image.image, a.image.offset)?;
     let sought = a.path.as_ref().map_or(&b""[..], |p| p.as_bytes());
-    let (path, table) = directory(&volume, sought)?;
+    let (path, table) = directory(&volume, sought, a.rule.rule)?;
     let entries = entries_of(volume.window, &path, table)?;
     if printer.json() {
         #[derive(Serialize)]

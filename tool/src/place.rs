@@ -1,8 +1,9 @@
 //! Where a path leads, part by part.
-use crate::fault::Fault;
+use crate::fault::{Fault, FoundByTwo};
 use crate::image::Volume;
+use crate::listing::Listed;
 use crate::text::shown;
-use xdvdfs_tables::{Entry, Error, Found, Table};
+use xdvdfs_tables::{Entry, Error, Found, Rule, Table};
 
 /// A part of a path that was found, and the table that it was found in.
 #[derive(Clone, Copy, Debug)]
@@ -52,9 +53,23 @@ pub struct Followed<'a> {
     pub steps: Vec<Step<'a>>,
 }
 
-/// Follows a path: the entry is the library's answer to the whole path; the steps, its answers to each part, say where it stands and how much was read.
-pub fn follow<'a>(volume: &Volume<'a>, path: &[u8]) -> Result<Followed<'a>, Fault> {
-    let answer = volume.window.find_path(volume.root, path);
+/// Follows a path under a rule. Where rule one does not find it and rule two does, the fault says so too.
+pub fn follow<'a>(volume: &Volume<'a>, path: &[u8], rule: Rule) -> Result<Followed<'a>, Fault> {
+    follow_by(volume, path, rule).map_err(|(what, error)| match (rule, error) {
+        (Rule::One, Error::DoesNotExist { .. }) => Fault::not_found_by_one(what, error, found_by_two(volume, path)),
+        _ => Fault::refused(what, error),
+    })
+}
+
+fn found_by_two(volume: &Volume, path: &[u8]) -> Option<FoundByTwo> {
+    let followed = follow_by(volume, path, Rule::Two).ok()?;
+    let last = followed.steps.last()?;
+    Some(FoundByTwo::new(&followed.path, last.table, Listed { offset: last.found.offset, entry: followed.entry }))
+}
+
+/// The entry is the library's answer to the whole path; the steps, its answers to each part, say where it stands and how much was read. Of a refusal what was asked, and it.
+fn follow_by<'a>(volume: &Volume<'a>, path: &[u8], rule: Rule) -> Result<Followed<'a>, (String, Error)> {
+    let answer = volume.window.find_path(volume.root, path, rule);
     let mut steps = Vec::new();
     let mut table = Some(volume.root);
     let mut walked = Spelled::default();
@@ -65,7 +80,7 @@ pub fn follow<'a>(volume: &Volume<'a>, path: &[u8]) -> Result<Followed<'a>, Faul
             ended = Some((format!("{} is a file", walked.shown()), Error::IsNotDirectory));
             break;
         };
-        match volume.window.look_up(here, part) {
+        match volume.window.look_up(here, part, rule) {
             Ok(found) => {
                 steps.push(Step { table: here, found });
                 table = found.entry.header.table();
@@ -79,17 +94,17 @@ pub fn follow<'a>(volume: &Volume<'a>, path: &[u8]) -> Result<Followed<'a>, Faul
     }
     match (answer, ended) {
         (Ok(entry), _) => Ok(Followed { entry, path: walked, steps }),
-        (Err(answer), Some((what, error))) if error.number() == answer.number() => Err(Fault::refused(what, error)),
-        (Err(answer), _) => Err(Fault::refused(shown(path), answer)),
+        (Err(answer), Some((what, error))) if error.number() == answer.number() => Err((what, error)),
+        (Err(answer), _) => Err((shown(path), answer)),
     }
 }
 
 /// A directory's path and its table. A path that has no part is the root.
-pub fn directory(volume: &Volume, path: &[u8]) -> Result<(Spelled, Table), Fault> {
-    if volume.window.find_path(volume.root, path) == Err(Error::NoDirent) {
+pub fn directory(volume: &Volume, path: &[u8], rule: Rule) -> Result<(Spelled, Table), Fault> {
+    if volume.window.find_path(volume.root, path, rule) == Err(Error::NoDirent) {
         return Ok((Spelled::default(), volume.root));
     }
-    let followed = follow(volume, path)?;
+    let followed = follow(volume, path, rule)?;
     match followed.entry.header.table() {
         Some(table) => Ok((followed.path, table)),
         None => Err(Fault::Unfit(format!("{} is a file, no directory", followed.path.shown()))),

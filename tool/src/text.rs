@@ -1,5 +1,6 @@
 //! Names and paths, which are bytes, as text for a terminal and for JSON.
 use serde::Serialize;
+use xdvdfs_tables::Rule;
 
 /// For a terminal: printable characters as they are, a backslash doubled, every other byte as \xNN. No two runs of bytes look alike.
 pub fn shown(bytes: &[u8]) -> String {
@@ -77,6 +78,14 @@ pub struct JsonPath {
 impl JsonPath {
     pub fn of(bytes: &[u8]) -> JsonPath {
         JsonPath { path: exact(bytes), path_hex: hex(bytes) }
+    }
+}
+
+/// A rule as refusals and findings name it.
+pub fn rule_name(rule: Rule) -> &'static str {
+    match rule {
+        Rule::One => "rule one",
+        Rule::Two => "rule two",
     }
 }
 

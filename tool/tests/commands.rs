@@ -69,7 +69,8 @@ fn ls_as_json() {
     assert_eq!(xdvdfs(&["--json", "ls", &image, "MAPS"]), answer);
     let none = xdvdfs(&["ls", "--json", &image, "none"]);
     let message = format!("none in /: {}", words(Error::DoesNotExist { headers: Some(2) }));
-    assert_eq!(none.json(), json!({"command": "ls", "refused": {"number": 22, "message": message, "offset": null, "headers": 2}}));
+    let refused = json!({"number": 22, "message": message, "offset": null, "headers": 2, "rule_two": null});
+    assert_eq!(none.json(), json!({"command": "ls", "refused": refused}));
     assert_eq!((none.status, none.err), (1, format!("xdvdfs: {message}\n")));
 }
 
@@ -101,25 +102,30 @@ kind     file
 sector   44, byte 90112 of the file
 size     1
 offset   0 in the table at sector 40
-lookup   1 header read in that table, 1 + 2 + 1 along the path
+lookup   1 header read in that table, 1 + 2 + 1 along the path, under rule one
 ";
     assert_eq!(xdvdfs(&["find", &image, "Maps/night/MOON"]).done(), moon);
+    assert_eq!(xdvdfs(&["find", "--rule", "1", &image, "Maps/night/MOON"]).done(), moon);
+    assert_eq!(xdvdfs(&["find", "--rule", "2", &image, "Maps/night/MOON"]).done(), moon.replace("rule one", "rule two"));
     let maps = "\
 path     /maps/
 kind     directory
 sector   34, byte 69632 of the file
 size     2048
 offset   0 in the table at sector 33
-lookup   1 header read
+lookup   1 header read, under rule one
 ";
     assert_eq!(xdvdfs(&["find", &image, "/maps/"]).done(), maps);
-    refused(&["find", &image, "/"], "/", Error::NoDirent);
-    refused(&["find", &image, "//"], "//", Error::NoDirent);
-    refused(&["find", &image, "save/x"], "/save is a file", Error::IsNotDirectory);
-    refused(&["find", &image, "maps/three/x"], "three in /maps", Error::DoesNotExist { headers: Some(2) });
-    refused(&["find", &image, "empty/x"], "x in /empty", Error::DoesNotExist { headers: Some(1) });
-    refused(&["find", &image, "caf\u{e9}"], "caf\u{e9} in /", Error::BadByteSought);
-    refused(&["find", &image, "save/caf\u{e9}"], "save/caf\u{e9}", Error::BadByteSought);
+    for rule in ["1", "2"] {
+        let told = |path: &str, what: &str, error: Error| refused(&["find", "--rule", rule, &image, path], what, error);
+        told("/", "/", Error::NoDirent);
+        told("//", "//", Error::NoDirent);
+        told("save/x", "/save is a file", Error::IsNotDirectory);
+        told("maps/three/x", "three in /maps", Error::DoesNotExist { headers: Some(2) });
+        told("empty/x", "x in /empty", Error::DoesNotExist { headers: Some(1) });
+        told("caf\u{e9}", "caf\u{e9} in /", Error::BadByteSought);
+        told("save/caf\u{e9}", "save/caf\u{e9}", Error::BadByteSought);
+    }
 }
 
 #[test]
@@ -133,62 +139,173 @@ fn find_as_json() {
         {"name": "two.bin", "name_hex": "74776f2e62696e", "table": {"sector": 34, "size": 2048}, "offset": 44, "headers": 2}
     ]);
     let want = json!({"command": "find", "image": image, "partition": {"offset": 0, "name": "XISO"}, "path": "/maps/two.bin",
-        "path_hex": "2f6d6170732f74776f2e62696e", "entry": entry, "byte": 41 * 2048, "headers": 2, "steps": steps});
+        "path_hex": "2f6d6170732f74776f2e62696e", "rule": 1, "entry": entry, "byte": 41 * 2048, "headers": 2, "steps": steps});
     assert_eq!(answer.json(), want);
+    let mut two = want;
+    two["rule"] = json!(2);
+    assert_eq!(xdvdfs(&["find", "--rule=2", "--json", &image, "maps/TWO.bin"]).json(), two);
 }
 
 #[test]
 fn check() {
     let (_folder, image) = game();
-    assert_eq!(xdvdfs(&["check", &image]).done(), "1 table, 5 entries: good, and a lookup finds every name\n");
-    assert_eq!(xdvdfs(&["check", &image, "maps/night"]).done(), "1 table, 1 entry: good, and a lookup finds every name\n");
-    assert_eq!(xdvdfs(&["check", &image, "empty"]).done(), "1 table, 0 entries: good, and a lookup finds every name\n");
-    assert_eq!(xdvdfs(&["check", "--all", &image]).done(), "4 tables, 9 entries: good, and a lookup finds every name\n");
-    assert_eq!(xdvdfs(&["check", "--all", &image, "maps"]).done(), "2 tables, 4 entries: good, and a lookup finds every name\n");
-    let want = json!({"command": "check", "image": image, "partition": {"offset": 0, "name": "XISO"}, "path": "/", "path_hex": "2f",
-        "all": true, "good": true, "tables": 4, "entries": 9, "faults": [], "hidden": [], "shared": [], "untold": 0});
+    let good = |args: &[&str], counted: &str| {
+        for (options, rule) in [(&[][..], "one"), (&["--rule", "1"], "one"), (&["--rule", "2"], "two")] {
+            let verdict = format!("{counted}: good, and a lookup under rule {rule} finds every name\n");
+            assert_eq!(xdvdfs(&[&["check"], options, args].concat()).done(), verdict);
+        }
+    };
+    good(&[&image], "1 table, 5 entries");
+    good(&[&image, "maps/night"], "1 table, 1 entry");
+    good(&[&image, "empty"], "1 table, 0 entries");
+    good(&["--all", &image], "4 tables, 9 entries");
+    good(&["--all", &image, "maps"], "2 tables, 4 entries");
+    let mut want = json!({"command": "check", "image": image, "partition": {"offset": 0, "name": "XISO"}, "path": "/", "path_hex": "2f",
+        "rule": 1, "all": true, "good": true, "tables": 4, "entries": 9, "faults": [], "hidden": [], "shared": [], "untold": 0});
     assert_eq!(xdvdfs(&["check", "--all", "--json", &image]).json(), want);
+    want["rule"] = json!(2);
+    assert_eq!(xdvdfs(&["check", "--all", "--json", "--rule", "2", &image]).json(), want);
     refused(&["check", &image, "none"], "none in /", Error::DoesNotExist { headers: Some(2) });
 }
 
-/// A link of 255 is followed by the walk and not by a lookup: the strict check accepts the table, and a name in it is hidden.
+/// So many files whose names have six bytes; of more than fifty one stands at 1,020, behind a link of 255.
+fn many_files(n: usize) -> Vec<Member> {
+    (0..n).map(|i| file(&format!("file{i:02}"), 1)).collect()
+}
+
+/// A link of 255 is followed by the walk and not by rule one: the strict check accepts the table, and a name in it is hidden under that rule.
 #[test]
 fn a_link_of_255_hides_a_name() {
     let folder = Folder::new();
-    let many = |n: usize| (0..n).map(|i| file(&format!("file{i:02}"), 1)).collect::<Vec<_>>();
-    let image = folder.file("game.iso", &image_of(&[directory("maps", many(60))]));
+    let image = folder.file("game.iso", &image_of(&[directory("maps", many_files(60))]));
     assert!(xdvdfs(&["ls", &image, "maps"]).done().contains("file48\n"));
-    refused(&["find", &image, "maps/file48"], "file48 in /maps", Error::DoesNotExist { headers: Some(5) });
-    let why = "a link of file49 at offset 1000 is 255, which a lookup takes for none";
+    let why = "a link of file49 at offset 1000 is 255, which rule one takes for none; rule two finds it";
     let message = format!(
-        "file48 at offset 1020 is listed, but a lookup does not find it: {}; {why}",
+        "file48 at offset 1020 is listed, but a lookup under rule one does not find it: {}; {why}",
         words(Error::DoesNotExist { headers: Some(5) })
     );
     let ran = xdvdfs(&["check", "--all", &image]);
     assert_eq!((ran.status, ran.err.as_str()), (1, ""));
-    assert_eq!(ran.out, format!("hidden: /maps: {message}\n2 tables, 61 entries: 0 faults, 1 hidden name\n"));
+    assert_eq!(ran.out, format!("hidden: /maps: {message}\n2 tables, 61 entries: 0 faults, 1 hidden name under rule one\n"));
     let hidden = json!([{"path": "/maps", "path_hex": "2f6d617073", "table": {"sector": 34, "size": 2048}, "kind": "hidden", "number": 22,
         "message": message, "offset": 1020, "name": "file48", "name_hex": "66696c653438"}]);
     let answer = xdvdfs(&["check", "--json", &image, "maps"]);
     assert_eq!((answer.status, &answer.json()["good"], &answer.json()["hidden"]), (1, &json!(false), &hidden));
+    let two = xdvdfs(&["check", "--all", "--rule", "2", &image]);
+    assert_eq!(two.done(), "2 tables, 61 entries: good, and a lookup under rule two finds every name\n");
     // what is below it is hidden with it, and the same link is told
-    let image = folder.file("game.iso", &image_of(&many(100)));
+    let image = folder.file("game.iso", &image_of(&many_files(100)));
     let ran = xdvdfs(&["check", &image]);
-    assert!(ran.out.lines().count() > 2 && ran.out.lines().filter(|l| l.contains("is 255, which")).count() == ran.out.lines().count() - 1);
+    let told = |words: &str| ran.out.lines().filter(|l| l.contains(words)).count() == ran.out.lines().count() - 1;
+    assert!(ran.out.lines().count() > 2 && told("is 255, which rule one") && told("; rule two finds it"), "{ran:?}");
+    xdvdfs(&["check", "--rule", "2", &image]).done();
 }
 
-/// A name on the wrong side of an entry that is not its parent: no lookup finds it.
+/// What rule one does not find and rule two does: the refusal is rule one's, and a second line says where it is.
+#[test]
+fn find_says_what_rule_two_finds() {
+    let folder = Folder::new();
+    let image = folder.file("game.iso", &image_of(&[directory("maps", many_files(60))]));
+    let there = xdvdfs(&["ls", "--json", &image, "maps"]).json();
+    let entry = there["entries"].as_array().unwrap().iter().find(|e| e["name"] == "file48").unwrap();
+    assert_eq!((&entry["offset"], &entry["kind"]), (&json!(1020), &json!("file")));
+    let message = format!("File48 in /maps: {}", words(Error::DoesNotExist { headers: Some(5) }));
+    let note = format!(
+        "/maps/file48 is there, and rule two finds it: file, sector {}, size 1, offset 1020 in the table at sector 34",
+        entry["sector"]
+    );
+    for options in [&[][..], &["--rule", "1"]] {
+        let ran = xdvdfs(&[&["find", &image, "Maps/File48"], options].concat());
+        assert_eq!((ran.status, ran.out.as_str(), ran.err), (1, "", format!("xdvdfs: {message}\nxdvdfs: {note}\n")));
+        let ran = xdvdfs(&[&["find", "--json", &image, "Maps/File48"], options].concat());
+        let rule_two =
+            json!({"path": "/maps/file48", "path_hex": "2f6d6170732f66696c653438", "table": {"sector": 34, "size": 2048}, "entry": entry});
+        let refused = json!({"number": 22, "message": message, "offset": null, "headers": 5, "rule_two": rule_two});
+        assert_eq!((ran.status, ran.json()), (1, json!({"command": "find", "refused": refused})));
+        assert_eq!(ran.err, format!("xdvdfs: {message}\nxdvdfs: {note}\n"));
+    }
+    let two = xdvdfs(&["find", "--json", "--rule", "2", &image, "Maps/File48"]);
+    two.done();
+    assert_eq!((&two.json()["entry"], &two.json()["headers"], &two.json()["rule"]), (entry, &json!(6), &json!(2)));
+    assert_eq!(two.json()["steps"].as_array().unwrap().len(), 2);
+    // what neither finds has one line
+    for rule in ["1", "2"] {
+        refused(&["find", "--rule", rule, &image, "maps/file99"], "file99 in /maps", Error::DoesNotExist { headers: Some(6) });
+    }
+}
+
+/// A directory behind a link of 255: `ls` and `check` go into it under rule two alone, and under rule one say that it is there.
+#[test]
+fn a_hidden_directory() {
+    let folder = Folder::new();
+    let inner = || vec![file("moon", 1)];
+    let members = (0..60).map(|i| directory(&format!("file{i:02}"), inner())).collect::<Vec<_>>();
+    let image = folder.file("game.iso", &image_of(&members));
+    let message = words(Error::DoesNotExist { headers: Some(5) });
+    for command in [&["ls"][..], &["check"], &["check", "--all"]] {
+        let ran = xdvdfs(&[command, &[&image, "FILE48"]].concat());
+        let note = "xdvdfs: /file48 is there, and rule two finds it: directory, sector ";
+        let lines: Vec<&str> = ran.err.lines().collect();
+        assert_eq!((ran.status, lines.len(), lines[0]), (1, 2, &*format!("xdvdfs: FILE48 in /: {message}")), "{ran:?}");
+        assert!(lines[1].starts_with(note) && lines[1].ends_with(", size 2048, offset 1020 in the table at sector 33"), "{ran:?}");
+    }
+    assert_eq!(xdvdfs(&["ls", "--rule", "2", &image, "FILE48"]).done(), "moon\n");
+    let good = "1 table, 1 entry: good, and a lookup under rule two finds every name\n";
+    assert_eq!(xdvdfs(&["check", "--rule", "2", &image, "FILE48"]).done(), good);
+    // a file in it is told with its whole path
+    let ran = xdvdfs(&["find", &image, "file48/MOON"]);
+    assert!(ran.err.starts_with("xdvdfs: file48 in /: "), "{ran:?}");
+    assert!(ran.err.contains("\nxdvdfs: /file48/moon is there, and rule two finds it: file,"), "{ran:?}");
+    assert!(xdvdfs(&["find", "--rule", "2", &image, "file48/MOON"]).done().starts_with("path     /file48/moon\n"));
+    // rule two does not find this one either
+    assert_eq!(xdvdfs(&["find", &image, "file48/sun"]).err, format!("xdvdfs: file48 in /: {message}\n"));
+}
+
+/// Off written tables rule one may find what rule two does not: it follows a link of 65,535, which `ls` does not.
+#[test]
+fn a_link_of_65535() {
+    let folder = Folder::new();
+    let mut bytes = image_by_hand(&[(33, vec![vec![0xff; 262_144]])]);
+    bytes.extend_from_slice(&[0xff; 2048]);
+    for (offset, entry) in [(0, entry(0, u16::MAX, 34, 1, 0x20, b"m")), (262_140, entry(0, 0, 35, 1, 0x20, b"z"))] {
+        bytes[33 * 2048 + offset..][..16].copy_from_slice(&entry);
+    }
+    let image = folder.file("game.iso", &bytes);
+    assert_eq!(xdvdfs(&["ls", &image]).done(), "m\n");
+    assert!(xdvdfs(&["find", &image, "z"]).done().contains("offset   262140 in the table at sector 33\n"));
+    refused(&["find", "--rule", "2", &image, "z"], "z in /", Error::DoesNotExist { headers: Some(1) });
+    xdvdfs(&["check", &image]).done();
+    xdvdfs(&["check", "--rule", "2", &image]).done();
+}
+
+/// A name on the wrong side of an entry that is not its parent: no lookup finds it, under either rule.
 #[test]
 fn a_misfiled_name_is_hidden() {
     let folder = Folder::new();
     let table = vec![entry(4, 0, 34, 1, 0x20, b"m"), entry(0, 8, 35, 1, 0x20, b"c"), entry(0, 0, 36, 1, 0x20, b"z")];
     let image = folder.file("game.iso", &image_by_hand(&[(33, table)]));
-    let ran = xdvdfs(&["check", &image]);
-    let hidden = format!(
-        "hidden: /: z at offset 32 is listed, but a lookup does not find it: {}\n",
-        words(Error::DoesNotExist { headers: Some(1) })
-    );
-    assert!(ran.status == 1 && ran.out.contains(&hidden), "{ran:?}");
+    for (number, rule) in [("1", "one"), ("2", "two")] {
+        let ran = xdvdfs(&["check", "--rule", number, &image]);
+        let hidden = format!(
+            "hidden: /: z at offset 32 is listed, but a lookup under rule {rule} does not find it: {}\n\
+             1 table, 3 entries: 0 faults, 1 hidden name under rule {rule}\n",
+            words(Error::DoesNotExist { headers: Some(1) })
+        );
+        assert_eq!((ran.status, ran.out.as_str()), (1, hidden.as_str()));
+    }
+}
+
+#[test]
+fn rules_of_other_numbers() {
+    let (_folder, image) = game();
+    for rule in ["0", "3", "", "one", "01", "+1", "4294967297"] {
+        for command in [&["ls"][..], &["find", "save"], &["check"]] {
+            let ran = xdvdfs(&[&command[..1], &["--rule", rule, &image], &command[1..]].concat());
+            assert_eq!((ran.status, ran.out.as_str()), (2, ""), "{command:?} --rule {rule}");
+            assert!(ran.err.contains("no rule; 1 and 2 are"), "{ran:?}");
+        }
+    }
+    assert_eq!(xdvdfs(&["info", "--rule", "1", &image]).status, 2);
 }
 
 #[test]
@@ -202,9 +319,9 @@ fn two_entries_of_one_name() {
         ran.out,
         format!(
             "strict: /: {strict}; the entry is B; its parent is b at offset 0\n\
-             hidden: /: B at offset 16 is listed, but a lookup finds the entry at offset 0\n\
+             hidden: /: B at offset 16 is listed, but a lookup under rule one finds the entry at offset 0\n\
              hidden: /: c/d at offset 32 is listed, but no path leads to it, for its name has a slash\n\
-             1 table, 3 entries: 1 fault, 2 hidden names\n"
+             1 table, 3 entries: 1 fault, 2 hidden names under rule one\n"
         )
     );
 }
@@ -228,7 +345,7 @@ fn strict_faults() {
         shared.starts_with(&format!("strict: /: {}; the entry is a; its parent is b at offset 0\n", words(Error::Shared { offset: 16 }))),
         "{shared}"
     );
-    assert!(shared.ends_with("1 table, 2 entries: 1 fault, 0 hidden names\n"), "{shared}");
+    assert!(shared.ends_with("1 table, 2 entries: 1 fault, 0 hidden names under rule one\n"), "{shared}");
     // a name runs into the next entry
     let place = told(&|b| b[at + 16 + 13] = 3);
     assert!(place.starts_with(&format!("strict: /: {}; the entry is c;", words(Error::BadPlace { offset: 32 }))), "{place}");
@@ -240,7 +357,7 @@ fn strict_faults() {
         format!(
             "strict: /: {bounds}; the link is that of c at offset 32\n\
              walk: /: the table cannot be listed, so its names are not looked up: {bounds}\n\
-             1 table, 0 entries: 2 faults, 0 hidden names\n"
+             1 table, 0 entries: 2 faults, 0 hidden names under rule one\n"
         )
     );
     // the image ends before the table does

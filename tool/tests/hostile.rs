@@ -23,6 +23,9 @@ fn survives(args: &[&str], why: &dyn Fn() -> String) -> Ran {
     ran
 }
 
+/// A rule, by its number.
+const RULES: [&str; 2] = ["1", "2"];
+
 /// Every command on an image; how many runs that were.
 fn every_command(image: &str, dice: &mut Dice, why: &dyn Fn() -> String) -> usize {
     let paths = ["maps", "/maps/night/", "maps/one.bin", "a b", "empty", "FILE30", "maps//", "\u{e9}", "none/x"];
@@ -38,20 +41,25 @@ fn every_command(image: &str, dice: &mut Dice, why: &dyn Fn() -> String) -> usiz
         json(&mut args, dice);
         let mut args: Vec<&str> = args;
         args.push(image);
-        if command[0] != "info" && dice.below(2) == 0 {
-            args.push(path);
+        if command[0] != "info" {
+            args.extend(["--rule", RULES[dice.below(2)]]);
+            if dice.below(2) == 0 {
+                args.push(path);
+            }
         }
         survives(&args, why);
         runs += 1;
     }
-    survives(&["find", image, path], why);
-    found_where_good(image, dice, why);
-    runs + 1
+    for rule in RULES {
+        survives(&["find", "--rule", rule, image, path], why);
+        found_where_good(image, rule, dice, why);
+    }
+    runs + RULES.len()
 }
 
-/// Where `check` finds the root good, each name that `ls` lists is found where it is listed; ten of them are asked for.
-fn found_where_good(image: &str, dice: &mut Dice, why: &dyn Fn() -> String) {
-    let checked = survives(&["check", "--json", image], why);
+/// Where `check` finds the root good under a rule, each name that `ls` lists is found where it is listed under that rule; ten of them are asked for.
+fn found_where_good(image: &str, rule: &str, dice: &mut Dice, why: &dyn Fn() -> String) {
+    let checked = survives(&["check", "--json", "--rule", rule, image], why);
     if checked.status != 0 {
         return;
     }
@@ -66,7 +74,7 @@ fn found_where_good(image: &str, dice: &mut Dice, why: &dyn Fn() -> String) {
             continue;
         }
         let path = format!("/{name}");
-        let found = survives(&["find", "--json", "--", image, &path], why);
+        let found = survives(&["find", "--json", "--rule", rule, "--", image, &path], why);
         assert_eq!((found.status, &found.json()["entry"]), (0, entry), "{name:?} on {}", why());
     }
 }
@@ -199,7 +207,7 @@ fn directories_in_circles() {
     assert_eq!(
         ran.out,
         "cycle: /aaaa/bbbb/cccc: the directory has the table of /aaaa, which it is inside of: a listing of the image would never end\n\
-         3 tables, 3 entries: 1 fault, 0 hidden names\n"
+         3 tables, 3 entries: 1 fault, 0 hidden names under rule one\n"
     );
     let own = folder.file("own", &image_by_hand(&[(33, vec![d(33, b"self")])]));
     assert_eq!(kinds(&xdvdfs(&["check", "--all", &own])), ["cycle"]);
@@ -209,7 +217,8 @@ fn directories_in_circles() {
     let ran = xdvdfs(&["check", "--all", &twice]);
     assert_eq!(
         ran.done(),
-        "shared: /right: the directory has the table of /left, which is checked there\n2 tables, 3 entries: good, and a lookup finds every name\n"
+        "shared: /right: the directory has the table of /left, which is checked there\n\
+         2 tables, 3 entries: good, and a lookup under rule one finds every name\n"
     );
     // a chain of 200 directories
     let deep = (0..200).fold(vec![file("end", 1)], |below, _| vec![directory("d", below)]);

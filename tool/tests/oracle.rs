@@ -1,4 +1,4 @@
-//! `ls` and `find` held against the Rust original, where oracle/build has built it with the harness (XDVDFS_LIB set).
+//! `ls`, and `find` under rule one, which is the Rust's, held against the Rust original, where oracle/build has built it with the harness (XDVDFS_LIB set).
 mod common;
 use common::*;
 use std::io::Write;
@@ -50,7 +50,7 @@ fn listed(image: &str, path: &str) -> Option<(Vec<String>, String)> {
 
 /// What the tool says of a path, as the oracle writes it; nothing where the Rust never returns.
 fn found(image: &str, path: &str) -> Option<String> {
-    let ran = xdvdfs(&["find", "--json", "--", image, path]);
+    let ran = xdvdfs(&["find", "--json", "--rule", "1", "--", image, path]);
     if ran.status != 0 {
         let number = number_of(&ran);
         return (number != 25).then(|| if number == 28 && path.len() > 1 { "panicked".to_owned() } else { format!("refused {number}") });

@@ -26,6 +26,8 @@ fn statuses_and_streams() {
         (&[], 2),
         (&["ls"], 2),
         (&["ls", "--offset", "x", &image], 2),
+        (&["find", "--rule", "2", &image, "save"], 0),
+        (&["find", "--rule", "3", &image, "save"], 2),
         (&["plan"], 2),
         (&["plan", "m", "--dir", "d"], 2),
         (&["table", "--json", &image], 2),
@@ -114,9 +116,10 @@ fn large_images_at_once() {
             (&["ls", image], 0),
             (&["ls", "-l", image, "many"], 0),
             (&["find", image, "MANY/AZ"], 0),
-            (&["check", image], 1), // a link of 255 hides names of the root
+            (&["check", image], 1), // under rule one a link of 255 hides names of the root
             (&["check", image, "many"], 1),
             (&["check", "--all", image], 1),
+            (&["check", "--all", "--rule", "2", image], 0),
         ] {
             let time = least_time(args, status);
             slowest = slowest.max(time);
@@ -145,7 +148,7 @@ fn progress() {
     let quiet = start(&["check", "--all", &image]);
     let took = started.elapsed();
     assert_eq!((quiet.status.code(), quiet.stderr.is_empty()), (Some(0), true));
-    assert_eq!(String::from_utf8(quiet.stdout).unwrap(), "6 tables, 40005 entries: good, and a lookup finds every name\n");
+    assert_eq!(String::from_utf8(quiet.stdout).unwrap(), "6 tables, 40005 entries: good, and a lookup under rule one finds every name\n");
     if took < Duration::from_secs(2) || Command::new("script").arg("--version").output().is_err() {
         let _ = writeln!(
             std::io::stderr(),
@@ -162,7 +165,8 @@ fn progress() {
     // lines of progress, the last of which is gone before the answer comes
     let (progress, answer) = told.split_at(told.rfind("\u{1b}[2K").expect("a line that is cleared"));
     assert!(progress.contains(" tables, ") && progress.contains(" entries"), "{progress:?}");
-    assert!(answer.contains("6 tables, 40005 entries: ") && answer.contains("good, and a lookup finds every name"), "{answer:?}");
+    let verdict = "good, and a lookup under rule one finds every name";
+    assert!(answer.contains("6 tables, 40005 entries: ") && answer.contains(verdict), "{answer:?}");
 }
 
 /// On a terminal there are colours, unless NO_COLOR says otherwise; a table's bytes are refused there.

@@ -58,18 +58,28 @@ fn descriptors_and_entries() {
 
 #[test]
 fn lookups_and_paths() {
-    for missing in ways(2) {
+    for (missing, rule) in ways(2).flat_map(|missing| [0, 1, 2, 3].map(|rule| (missing, rule))) {
+        let is_rule = [1, 2].contains(&rule);
         let (w, n) = (read(missing, 0, &ABC), read(missing, 1, b"a"));
         let (mut fields, mut place, mut offset, mut headers) = ([UNTOUCHED; 6], 77, UNTOUCHED, UNTOUCHED);
         let mut look_up =
-            |size| unsafe { sys::xdvdfs_look_up(w.0, w.1, 0, 0, size, n.0, n.1, &mut fields, &mut place, &mut offset, &mut headers) };
-        assert_eq!(look_up(0), 21);
+            |size| unsafe { sys::xdvdfs_look_up(w.0, w.1, 0, 0, size, n.0, n.1, rule, &mut fields, &mut place, &mut offset, &mut headers) };
+        assert_eq!(look_up(0), if is_rule { 21 } else { 29 });
         // without a window the first entry is not there; the name without bytes is less than every other: b, a, and no link
-        assert_eq!(look_up(48), if is_empty(missing, 0) { 24 } else { 22 });
-        assert_eq!((offset, headers), if is_empty(missing, 0) { (0, UNTOUCHED) } else { (UNTOUCHED, 2) });
+        let (number, cells) = match (is_rule, is_empty(missing, 0)) {
+            (false, _) => (29, (UNTOUCHED, UNTOUCHED)),
+            (true, true) => (24, (0, UNTOUCHED)),
+            (true, false) => (22, (UNTOUCHED, 2)),
+        };
+        assert_eq!((look_up(48), (offset, headers)), (number, cells), "{missing:?}, rule {rule}");
         let mut offset = UNTOUCHED;
-        let number = unsafe { sys::xdvdfs_find_path(w.0, w.1, 0, 0, 48, n.0, n.1, &mut fields, &mut place, &mut offset) };
-        assert_eq!((number, offset), if is_empty(missing, 1) { (28, UNTOUCHED) } else { (24, 0) });
+        let number = unsafe { sys::xdvdfs_find_path(w.0, w.1, 0, 0, 48, n.0, n.1, rule, &mut fields, &mut place, &mut offset) };
+        let should = match (is_rule, is_empty(missing, 1)) {
+            (false, _) => (29, UNTOUCHED),
+            (true, true) => (28, UNTOUCHED),
+            (true, false) => (24, 0),
+        };
+        assert_eq!((number, offset), should, "{missing:?}, rule {rule}");
         assert_eq!((fields, place), ([UNTOUCHED; 6], 77));
     }
 }

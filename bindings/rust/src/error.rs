@@ -46,8 +46,8 @@ pub enum Error {
     BadArena,
     NoVolume,
     DirectoryEmpty,
-    /// The lookup came to a link that it takes for absent, 0 or 255, or to no entry. This does not say that no entry has the name: what stands below a link of 255 is listed
-    /// by [`Window::walk`](crate::Window::walk) and not found. With the number of entry headers read, where a single name was looked up.
+    /// The lookup came to a link that its rule takes for absent, or to no entry. This does not say that no entry has the name: under [`Rule::One`](crate::Rule::One) what
+    /// stands below a link of 255 is not found, though [`Window::walk`](crate::Window::walk) lists it. With the number of entry headers read, where a single name was looked up.
     DoesNotExist {
         headers: Option<u32>,
     },
@@ -62,6 +62,8 @@ pub enum Error {
     WalkFull,
     IsNotDirectory,
     NoDirent,
+    /// The number of a rule is neither 1 nor 2. No call of this crate gives it, since a [`Rule`](crate::Rule) is one of the two; it is here for its number.
+    BadRule,
     Shared {
         offset: u32,
     },
@@ -98,6 +100,7 @@ impl Error {
             Error::WalkFull => 26,
             Error::IsNotDirectory => 27,
             Error::NoDirent => 28,
+            Error::BadRule => 29,
             Error::Shared { .. } => 30,
             Error::OutOfOrder { .. } => 31,
             Error::BadPlace { .. } => 32,
@@ -156,6 +159,7 @@ impl Error {
             26 => Error::WalkFull,
             27 => Error::IsNotDirectory,
             28 => Error::NoDirent,
+            29 => Error::BadRule,
             30 => Error::Shared { offset },
             31 => Error::OutOfOrder { offset },
             32 => Error::BadPlace { offset },
@@ -208,7 +212,7 @@ impl fmt::Display for Error {
             Error::NoVolume => write!(f, "no volume descriptor: one of its two marks differs or is cut short"),
             Error::DirectoryEmpty => write!(f, "the directory is empty: its table has size 0"),
             Error::DoesNotExist { headers } => {
-                write!(f, "the name was not found; what stands below a link of 255 is not found either, though a walk lists it")?;
+                write!(f, "the name was not found; under rule one what stands below a link of 255 is not found, though a walk lists it")?;
                 match headers {
                     Some(1) => write!(f, " (1 header read)"),
                     Some(n) => write!(f, " ({n} headers read)"),
@@ -224,6 +228,7 @@ impl fmt::Display for Error {
             }
             Error::IsNotDirectory => write!(f, "a part of the path, not its last, is no directory"),
             Error::NoDirent => write!(f, "the path has no part"),
+            Error::BadRule => write!(f, "the rule is neither 1 nor 2"),
             Error::Shared { offset } => write!(f, "the entry at offset {offset} is reached twice"),
             Error::OutOfOrder { offset } => {
                 write!(f, "the entry at offset {offset} is a left child whose name is not less than its parent's, ")?;

@@ -4,12 +4,12 @@
 //! says in words what is wrong. The date of a [`Stamp`] is worked out in this crate, tested and not proved.
 //!
 //! ```
-//! use xdvdfs_tables::{write_table, Kind, NewEntry, Table, Window};
+//! use xdvdfs_tables::{write_table, Kind, NewEntry, Rule, Table, Window};
 //!
 //! let (bytes, written) = write_table(&[NewEntry { name: b"ab", kind: Kind::File, size: 5 }], 33)?;
 //! let table = Table { sector: 100, size: written.size };
 //! let window = Window { bytes: &bytes, first: 100 };
-//! let found = window.look_up(table, b"AB")?;
+//! let found = window.look_up(table, b"AB", Rule::Two)?;
 //! assert_eq!((found.entry.name, found.entry.header.sector, found.headers), (&b"ab"[..], 33, 1));
 //! # Ok::<(), xdvdfs_tables::Error>(())
 //! ```
@@ -23,7 +23,7 @@ mod write;
 pub use date::{Date, Stamp};
 pub use error::Error;
 pub use plan::{plan, Content, Plan, PlanEntry};
-pub use read::{read_descriptor, Descriptor, Entry, Found, Header, Table, Window};
+pub use read::{read_descriptor, Descriptor, Entry, Found, Header, Rule, Table, Window};
 pub use write::{
     required_sectors, write_descriptor, write_list, write_table, Arena, Kind, List, NewEntry, Scratch, SectorCounter, Written,
 };

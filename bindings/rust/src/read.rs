@@ -68,12 +68,36 @@ pub struct Found<'a> {
     pub headers: u32,
 }
 
+/// What links a lookup takes for absent. A new loader takes [`Rule::Two`].
+///
+/// What rule one finds in a table that this library wrote, rule two finds too, at the same offset and after as many headers. In other tables it need not: rule one follows a
+/// link of 65,535, which rule two does not.
+#[derive(Clone, Copy, Debug, PartialEq, Eq, Hash)]
+pub enum Rule {
+    /// 0 and 255, as the boards in the field do, and the Rust tool: for what has to answer as they do. What stands below a link of 255 is not found, though [`Window::walk`]
+    /// lists it; tables that this library writes can have such a link.
+    One,
+    /// 0 and 65,535, as [`Window::walk`] does. In a table that this library wrote every entry is found by its name, and in an image that it planned every file by its path.
+    Two,
+}
+
+impl Rule {
+    /// The number in include/xdvdfs.h and in docs/SCOPE.md.
+    pub fn number(self) -> u32 {
+        match self {
+            Rule::One => 1,
+            Rule::Two => 2,
+        }
+    }
+}
+
 /// A run of image bytes that starts at the sector `first`.
 ///
-/// A name that [`Window::walk`] lists may not be found by [`Window::look_up`] and [`Window::find_path`]. These take links of 0 and 255 for absent, the walk those of 0 and
-/// 65,535: an entry at offset 1,020, which a link of 255 names, and every entry below it, is listed and is [`Error::DoesNotExist`]. Tables that this library writes can have
-/// such an entry. So is an entry that stands on the wrong side of one above it, in a table that was not written in order. Who must not take "does not exist" for an answer
-/// about a file that is there lists the table and compares the names.
+/// A name that [`Window::walk`] lists may not be found by [`Window::look_up`] and [`Window::find_path`]. Under [`Rule::One`] an entry at offset 1,020, which a link of 255
+/// names, and every entry below it, is listed and is [`Error::DoesNotExist`]; tables that this library writes can have such an entry. Under [`Rule::Two`] that link is followed.
+/// Under both an entry is not found that stands on the wrong side of one above it, or below one of the same name, in a table that was not written in order; nor is a name that
+/// has a byte above 127 ([`Error::BadByteSought`]). Who must not take "does not exist" for an answer about a file that is there takes rule two, and of a table that this library
+/// did not write lists the entries and compares the names.
 #[derive(Clone, Copy, Debug)]
 pub struct Window<'a> {
     pub bytes: &'a [u8],
@@ -124,9 +148,9 @@ impl<'a> Window<'a> {
         }
     }
 
-    /// Looks a name up in a table; a to z count as A to Z. [`Error::DoesNotExist`] does not say that no entry has the name: what stands below a link of 255 is not found,
-    /// though [`Window::walk`] lists it.
-    pub fn look_up(&self, table: Table, name: &[u8]) -> Result<Found<'a>, Error> {
+    /// Looks a name up in a table under a rule; a to z count as A to Z. [`Error::DoesNotExist`] does not say that no entry has the name: under [`Rule::One`] what stands below a
+    /// link of 255 is not found, though [`Window::walk`] lists it.
+    pub fn look_up(&self, table: Table, name: &[u8], rule: Rule) -> Result<Found<'a>, Error> {
         let (mut fields, mut place, mut offset, mut headers) = ([0; 6], 0, 0, 0);
         let n = unsafe {
             sys::xdvdfs_look_up(
@@ -137,6 +161,7 @@ impl<'a> Window<'a> {
                 table.size,
                 name.as_ptr(),
                 name.len(),
+                rule.number(),
                 &mut fields,
                 &mut place,
                 &mut offset,
@@ -149,9 +174,9 @@ impl<'a> Window<'a> {
         }
     }
 
-    /// Follows a path from a table: leading slashes and one trailing slash do not count, and each part is looked up as [`Window::look_up`] does it. A part below a link of 255
-    /// in its table is not found, though [`Window::walk`] lists it.
-    pub fn find_path(&self, table: Table, path: &[u8]) -> Result<Entry<'a>, Error> {
+    /// Follows a path from a table: leading slashes and one trailing slash do not count, and each part is looked up as [`Window::look_up`] does it, all under one rule. Under
+    /// [`Rule::One`] a part below a link of 255 in its table is not found, though [`Window::walk`] lists it.
+    pub fn find_path(&self, table: Table, path: &[u8], rule: Rule) -> Result<Entry<'a>, Error> {
         let (mut fields, mut place, mut offset) = ([0; 6], 0, 0);
         let n = unsafe {
             sys::xdvdfs_find_path(
@@ -162,6 +187,7 @@ impl<'a> Window<'a> {
                 table.size,
                 path.as_ptr(),
                 path.len(),
+                rule.number(),
                 &mut fields,
                 &mut place,
                 &mut offset,
@@ -175,7 +201,8 @@ impl<'a> Window<'a> {
 
     /// Lists the offsets of a table's entries in preorder, and says how many they are; the list is zero past them. The scratch has to be longer than the list, and is zero
     /// afterwards. After [`Error::Room`] both are unchanged; after another refusal the list is all zero. [`Error::WalkFull`] where an entry is read when the list is full: the
-    /// table has more entries, or its links lead round in a ring, which fills any list. What stands below a link of 255 is listed here, and not found by [`Window::look_up`].
+    /// table has more entries, or its links lead round in a ring, which fills any list. What stands below a link of 255 is listed here, and under [`Rule::One`] not found by
+    /// [`Window::look_up`].
     pub fn walk(&self, table: Table, list: &mut [u32], scratch: &mut [u32]) -> Result<usize, Error> {
         let (mut count, mut offset) = (0, 0);
         let n = unsafe {
@@ -200,8 +227,9 @@ impl<'a> Window<'a> {
     }
 
     /// Checks a table by a strict rule, and lists it as [`Window::walk`] does: the walk ends, no entry is reached twice, none overlaps another, crosses a sector line or leaves
-    /// the table, and a left child's name is less than its parent's, a right child's greater. A listed name may still not be found by [`Window::look_up`]: a link of 255 is no
-    /// fault, and names are compared with the parent's alone (the root m, its left child c and c's right child z pass, and no lookup finds z).
+    /// the table, and a left child's name is less than its parent's, a right child's greater. A listed name may still not be found by [`Window::look_up`]: a link of 255, which
+    /// [`Rule::One`] does not follow, is no fault, and names are compared with the parent's alone (the root m, its left child c and c's right child z pass, and no lookup finds
+    /// z, under either rule).
     pub fn check_table(&self, table: Table, list: &mut [u32], scratch: &mut [u64]) -> Result<usize, Error> {
         let (mut count, mut offset) = (0, 0);
         let n = unsafe {

@@ -1,6 +1,8 @@
 //! What the skin hands on: each operation answered and refused, with the values that the answer carries and the memory that it leaves.
 use crate::*;
 
+const RULES: [Rule; 2] = [Rule::One, Rule::Two];
+
 fn file(name: &str) -> NewEntry<'_> {
     NewEntry { name: name.as_bytes(), kind: Kind::File, size: 1 }
 }
@@ -47,33 +49,38 @@ fn reading() {
     assert_eq!(read_descriptor(&bytes[..2047]), Err(Error::NoVolume));
     assert_eq!(read_descriptor(&[]), Err(Error::NoVolume));
     let window = Window { bytes: &bytes, first: 32 };
-    let found = window.look_up(root, b"LIMITS").unwrap();
-    assert_eq!((found.entry.name, found.offset, found.headers, found.entry.place), (&b"limits"[..], 16, 2, 2048 + 16));
-    assert_eq!(window.read_entry(root, 16), Ok(Some(found.entry)));
     assert_eq!(window.read_entry(Table { size: 2048, ..root }, 36), Ok(None));
     assert_eq!(window.read_entry(root, 36), Err(Error::OutOfBounds { offset: 36 }));
-    assert_eq!(window.look_up(root, b"nothing"), Err(Error::DoesNotExist { headers: Some(2) }));
-    assert_eq!(window.look_up(root, b""), Err(Error::DoesNotExist { headers: Some(1) }));
-    assert_eq!(window.look_up(root, b"\x80"), Err(Error::BadByteSought));
-    assert_eq!(window.look_up(Table { size: 0, ..root }, b"d"), Err(Error::DirectoryEmpty));
-    let cut = Window { bytes: &bytes[..2048 + 20], first: 32 };
-    assert_eq!(cut.look_up(root, b"limits"), Err(Error::Truncated { offset: 16 }));
     assert_eq!(window.name(usize::MAX, 255), b"");
+    for rule in RULES {
+        let found = window.look_up(root, b"LIMITS", rule).unwrap();
+        assert_eq!((found.entry.name, found.offset, found.headers, found.entry.place), (&b"limits"[..], 16, 2, 2048 + 16));
+        assert_eq!(window.read_entry(root, 16), Ok(Some(found.entry)));
+        assert_eq!(window.look_up(root, b"nothing", rule), Err(Error::DoesNotExist { headers: Some(2) }));
+        assert_eq!(window.look_up(root, b"", rule), Err(Error::DoesNotExist { headers: Some(1) }));
+        assert_eq!(window.look_up(root, b"\x80", rule), Err(Error::BadByteSought));
+        assert_eq!(window.look_up(Table { size: 0, ..root }, b"d", rule), Err(Error::DirectoryEmpty));
+        let cut = Window { bytes: &bytes[..2048 + 20], first: 32 };
+        assert_eq!(cut.look_up(root, b"limits", rule), Err(Error::Truncated { offset: 16 }));
+    }
 }
 
 #[test]
 fn paths() {
     let (bytes, root) = image();
     let window = Window { bytes: &bytes, first: 32 };
-    let x = window.find_path(root, b"/d/x").unwrap();
-    assert_eq!((x.name, x.header.sector, x.header.size), (&b"x"[..], 36, 9));
-    let d = window.find_path(root, b"d/").unwrap();
-    assert_eq!(d.header.table(), Some(Table { sector: 34, size: 2048 }));
-    assert_eq!(window.find_path(root, b"limits/x"), Err(Error::IsNotDirectory));
-    assert_eq!(window.find_path(root, b"/"), Err(Error::NoDirent));
-    assert_eq!(window.find_path(root, b"d/y"), Err(Error::DoesNotExist { headers: None }));
-    let cut = Window { bytes: &bytes[..4096], first: 32 };
-    assert_eq!(cut.find_path(root, b"d/x"), Err(Error::Truncated { offset: 0 }));
+    for rule in RULES {
+        let x = window.find_path(root, b"/d/x", rule).unwrap();
+        assert_eq!((x.name, x.header.sector, x.header.size), (&b"x"[..], 36, 9));
+        let d = window.find_path(root, b"d/", rule).unwrap();
+        assert_eq!(d.header.table(), Some(Table { sector: 34, size: 2048 }));
+        assert_eq!(window.find_path(root, b"limits/x", rule), Err(Error::IsNotDirectory));
+        assert_eq!(window.find_path(root, b"/", rule), Err(Error::NoDirent));
+        assert_eq!(window.find_path(root, b"\x80", rule), Err(Error::BadByteSought));
+        assert_eq!(window.find_path(root, b"d/y", rule), Err(Error::DoesNotExist { headers: None }));
+        let cut = Window { bytes: &bytes[..4096], first: 32 };
+        assert_eq!(cut.find_path(root, b"d/x", rule), Err(Error::Truncated { offset: 0 }));
+    }
 }
 
 #[test]
@@ -127,20 +134,121 @@ fn strict_faults() {
     assert_eq!(check(&bytes), Err(Error::BadPlace { offset: 32 }));
 }
 
-/// `f` is the root's right child and stands at 1,020, so its link is 255: a table that is written here, listed, accepted, and in which a lookup does not find the name.
+/// Five names with which `f` is the root's right child and stands at 1,020, so that its link is 255.
+fn names_with_f_at_1020() -> [String; 5] {
+    let long = |first: char, n: usize| format!("{first}{}", "x".repeat(n));
+    [long('d', 254), long('b', 254), "f".to_string(), long('a', 254), long('c', 189)]
+}
+
+/// A table that is written here, listed and accepted, and in which rule one does not find `f`. Rule two does.
 #[test]
 fn a_listed_name_may_not_be_found() {
-    let long = |first: char, n: usize| format!("{first}{}", "x".repeat(n));
-    let names = [long('d', 254), long('b', 254), "f".to_string(), long('a', 254), long('c', 189)];
+    let names = names_with_f_at_1020();
     let (bytes, w) = table_of(&names.iter().map(String::as_str).collect::<Vec<_>>(), 33);
     let (window, table) = (Window { bytes: &bytes, first: 0 }, Table { sector: 0, size: w.size });
     let listed = window.list(table, 5).unwrap();
     assert_eq!(listed.iter().filter(|e| e.name == b"f").count(), 1);
     assert_eq!(listed[0].header.right, 255);
     assert_eq!(window.check_table(table, &mut [0; 5], &mut [0; 6]), Ok(5));
-    assert_eq!(window.look_up(table, b"f"), Err(Error::DoesNotExist { headers: Some(1) }));
-    assert_eq!(window.find_path(table, b"/F"), Err(Error::DoesNotExist { headers: None }));
-    assert_eq!(window.look_up(table, names[4].as_bytes()).map(|f| f.headers), Ok(3));
+    assert_eq!(window.look_up(table, b"f", Rule::One), Err(Error::DoesNotExist { headers: Some(1) }));
+    assert_eq!(window.find_path(table, b"/F", Rule::One), Err(Error::DoesNotExist { headers: None }));
+    let f = listed[4];
+    assert_eq!((f.name, f.place), (&b"f"[..], 1020));
+    assert_eq!(window.look_up(table, b"f", Rule::Two), Ok(Found { entry: f, offset: 1020, headers: 2 }));
+    assert_eq!(window.find_path(table, b"/F", Rule::Two), Ok(f));
+    for rule in RULES {
+        assert_eq!(window.look_up(table, names[4].as_bytes(), rule).map(|f| f.headers), Ok(3));
+    }
+}
+
+/// A path has one rule for all its parts: `f` stands behind a link of 255 in the directory `p`, and as a directory in front of `x`.
+#[test]
+fn a_path_has_one_rule() {
+    let names = names_with_f_at_1020();
+    let far = |kind| names.iter().map(|n| if n == "f" { NewEntry { kind, ..file(n) } } else { file(n) }).collect::<Vec<_>>();
+    let (inner, i) = write_table(&far(Kind::File), 40).unwrap();
+    let (outer, o) = write_table(&[NewEntry { name: b"p", kind: Kind::Directory, size: i.size }], 34).unwrap();
+    let bytes = [outer, inner].concat();
+    let (window, root) = (Window { bytes: &bytes, first: 33 }, Table { sector: 33, size: o.size });
+    assert_eq!(window.find_path(root, b"p/f", Rule::One), Err(Error::DoesNotExist { headers: None }));
+    assert_eq!(window.find_path(root, b"p/f", Rule::Two).map(|e| (e.name, e.place)), Ok((&b"f"[..], 2048 + 1020)));
+
+    let (inner, _) = table_of(&["x"], 40);
+    let (mut bytes, o) = write_table(&far(Kind::Directory), 34).unwrap();
+    bytes.resize(5 * 2048, 0); // the four names before it take a sector each
+    bytes.extend_from_slice(&inner);
+    let (window, root) = (Window { bytes: &bytes, first: 33 }, Table { sector: 33, size: o.size });
+    assert_eq!(window.find_path(root, b"F/X", Rule::One), Err(Error::DoesNotExist { headers: None }));
+    assert_eq!(window.find_path(root, b"F/X", Rule::Two).map(|e| (e.name, e.place)), Ok((&b"x"[..], 5 * 2048)));
+    assert_eq!(window.find_path(root, b"F/Y", Rule::Two), Err(Error::DoesNotExist { headers: None }));
+}
+
+/// In written tables of every size up to 300 names, and of one that is nearly full, rule two finds each entry where it is listed, and what rule one finds is the same.
+#[test]
+fn what_rule_one_finds_rule_two_finds_alike() {
+    let names: Vec<String> = (0..13_000).map(|i| format!("{i:05}")).collect();
+    let mut hidden = 0;
+    for count in (1..=300).chain([13_000]) {
+        let (bytes, w) = table_of(&names[..count].iter().map(String::as_str).collect::<Vec<_>>(), 33);
+        let (window, table) = (Window { bytes: &bytes, first: 0 }, Table { sector: 0, size: w.size });
+        let listed = window.list(table, count).unwrap();
+        assert_eq!(listed.len(), count);
+        for entry in listed {
+            let two = window.look_up(table, entry.name, Rule::Two).unwrap();
+            assert_eq!((two.entry, two.offset as usize), (entry, entry.place));
+            assert!(two.headers <= 19);
+            assert_eq!(window.find_path(table, entry.name, Rule::Two), Ok(entry));
+            match window.look_up(table, entry.name, Rule::One) {
+                Ok(one) => assert_eq!(one, two),
+                Err(Error::DoesNotExist { .. }) => hidden += 1,
+                Err(other) => panic!("{count} names, {}: {other}", entry.name.escape_ascii()),
+            }
+        }
+    }
+    assert!(hidden > 300, "only {hidden} names are hidden under rule one");
+}
+
+/// In a table that no writer makes rule one may find what rule two does not: it follows a link of 65,535.
+#[test]
+fn a_link_of_65535() {
+    let mut bytes = vec![0xff; 262_140 + 16];
+    for (at, right, name) in [(0, u16::MAX, b'm'), (262_140, 0, b'z')] {
+        bytes[at..at + 16].fill(0);
+        bytes[at + 2..at + 4].copy_from_slice(&right.to_le_bytes());
+        (bytes[at + 13], bytes[at + 14]) = (1, name);
+    }
+    let (window, table) = (Window { bytes: &bytes, first: 0 }, Table { sector: 0, size: 262_156 });
+    assert_eq!(window.list(table, 9).map(|l| l.len()), Ok(1));
+    assert_eq!(window.look_up(table, b"z", Rule::One).map(|f| (f.offset, f.headers)), Ok((262_140, 2)));
+    assert_eq!(window.look_up(table, b"z", Rule::Two), Err(Error::DoesNotExist { headers: Some(1) }));
+    assert_eq!(window.find_path(table, b"z", Rule::One).map(|e| e.place), Ok(262_140));
+    assert_eq!(window.find_path(table, b"z", Rule::Two), Err(Error::DoesNotExist { headers: None }));
+}
+
+/// A number that is no rule's is told before all else that a lookup or a path refuses, and every cell is as it was.
+#[test]
+fn no_rule() {
+    let (bytes, _) = table_of(&["a", "b", "c"], 34);
+    // found; a bad byte; a path without a part; a table of size 0; a window without bytes
+    for (name, size, len) in [(&b"a"[..], 48, 2048), (b"\x80", 48, 2048), (b"", 48, 2048), (b"a", 0, 2048), (b"a", 48, 0)] {
+        for rule in [0, 3, 255, 65_535, u32::MAX] {
+            let (mut fields, mut place, mut offset, mut headers) = ([77; 6], 77, 77, 77);
+            #[rustfmt::skip]
+            let number = unsafe {
+                sys::xdvdfs_look_up(
+                    bytes.as_ptr(), len, 0, 0, size, name.as_ptr(), name.len(), rule, &mut fields, &mut place, &mut offset, &mut headers,
+                )
+            };
+            assert_eq!((number, fields, place, offset, headers), (29, [77; 6], 77, 77, 77), "look_up under rule {rule}");
+            #[rustfmt::skip]
+            let number = unsafe {
+                sys::xdvdfs_find_path(
+                    bytes.as_ptr(), len, 0, 0, size, name.as_ptr(), name.len(), rule, &mut fields, &mut place, &mut offset,
+                )
+            };
+            assert_eq!((number, fields, place, offset), (29, [77; 6], 77, 77), "find_path under rule {rule}");
+        }
+    }
 }
 
 #[test]
@@ -148,7 +256,9 @@ fn a_ring() {
     let (mut bytes, w) = table_of(&["a", "b", "c"], 34);
     bytes[16..18].copy_from_slice(&4u16.to_le_bytes()); // a is its own left child
     let window = Window { bytes: &bytes, first: 0 };
-    assert_eq!(window.look_up(Table { sector: 0, size: w.size }, b"0"), Err(Error::Looped));
+    for rule in RULES {
+        assert_eq!(window.look_up(Table { sector: 0, size: w.size }, b"0", rule), Err(Error::Looped));
+    }
 }
 
 #[test]
@@ -210,7 +320,7 @@ fn a_plan_is_what_writing_gives() {
     // written with the least sector of each directory, the tables give the same sectors
     let written = [NewEntry { name: b"d", kind: Kind::Directory, size: 16 }, NewEntry { name: b"limits", kind: Kind::File, size: 7 }];
     let (bytes, w) = write_table(&written, 34).unwrap();
-    let found = Window { bytes: &bytes, first: 33 }.look_up(Table { sector: 33, size: w.size }, b"d").unwrap();
+    let found = Window { bytes: &bytes, first: 33 }.look_up(Table { sector: 33, size: w.size }, b"d", Rule::Two).unwrap();
     assert_eq!((w.size, found.entry.header.sector), (36, 34));
 }
 
@@ -272,9 +382,9 @@ fn words() {
     assert_eq!(Error::Truncated { offset: 16 }.to_string(), "the entry at offset 16 of its table is not whole in the bytes at hand");
     assert_eq!(
         Error::DoesNotExist { headers: Some(3) }.to_string(),
-        "the name was not found; what stands below a link of 255 is not found either, though a walk lists it (3 headers read)"
+        "the name was not found; under rule one what stands below a link of 255 is not found, though a walk lists it (3 headers read)"
     );
-    let numbers = (1..=12).chain(20..=28).chain(30..=32);
+    let numbers = (1..=12).chain(20..=32);
     for n in numbers {
         let e = match n {
             1..=6 => Error::adding(n, None),

@@ -3,7 +3,7 @@ use std::error::Error;
 use std::process::ExitCode;
 use std::time::{Duration, UNIX_EPOCH};
 use xdvdfs_tables::{
-    plan, read_descriptor, write_descriptor, write_table, Arena, Content, Descriptor, Entry, Kind, NewEntry, PlanEntry, Stamp, Table,
+    plan, read_descriptor, write_descriptor, write_table, Arena, Content, Descriptor, Entry, Kind, NewEntry, PlanEntry, Rule, Stamp, Table,
     Window,
 };
 
@@ -33,8 +33,9 @@ fn list(window: Window, table: Table) -> Result<(), xdvdfs_tables::Error> {
     Ok(())
 }
 
+/// Under rule two, as a new loader looks up.
 fn find(window: Window, table: Table, path: &str) {
-    match window.find_path(table, path.as_bytes()) {
+    match window.find_path(table, path.as_bytes(), Rule::Two) {
         Ok(e) => println!("{path}: {}", line(&e)),
         Err(e) => println!("{path}: {e} (refusal {})", e.number()),
     }
