@@ -10,7 +10,8 @@
  * The C has memory of its own and leaves it as it is; the library is lent its memory and clears it, as its contract says.
  *
  * Before a race the answers are compared: sizes, bytes and next free sector of the tables; number, fields, place, offset and headers of the lookup of every name and of
- * a missing one beside each; the lists of the walk and of the strict check. A difference ends the program with 1.
+ * a missing one beside each, under rule one, rule two and no rule; the lists of the walk and of the strict check. A difference ends the program with 1.
+ * Lookups are raced under rule one.
  * Time is the process's clock; turns alternate, and each has the least of its turns. A task of few entries is repeated within a turn, on the same input.
  *
  *   by_hand race [TURNS]     a line for each kind of names, fields parted by tabs: what, entries, then for each task ns an entry of ours and of the C
@@ -53,8 +54,10 @@ static inline int is_blank(const uint8_t *e) {
     return (a == 0 && b == 0) || (a == ~0ull && b == 0xffffffffffffull);
 }
 
-CALLED static uint32_t c_look_up(const uint8_t *w, size_t wl, uint32_t first, uint32_t sector, uint32_t size, const uint8_t *name, size_t n,
+CALLED static uint32_t c_look_up(const uint8_t *w, size_t wl, uint32_t first, uint32_t sector, uint32_t size, const uint8_t *name, size_t n, uint32_t rule,
                                  struct xdvdfs_fields *fields, size_t *place, uint32_t *offset, uint32_t *headers) {
+    if (rule != 1 && rule != 2) return 29;
+    uint32_t absent = rule == 1 ? 255 : 65535; /* besides 0; a rule takes 255 for no link, as the Rust does, or 65,535, as the walk does */
     for (size_t i = 0; i < n; i++)
         if (name[i] > 127) return 2;
     if (!size) return 21;
@@ -76,7 +79,7 @@ CALLED static uint32_t c_look_up(const uint8_t *w, size_t wl, uint32_t first, ui
             return 0;
         }
         uint32_t l = get16(c < 0 ? e : e + 2);
-        if (l == 0 || l == 255) { *headers = h; return 22; } /* a lookup takes 255 for no link, as the Rust does */
+        if (l == 0 || l == absent) { *headers = h; return 22; }
         o = 4 * l;
     }
     return 25;
@@ -448,16 +451,16 @@ static void check_answers(const char *what, uint32_t n, const struct list *s, ui
     for (uint32_t i = 0; i < n; i++)
         if (L[i] | R[i] | P[i] | H[i] | K[i] | O[i] | PL[i]) fail(what, "scratch is not cleared");
     *wl = (*ts + 2047) / 2048 * 2048;
-    for (uint32_t i = 0; i < 2 * n; i++) {
+    for (uint32_t i = 0; i < 6 * n; i++) { /* under both rules, and under a number that is none */
         uint8_t name[256];
-        uint32_t m = len[i / 2];
-        memcpy(name, names + start[i / 2], m);
+        uint32_t m = len[i / 6], rule = i / 2 % 3 + 1;
+        memcpy(name, names + start[i / 6], m);
         if (i % 2) name[m - 1] ^= 3;
         struct xdvdfs_fields f, g;
         size_t p = 1, q = 1;
         uint32_t o = 1, o2 = 1, h = 1, h2 = 1;
         memset(&f, 0, sizeof f); memset(&g, 0, sizeof g);
-        uint32_t a = xdvdfs_look_up(out, *wl, 33, 33, *ts, name, m, &f, &p, &o, &h), b = c_look_up(out, *wl, 33, 33, *ts, name, m, &g, &q, &o2, &h2);
+        uint32_t a = xdvdfs_look_up(out, *wl, 33, 33, *ts, name, m, rule, &f, &p, &o, &h), b = c_look_up(out, *wl, 33, 33, *ts, name, m, rule, &g, &q, &o2, &h2);
         if (a != b || memcmp(&f, &g, sizeof f) || p != q || o != o2 || h != h2) fail(what, "the lookups differ");
     }
     size_t c = 0, c2 = 0;
@@ -499,8 +502,8 @@ static void race(const char *what, uint32_t n, int turns, int whos, double best[
                     uint32_t x = i * 7919u % n, at = 0, h = 0;
                     struct xdvdfs_fields f;
                     size_t p;
-                    if (me) c_look_up(out, wl, 33, 33, ts, names + start[x], len[x], &f, &p, &at, &h);
-                    else xdvdfs_look_up(out, wl, 33, 33, ts, names + start[x], len[x], &f, &p, &at, &h);
+                    if (me) c_look_up(out, wl, 33, 33, ts, names + start[x], len[x], 1, &f, &p, &at, &h);
+                    else xdvdfs_look_up(out, wl, 33, 33, ts, names + start[x], len[x], 1, &f, &p, &at, &h);
                     sink += at + h;
                 }
             LEAST(best[LOOKUP][me], (now() - t) / few / n);

@@ -54,6 +54,16 @@ impl Said {
         Said::Refused { number, byte: None, headers: None }
     }
 
+    /// What it is, in a word or by its number.
+    pub fn kind(&self) -> String {
+        match self {
+            Said::Found { .. } => "found".into(),
+            Said::Listed(_) => "listed".into(),
+            Said::Refused { number, .. } => format!("{number}"),
+            Said::Panicked => "panic".into(),
+        }
+    }
+
     /// Equal as far as both say.
     pub fn agrees(&self, other: &Said) -> bool {
         fn same<T: PartialEq>(a: &Option<T>, b: &Option<T>) -> bool {

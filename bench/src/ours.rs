@@ -55,7 +55,7 @@ impl Answer {
 }
 
 #[inline]
-fn call_look_up(v: View, t: Table, name: &[u8]) -> Answer {
+fn call_look_up(v: View, t: Table, name: &[u8], rule: u32) -> Answer {
     let mut a = Answer::before();
     a.number = unsafe {
         sys::xdvdfs_look_up(
@@ -66,6 +66,7 @@ fn call_look_up(v: View, t: Table, name: &[u8]) -> Answer {
             t.size,
             name.as_ptr(),
             name.len(),
+            rule,
             &mut a.fields,
             &mut a.place,
             &mut a.offset,
@@ -76,7 +77,7 @@ fn call_look_up(v: View, t: Table, name: &[u8]) -> Answer {
 }
 
 #[inline]
-fn call_path(v: View, t: Table, path: &[u8]) -> Answer {
+fn call_path(v: View, t: Table, path: &[u8], rule: u32) -> Answer {
     let mut a = Answer::before();
     a.number = unsafe {
         sys::xdvdfs_find_path(
@@ -87,6 +88,7 @@ fn call_path(v: View, t: Table, path: &[u8]) -> Answer {
             t.size,
             path.as_ptr(),
             path.len(),
+            rule,
             &mut a.fields,
             &mut a.place,
             &mut a.offset,
@@ -124,8 +126,9 @@ fn call_check(v: View, t: Table, list: &mut [u32], scratch: &mut [u64]) -> (Answ
     (a, count)
 }
 
-pub fn look_up(v: View, t: Table, name: &[u8]) -> Said {
-    let a = call_look_up(v, t, name);
+/// The lookup of a name under a rule, which is any number.
+pub fn look_up(v: View, t: Table, name: &[u8], rule: u32) -> Said {
+    let a = call_look_up(v, t, name, rule);
     if a.number == 0 {
         let entry = a.entry(v);
         assert_eq!(entry.byte, 2048 * t.sector as u64 + a.offset as u64, "place and offset of a found entry");
@@ -135,9 +138,9 @@ pub fn look_up(v: View, t: Table, name: &[u8]) -> Said {
     Said::Refused { number: a.number, byte: a.at_fault(t), headers: (a.number == 22).then_some(a.headers) }
 }
 
-/// A path's answer; of 23 and 24 the offset in the table at which it ended.
-pub fn path(v: View, t: Table, path: &[u8]) -> (Said, u32) {
-    let a = call_path(v, t, path);
+/// A path's answer under a rule, which is any number; of 23 and 24 the offset in the table at which it ended.
+pub fn path(v: View, t: Table, path: &[u8], rule: u32) -> (Said, u32) {
+    let a = call_path(v, t, path, rule);
     assert!(a.kept(a.number == 0, a.at_fault(t).is_some(), false), "cells after {}", a.number);
     if a.number == 0 {
         return (Said::Found { entry: a.entry(v), headers: None }, a.offset);
@@ -203,14 +206,14 @@ pub fn write_descriptor(out: &mut [u8], d: Descriptor) -> u32 {
 
 /// For the race: the answer's number and the entry's sector, so that nothing can be left out.
 #[inline]
-pub fn fast_look_up(v: View, t: Table, name: &[u8]) -> u64 {
-    let a = call_look_up(v, t, name);
+pub fn fast_look_up(v: View, t: Table, name: &[u8], rule: u32) -> u64 {
+    let a = call_look_up(v, t, name, rule);
     a.number as u64 + a.fields[2] as u64
 }
 
 #[inline]
-pub fn fast_path(v: View, t: Table, path: &[u8]) -> u64 {
-    let a = call_path(v, t, path);
+pub fn fast_path(v: View, t: Table, path: &[u8], rule: u32) -> u64 {
+    let a = call_path(v, t, path, rule);
     a.number as u64 + a.fields[2] as u64
 }
 

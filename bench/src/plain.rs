@@ -42,8 +42,30 @@ fn raised(name: &[u8]) -> Vec<u8> {
     name.iter().map(|b| if (b'a'..=b'z').contains(b) { b - 32 } else { *b }).collect()
 }
 
-/// The lookup of an ASCII name. 25 where an offset would be read again.
-pub fn look_up(v: View, t: Table, name: &[u8]) -> Said {
+/// The links that are absent for a lookup under a rule; None where no rule has the number.
+fn absent_under(rule: u32) -> Option<[u16; 2]> {
+    match rule {
+        1 => Some([0, 255]),
+        2 => Some([0, 65535]),
+        _ => None,
+    }
+}
+
+fn is_bad_sought(name: &[u8]) -> bool {
+    name.iter().any(|&b| b > 127)
+}
+
+/// The lookup of a name under a rule.
+pub fn look_up(v: View, t: Table, name: &[u8], rule: u32) -> Said {
+    match absent_under(rule) {
+        None => Said::refused(29),
+        Some(_) if is_bad_sought(name) => Said::refused(2),
+        Some(absent) => look_up_by(v, t, name, absent),
+    }
+}
+
+/// The lookup of an ASCII name, where these links are absent. 25 where an offset would be read again.
+fn look_up_by(v: View, t: Table, name: &[u8], absent: [u16; 2]) -> Said {
     if t.size == 0 {
         return Said::refused(21);
     }
@@ -63,7 +85,7 @@ pub fn look_up(v: View, t: Table, name: &[u8]) -> Said {
             Ordering::Less => entry.left,
             Ordering::Greater => entry.right,
         };
-        if link == 0 || link == 255 {
+        if absent.contains(&link) {
             return Said::Refused { number: 22, byte: None, headers };
         }
         at = 4 * link as u64;
@@ -71,8 +93,14 @@ pub fn look_up(v: View, t: Table, name: &[u8]) -> Said {
     Said::refused(25)
 }
 
-/// A path; with it the table in which it ended.
-pub fn path(v: View, t: Table, path: &[u8]) -> (Said, Table) {
+/// A path, each part looked up under the same rule; with it the table in which it ended.
+pub fn path(v: View, t: Table, path: &[u8], rule: u32) -> (Said, Table) {
+    let Some(absent) = absent_under(rule) else {
+        return (Said::refused(29), t);
+    };
+    if is_bad_sought(path) {
+        return (Said::refused(2), t);
+    }
     let start = path.iter().take_while(|&&b| b == b'/').count();
     let rest = &path[start..];
     let rest = rest.strip_suffix(b"/").unwrap_or(rest);
@@ -82,7 +110,7 @@ pub fn path(v: View, t: Table, path: &[u8]) -> (Said, Table) {
     let parts: Vec<&[u8]> = rest.split(|&b| b == b'/').collect();
     let mut table = t;
     for (i, part) in parts.iter().enumerate() {
-        let answer = look_up(v, table, part);
+        let answer = look_up_by(v, table, part, absent);
         let Said::Found { entry, .. } = answer else {
             return (answer, table);
         };

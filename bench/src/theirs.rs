@@ -93,17 +93,24 @@ pub fn entry(v: View, t: Table, offset: u32) -> Option<Said> {
     }
 }
 
-pub fn walk(v: View, t: Table) -> Said {
+/// The entries that the walk lists, each with its name; or its refusal.
+pub fn walked(v: View, t: Table) -> Result<Vec<(Entry, Vec<u8>)>, Said> {
     use DirectoryTableWalkError as E;
     let mut dev = counted(v);
-    let from = 2048 * t.sector as u64;
     match table(t).walk_dirent_tree(&mut dev) {
-        Ok(nodes) => Said::Listed(nodes.iter().map(|node| (entry_of(node, v).byte - from) as u32).collect()),
-        Err(E::SizeOutOfBounds(o)) => Said::Refused { number: 23, byte: Some(from + o.offset), headers: None },
+        Ok(nodes) => Ok(nodes.iter().map(|node| (entry_of(node, v), node.name_slice().to_vec())).collect()),
+        Err(E::SizeOutOfBounds(o)) => Err(Said::Refused { number: 23, byte: Some(2048 * t.sector as u64 + o.offset), headers: None }),
         Err(E::DirectoryEntryReadFailed(DirectoryEntryReadError::IOError(_))) => {
-            Said::Refused { number: 24, byte: Some(dev.last), headers: None }
+            Err(Said::Refused { number: 24, byte: Some(dev.last), headers: None })
         }
         Err(other) => panic!("an answer that docs/SCOPE.md does not know: {other:?}"),
+    }
+}
+
+pub fn walk(v: View, t: Table) -> Said {
+    match walked(v, t) {
+        Ok(list) => Said::Listed(list.iter().map(|(entry, _)| (entry.byte - 2048 * t.sector as u64) as u32).collect()),
+        Err(said) => said,
     }
 }
 

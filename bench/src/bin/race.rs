@@ -4,12 +4,14 @@
 //! Time is the thread's processor time, so that waiting for a busy machine does not count. A task is cut into pieces of at most a thousand names; in each turn
 //! each piece is done by both, one right after the other, now the one first, now the other. A task's least time is the sum of its pieces' least
 //! times over the turns, its middle time the sum of their medians.
-use bench::inputs::{names, shortest_names, written, Dice};
+use bench::inputs::{image, names, shortest_names, written, Dice, Folder};
 use bench::plans::even_request;
 use bench::{ours, plain, theirs, Said, Table, View};
 use std::hint::black_box;
 
 const PIECE: usize = 1_000;
+const ONE: u32 = 1;
+const TWO: u32 = 2;
 /// A piece is repeated until it takes this long, in seconds.
 const SHORTEST: f64 = 0.000_2;
 
@@ -93,8 +95,79 @@ fn compare(v: View, t: Table, list: &[String]) {
     assert_eq!(ours::check(v, t, list.len()), Said::Listed(offsets));
     for name in list {
         let rust = theirs::look_up(v, t, name);
-        assert!(ours::look_up(v, t, name.as_bytes()).agrees(&rust) && plain::look_up(v, t, name.as_bytes()).agrees(&rust));
+        assert!(ours::look_up(v, t, name.as_bytes(), ONE).agrees(&rust) && plain::look_up(v, t, name.as_bytes(), ONE).agrees(&rust));
+        assert!(ours::look_up(v, t, name.as_bytes(), TWO).agrees(&plain::look_up(v, t, name.as_bytes(), TWO)));
     }
+}
+
+/// What is sought in a piece, under a rule. Not inlined, so that both rules go through the same code.
+#[inline(never)]
+fn each(v: View, t: Table, part: &[&String], rule: u32, ask: &impl Fn(View, Table, &[u8], u32) -> u64) -> u64 {
+    part.iter().map(|sought| ask(v, t, sought.as_bytes(), rule)).sum()
+}
+
+/// Ours under rule two beside ours under rule one. What is not answered the same by both is left out: they would not read the same headers.
+fn rules(what: &str, turns: usize, v: View, t: Table, list: &[String], ask: impl Fn(View, Table, &[u8], u32) -> u64) {
+    let same = |sought: &&String| match sought.as_bytes() {
+        path if path.contains(&b'/') => ours::path(v, t, path, ONE) == ours::path(v, t, path, TWO),
+        name => ours::look_up(v, t, name, ONE) == ours::look_up(v, t, name, TWO),
+    };
+    let list: Vec<&String> = list.iter().filter(same).collect();
+    let parts: Vec<&[&String]> = list.chunks(PIECE).collect();
+    let mut one = |i: usize| each(v, t, parts[i], black_box(ONE), &ask);
+    let mut two = |i: usize| each(v, t, parts[i], black_box(TWO), &ask);
+    race(&format!("{what}, rule two to rule one"), turns, parts.len(), list.len(), &mut two, &mut one);
+}
+
+/// What is sought by a lookup or a path, beside the Rust, and then under rule two beside rule one.
+fn seek(what: &str, turns: usize, v: View, t: Table, list: &[String], ask: impl Fn(View, Table, &[u8], u32) -> u64) {
+    let parts: Vec<&[String]> = list.chunks(PIECE).collect();
+    let mut rust = |i: usize| parts[i].iter().map(|sought| theirs::fast_look_up(v, t, sought)).sum();
+    let mut mine = |i: usize| parts[i].iter().map(|sought| ask(v, t, sought.as_bytes(), ONE)).sum();
+    race(what, turns, parts.len(), list.len(), &mut mine, &mut rust);
+    rules(what, turns, v, t, list, ask);
+}
+
+/// Names that are not in a table, of the same lengths as those that are.
+fn missing(label: &str, turns: usize, list: &[String], other: &[String]) {
+    let (bytes, size) = written(list, false).unwrap_or_else(|| panic!("the Rust refuses {label}"));
+    let (v, t) = (View { bytes: &bytes, first: 33 }, Table { sector: 33, size });
+    for sought in other {
+        let said = ours::look_up(v, t, sought.as_bytes(), ONE);
+        assert!(said.agrees(&theirs::look_up(v, t, sought)) && matches!(said, Said::Refused { number: 22, .. }), "{label}: {sought:?}");
+    }
+    seek(&format!("{label}: lookup of missing names"), turns, v, t, other, ours::fast_look_up);
+}
+
+/// So deep: 16 directories in each, and 40 files in the last.
+fn folder(dice: &mut Dice, depth: usize) -> Folder {
+    if depth == 0 {
+        let files = names(dice, 40, "", 4..=8).into_iter().map(|name| (name, 1)).collect();
+        return Folder { files, folders: vec![] };
+    }
+    let folders = names(dice, 16, "", 4..=8).into_iter().map(|name| (name, folder(dice, depth - 1))).collect();
+    Folder { files: vec![], folders }
+}
+
+/// Files two directories deep in an image that the Rust wrote.
+fn three_parts(turns: usize, dice: &mut Dice) {
+    let label = "10240 files two directories deep, names of 4 to 8 bytes: path of three parts";
+    if !wanted(label) {
+        return;
+    }
+    let mut root = folder(dice, 2);
+    let mut paths: Vec<String> = root.paths().into_iter().filter(|path| path.matches('/').count() == 2).collect();
+    dice.shuffle(&mut paths);
+    paths.truncate(4_000);
+    let bytes = image(&mut root);
+    let t = theirs::read_descriptor(&bytes[65_536..]).expect("a volume").root;
+    let v = View { bytes: &bytes, first: 0 };
+    for path in &paths {
+        let (one, two) = (ours::path(v, t, path.as_bytes(), ONE).0, ours::path(v, t, path.as_bytes(), TWO).0);
+        let Said::Found { entry, .. } = theirs::path(v, t, path, t) else { panic!("the Rust does not find {path:?}") };
+        assert!(one == two && one == Said::Found { entry, headers: None }, "{path:?}");
+    }
+    seek(label, turns, v, t, &paths, ours::fast_path);
 }
 
 fn table(label: &str, turns: usize, list: &[String], order: &[String]) {
@@ -102,12 +175,8 @@ fn table(label: &str, turns: usize, list: &[String], order: &[String]) {
     let (v, t) = (View { bytes: &bytes, first: 33 }, Table { sector: 33, size });
     compare(v, t, list);
     let count = list.len();
-    let parts: Vec<&[String]> = order.chunks(PIECE).collect();
-    let mut rust = |i: usize| parts[i].iter().map(|name| theirs::fast_look_up(v, t, name)).sum();
-    let mut mine = |i: usize| parts[i].iter().map(|name| ours::fast_look_up(v, t, name.as_bytes())).sum();
-    race(&format!("{label}: lookup"), turns, parts.len(), count, &mut mine, &mut rust);
-    let mut mine = |i: usize| parts[i].iter().map(|name| ours::fast_path(v, t, name.as_bytes())).sum();
-    race(&format!("{label}: path of one part"), turns, parts.len(), count, &mut mine, &mut rust);
+    seek(&format!("{label}: lookup"), turns, v, t, order, ours::fast_look_up);
+    seek(&format!("{label}: path of one part"), turns, v, t, order, ours::fast_path);
     let (mut list, mut scratch) = (vec![0u32; count], vec![0u32; count + 1]);
     let mut stack = vec![0u64; count + 1];
     let mut rust = |_| theirs::fast_walk(v, t) as u64;
@@ -191,6 +260,12 @@ fn main() {
     }
     let list = names(&mut dice, 1, "", 4..=4);
     table("1 name of 4 bytes", turns, &list, &list);
+    let mut other = Dice(8);
+    for (label, front, lens) in [("4 to 8 bytes", "", 4..=8), ("26 bytes, 22 of them common", "track_of_the_main_ring", 4..=4)] {
+        let list = names(&mut other, 2_000, front, lens);
+        missing(&format!("1000 names of {label}"), turns, &list[..1_000], &list[1_000..]);
+    }
+    three_parts(turns, &mut other);
     for count in [100, 1_000, 8_000] {
         both_orders(&format!("{count} names of 4 to 8 bytes"), turns, &names(&mut dice, count, "", 4..=8));
     }

@@ -12,7 +12,10 @@ const PLACES: usize = 256;
 #[derive(Default)]
 struct Records {
     bytes: Vec<u8>,
-    counts: [usize; 7],
+    counts: [usize; 8],
+    /// Names in the records of names, and how many of them the Rust's lookup does not find.
+    names: usize,
+    lost: usize,
 }
 
 impl Records {
@@ -28,7 +31,7 @@ impl Records {
         self.bytes.extend((length as u16).to_le_bytes());
         self.bytes.push(kind);
         self.bytes.extend(body);
-        let at = b"tilpwdv".iter().position(|&k| k == kind).expect("a kind");
+        let at = b"tilpwdvn".iter().position(|&k| k == kind).expect("a kind");
         self.counts[at] += 1;
     }
 }
@@ -73,13 +76,13 @@ fn sought(records: &mut Records, kind: u8, v: View, t: Table, what: &str, number
 }
 
 fn look_up(records: &mut Records, v: View, t: Table, what: &str) {
-    if plain::look_up(v, t, what.as_bytes()) != Said::refused(25) {
+    if plain::look_up(v, t, what.as_bytes(), 1) != Said::refused(25) {
         sought(records, b'l', v, t, what, numbers(v, t, &theirs::look_up(v, t, what), true));
     }
 }
 
 fn path(records: &mut Records, v: View, t: Table, what: &str) {
-    let (said, last) = plain::path(v, t, what.as_bytes());
+    let (said, last) = plain::path(v, t, what.as_bytes(), 1);
     if said == Said::refused(25) {
         return;
     }
@@ -319,6 +322,60 @@ fn descriptors(records: &mut Records, dice: &mut Dice) {
     }
 }
 
+/// The names that the Rust's walk lists in a table that the Rust wrote, each with the entry and with the Rust's lookup of it; how many are lost to that.
+fn names_of(records: &mut Records, list: &[String], first: u32) {
+    let (bytes, size) = written(list, true).expect("a table");
+    let (v, t) = (View { bytes: &bytes[..size as usize], first }, Table { sector: first, size });
+    let listed = theirs::walked(v, t).expect("a walk of the Rust's own table");
+    let mut body = Vec::new();
+    put_view(&mut body, v, t);
+    put_short(&mut body, listed.len());
+    for (entry, name) in &listed {
+        let said = theirs::look_up(v, t, std::str::from_utf8(name).expect("an ASCII name"));
+        let (number, headers) = match said {
+            Said::Found { entry: found, headers } => {
+                assert_eq!(found, *entry);
+                (0, headers)
+            }
+            Said::Refused { number: 22, headers, .. } => (22, headers),
+            other => panic!("neither found nor 22: {other:?}"),
+        };
+        let mut row = numbers(v, t, &Said::Found { entry: *entry, headers }, true);
+        row[0] = number;
+        put(&mut body, &row);
+        records.lost += (number == 22) as usize;
+    }
+    records.names += listed.len();
+    body.extend(v.bytes);
+    records.push(b'n', &body);
+}
+
+/// Whether an entry of the table stands at 1,020 and has entries below it.
+fn has_more_below_1020(list: &[String]) -> bool {
+    let (bytes, size) = written(list, true).expect("a table");
+    let (v, t) = (View { bytes: &bytes, first: 0 }, Table { sector: 0, size });
+    let listed = theirs::walked(v, t).expect("a walk of the Rust's own table");
+    listed.iter().any(|(entry, _)| entry.byte == 1_020 && (entry.left, entry.right) != (0, 0))
+}
+
+/// Tables of a few names, of some dozens, and of so many that an entry stands at 1,020 with others below it.
+fn tables_of_names(records: &mut Records, dice: &mut Dice) {
+    for round in 0..24 {
+        let count = [dice.below(9), 20 + dice.below(40), 60 + dice.below(40)][round % 3];
+        let list = names(dice, count, "", 1..=8);
+        names_of(records, &list, [33, 0, dice.next() as u32 >> 1][dice.below(3)]);
+    }
+    let mut kept = 0;
+    while kept < 12 {
+        let count = 50 + dice.below(60);
+        let list = names(dice, count, "", 1..=8);
+        if has_more_below_1020(&list) {
+            names_of(records, &list, 33);
+            kept += 1;
+        }
+    }
+}
+
 fn main() {
     let words: Vec<String> = std::env::args().skip(1).collect();
     let [file, summary] = &words[..] else { panic!("record FILE SUMMARY") };
@@ -329,9 +386,12 @@ fn main() {
     images(&mut records, &mut dice);
     plans(&mut records, &mut Dice(2025));
     descriptors(&mut records, &mut Dice(2026));
-    let [tables, plans, lookups, paths, walks, written, read] = records.counts;
+    tables_of_names(&mut records, &mut Dice(2027));
+    let Records { counts: [tables, plans, lookups, paths, walks, written, read, of_names], names, lost, .. } = records;
     std::fs::write(file, &records.bytes).expect("the file");
     let first = format!("{tables} tables\n{plans} plans\n{lookups} lookups\n{paths} paths\n{walks} walks\n");
-    let text = format!("{first}{written} descriptors written\n{read} descriptors read\n0 differ\n");
-    std::fs::write(summary, text).expect("the summary");
+    let then = format!("{written} descriptors written\n{read} descriptors read\n");
+    let rules = format!("{} under no rule\n{names} names under both rules\n", lookups + paths);
+    std::fs::write(summary, format!("{first}{then}{rules}0 differ\n")).expect("the summary");
+    println!("{of_names} tables of names, {lost} of their names 22 under rule one, {} bytes", records.bytes.len());
 }

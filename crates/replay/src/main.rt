@@ -1,6 +1,7 @@
 // Replays answers that the Rust original gave, with no Rust at hand: each record of data/answers is a request and
-// the Rust's answer to it, and the front door is asked the same. Prints how many records there were of each kind,
-// and how many of them were answered otherwise.
+// the Rust's answer to it, and the front door is asked the same. Prints how many records there were of each kind, how
+// many requests were made under a number that is no rule, how many names were sought, and how many of all these were
+// answered otherwise.
 //
 // The file is made by oracle/record. It is a row of blocks of 65,536 bytes, the last one shorter; a block is a row
 // of records, and zeros fill it where no record fits. A record is its length in two bytes and then so many bytes,
@@ -11,7 +12,12 @@
 //         1 first sector of the window, 5 and 9 sector and size of the table, 13 length of what is sought (two
 //         bytes), 15 number of the answer, then of the entry 19 left, 23 right, 27 sector, 31 size, 35 attributes,
 //         39 length of the name, 43 place in the window; 47 offset, 51 headers read; 55 what is sought, and after
-//         it the window. A path's answer has no headers, and an offset only with 23 and 24.
+//         it the window. A path's answer has no headers, and an offset only with 23 and 24. The Rust has rule one
+//         alone; each is asked once more under a number that is no rule.
+//   n     the names of a table that the Rust wrote, as its walk lists them:
+//         1 first sector of the window, 5 and 9 sector and size of the table, 13 how many names (two bytes); 15 for
+//         each name the number of the Rust's lookup, 0 or 22, then the listed entry as in a lookup, its place, its
+//         offset, and the headers that the Rust's lookup read: forty bytes; after them the window.
 //   w     a walk:
 //         1 first sector, 5 and 9 sector and size of the table, 13 how many are listed (two bytes), 15 number, 19
 //         offset of a fault; 23 the offsets listed, and after them the window. The list has 256 places.
@@ -31,6 +37,7 @@
 //         1 sector and 5 size of the root, 9 stamp (eight bytes), 17 the descriptor's 2,048 bytes.
 //   v     a descriptor read:
 //         1 number, 5 sector and 9 size of the root, 13 stamp (eight bytes), 21 the bytes that are read.
+mod names; // recorded names of tables, under both rules
 mod plan; // recorded plans
 mod read; // recorded lookups, paths and walks
 mod record; // what stands at a place of a record
@@ -38,6 +45,7 @@ mod table; // recorded tables
 mod volume; // recorded descriptors
 
 use record::part;
+use record::rest;
 use record::short_at;
 
 // How many records of each kind were run, and how many differ.
@@ -49,6 +57,8 @@ struct Tally {
     walks: u32,
     written: u32,
     volumes: u32,
+    no_rule: u32,
+    names: u32,
     differ: u32,
 }
 
@@ -68,6 +78,27 @@ fn with(t: Tally, same: bool) -> Tally {
     u
 }
 
+// One request more under a number that is no rule.
+fn refused(t: Tally, same: bool) -> Tally {
+    let mut u = t;
+    u.no_rule = one_more(t.no_rule);
+    with(u, same)
+}
+
+// The names of a record.
+fn run_names(t: Tally, s: &[u8]) -> Tally {
+    let n = short_at(s, 13);
+    let w = rest(s, 15 + 40 * n);
+    let mut u = t;
+    let mut i = 0;
+    while i < n {
+        u.names = one_more(u.names);
+        u = with(u, names::same_name(s, w, i));
+        i += 1;
+    }
+    u
+}
+
 // One record more.
 fn run(t: Tally, s: &[u8]) -> Tally {
     let mut u = t;
@@ -84,11 +115,11 @@ fn run(t: Tally, s: &[u8]) -> Tally {
     }
     if s[0] == b'l' {
         u.lookups = one_more(t.lookups);
-        return with(u, read::same_lookup(s));
+        return refused(with(u, read::same_lookup(s)), read::refused_lookup(s));
     }
     if s[0] == b'p' {
         u.paths = one_more(t.paths);
-        return with(u, read::same_path(s));
+        return refused(with(u, read::same_path(s)), read::refused_path(s));
     }
     if s[0] == b'w' {
         u.walks = one_more(t.walks);
@@ -101,6 +132,9 @@ fn run(t: Tally, s: &[u8]) -> Tally {
     if s[0] == b'v' {
         u.volumes = one_more(t.volumes);
         return with(u, volume::same_read(s));
+    }
+    if s[0] == b'n' {
+        return run_names(u, s);
     }
     with(u, false)
 }
@@ -149,6 +183,8 @@ fn main() {
         walks: 0,
         written: 0,
         volumes: 0,
+        no_rule: 0,
+        names: 0,
         differ: 0,
     };
     let mut i: u32 = 0;
@@ -164,5 +200,7 @@ fn main() {
     show(t.walks, b" walks\n");
     show(t.written, b" descriptors written\n");
     show(t.volumes, b" descriptors read\n");
+    show(t.no_rule, b" under no rule\n");
+    show(t.names, b" names under both rules\n");
     show(t.differ, b" differ\n");
 }

@@ -2,6 +2,7 @@
 //! each difference that is not one of those listed, shrunk where it is a list's, and ends with exit status 1 where there is one.
 mod plans;
 mod reads;
+mod rules;
 mod tables;
 mod tally;
 
@@ -37,7 +38,16 @@ fn main() {
         println!("{what}: {how}: {count}");
         all += count;
     }
-    println!("{} tables written or refused, {} plans", tally.tables, tally.plans);
-    println!("{all} answers compared, {} of them with the Rust, {} differ", tally.asked, tally.wrong);
-    std::process::exit((tally.wrong > 0) as i32);
+    for ((what, how), count) in &tally.inputs {
+        println!("{what}: {how}: {count}");
+    }
+    let Tally { asked, two, no_rule, listed, two_alone, tables, plans, wrong, .. } = tally;
+    let first = all - two - no_rule - listed;
+    println!("{tables} tables written or refused, {plans} plans");
+    println!("{listed} entries that the Rust lists in its tables found under rule two, {two_alone} of them 22 under rule one, the others the same under both");
+    println!("{two} answers under rule two, {no_rule} under numbers that are no rule, all with the plain reader alone");
+    let alone = first - asked;
+    println!("{first} answers under rule one or of what has no rule, {asked} of them with the Rust, {alone} with the plain code alone");
+    println!("{all} answers compared, {wrong} differ");
+    std::process::exit((wrong > 0) as i32);
 }

@@ -1,39 +1,24 @@
 //! The readers on the same windows.
+use crate::rules::{self, ONE};
 use crate::tally::Tally;
 use bench::inputs::{damage, damage_descriptor, descriptor, image, name, names, noise, shortest_names, written, Dice, Folder};
 use bench::{ours, plain, theirs, Descriptor, Said, Table, View};
-
-fn kind(said: &Said) -> String {
-    match said {
-        Said::Found { .. } => "found".into(),
-        Said::Listed(_) => "listed".into(),
-        Said::Refused { number, .. } => format!("{number}"),
-        Said::Panicked => "panic".into(),
-    }
-}
 
 impl Tally {
     /// Ours, the Rust's (None where it is not asked), and the plain answer.
     fn judge(&mut self, what: &str, v: View, t: Table, asked: &[u8], a: Said, b: Option<Said>, c: Said) {
         self.asked += b.is_some() as u64;
         if a.agrees(&c) && b.as_ref().map_or(true, |b| a.agrees(b)) {
-            self.count(what, kind(&a) + if b.is_some() { "" } else { ", the Rust not asked" });
+            self.count(what, a.kind() + if b.is_some() { "" } else { ", the Rust not asked" });
             return;
         }
-        let shown = &v.bytes[..v.bytes.len().min(96)];
-        self.wrong(
-            what,
-            format!(
-                "{asked:?} first {} table {t:?} window of {} {shown:?}: ours {a:?}, the Rust {b:?}, plain {c:?}",
-                v.first,
-                v.bytes.len()
-            ),
-        );
+        self.wrong(what, self.text(v, t, asked, &format!("ours {a:?}, the Rust {b:?}, plain {c:?}")));
     }
 
     fn look_up(&mut self, what: &str, v: View, t: Table, sought: &str) {
-        let a = ours::look_up(v, t, sought.as_bytes());
-        let c = plain::look_up(v, t, sought.as_bytes());
+        self.look_up_by_others(what, v, t, sought.as_bytes());
+        let a = ours::look_up(v, t, sought.as_bytes(), ONE);
+        let c = plain::look_up(v, t, sought.as_bytes(), ONE);
         if c == Said::refused(25) {
             self.judge(what, v, t, sought.as_bytes(), a, None, c); // the Rust would never return
             return;
@@ -43,14 +28,9 @@ impl Tally {
     }
 
     fn path(&mut self, what: &str, v: View, t: Table, sought: &str) {
-        let (a, offset) = ours::path(v, t, sought.as_bytes());
-        let (c, last) = plain::path(v, t, sought.as_bytes());
-        let a = match a {
-            Said::Refused { number, .. } if number == 23 || number == 24 => {
-                Said::Refused { number, byte: Some(2048 * last.sector as u64 + offset as u64), headers: None }
-            }
-            other => other,
-        };
+        self.path_by_others(what, v, t, sought.as_bytes());
+        let (c, last) = plain::path(v, t, sought.as_bytes(), ONE);
+        let a = placed(ours::path(v, t, sought.as_bytes(), ONE), last);
         if c == Said::refused(25) {
             self.judge(what, v, t, sought.as_bytes(), a, None, c);
             return;
@@ -99,6 +79,16 @@ fn without_count(said: Said) -> Said {
     }
 }
 
+/// A path's answer; 23 and 24 with the byte of the image, which lies in the table that the path ended in.
+pub fn placed((said, offset): (Said, u32), last: Table) -> Said {
+    match said {
+        Said::Refused { number, .. } if number == 23 || number == 24 => {
+            Said::Refused { number, byte: Some(2048 * last.sector as u64 + offset as u64), headers: None }
+        }
+        other => other,
+    }
+}
+
 /// Every name, in either case, and names near them.
 fn near(dice: &mut Dice, list: &[String], most: usize) -> Vec<String> {
     let mut sought = Vec::new();
@@ -137,6 +127,7 @@ fn written_tables(tally: &mut Tally, dice: &mut Dice, rounds: usize) {
         for sought in near(dice, &list, 20) {
             tally.look_up("written table, lookup", v, t, &sought);
         }
+        tally.listed_names("written table", v, t);
         tally.walk("written table, walk", v, t, 20_000);
         for offset in 0..size.min(300) {
             if offset % 4 == 0 {
@@ -148,6 +139,7 @@ fn written_tables(tally: &mut Tally, dice: &mut Dice, rounds: usize) {
     let (bytes, size) = written(&list, false).expect("15,000 names");
     let (v, t) = (View { bytes: &bytes, first: 33 }, Table { sector: 33, size });
     list.iter().for_each(|sought| tally.look_up("written table, lookup", v, t, sought));
+    tally.listed_names("written table", v, t);
     tally.walk("written table, walk", v, t, 20_000);
 }
 
@@ -156,6 +148,7 @@ fn damaged_tables(tally: &mut Tally, dice: &mut Dice, rounds: usize) {
         let count = 1 + dice.below(60);
         let list = names(dice, count, "", 1..=5);
         let (mut bytes, mut size) = written(&list, true).expect("a table");
+        tally.listed_names("table before it is damaged", View { bytes: &bytes, first: 33 }, Table { sector: 33, size });
         damage(dice, &mut bytes, size);
         if dice.below(4) == 0 {
             bytes.truncate(dice.below(size as usize + 30));
@@ -296,6 +289,7 @@ fn images(tally: &mut Tally, dice: &mut Dice, rounds: usize) {
         let first = [0, 32][round % 2];
         let Some(Descriptor { root: t, stamp: 0 }) = theirs::read_descriptor(&bytes[65_536..]) else { panic!("a volume with no date") };
         assert_eq!(ours::read_descriptor(&bytes[65_536..]), Some(Descriptor { root: t, stamp: 0 }));
+        tally.listed_paths("image", View { bytes: &bytes, first: 0 }, t);
         if round % 3 == 2 {
             damage(dice, &mut bytes[2048 * t.sector as usize..], t.size);
         }
@@ -362,7 +356,7 @@ fn high_bytes(tally: &mut Tally, dice: &mut Dice) {
     let (bytes, size) = written(&list, false).expect("a table");
     let (v, t) = (View { bytes: &bytes, first: 33 }, Table { sector: 33, size });
     for sought in ["é", "a\u{80}", "\u{ff}b", "€"] {
-        for said in [ours::look_up(v, t, sought.as_bytes()), ours::path(v, t, sought.as_bytes()).0] {
+        for said in [ours::look_up(v, t, sought.as_bytes(), ONE), ours::path(v, t, sought.as_bytes(), ONE).0] {
             if said != Said::refused(2) {
                 tally.wrong("high byte", format!("{said:?}"));
             }
@@ -372,6 +366,7 @@ fn high_bytes(tally: &mut Tally, dice: &mut Dice) {
 }
 
 pub fn all(tally: &mut Tally, dice: &mut Dice, rounds: usize) {
+    rules::all(tally, &mut Dice(dice.0.wrapping_add(1)), rounds);
     written_tables(tally, dice, 300 * rounds);
     damaged_tables(tally, dice, 20_000 * rounds);
     random_windows(tally, dice, 100_000 * rounds);

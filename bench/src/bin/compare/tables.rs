@@ -1,4 +1,5 @@
 //! The writers on the same lists. Ours and the plain one have to be the same in everything; the Rust is asked where it can be, and the same but where docs/DIFFERENCES.md says so.
+use crate::rules::{each_listed, Found};
 use crate::tally::Tally;
 use bench::inputs::Dice;
 use bench::lists::{every_order, list_about, list_near_end, list_near_top, long_lists, random_list, small_lists};
@@ -13,6 +14,8 @@ struct Seen {
     size: u32,
     /// An entry stands at 1,020, where its link is 255.
     at_1020: bool,
+    /// What the readers find of a table that the Rust wrote.
+    found: Found,
 }
 
 fn short(wrote: &Wrote) -> String {
@@ -70,6 +73,11 @@ fn answers(job: &Job, turns: bool) -> Result<Seen, String> {
     let plain = plain::add_in_turn(&wide);
     let asked = job.first >= 33;
     let mut how = if asked { against_rust(&wide, &plain)? } else { ", the Rust not asked".into() };
+    // The Rust's bytes: against_rust has found them to be these.
+    let found = match &plain.end {
+        Wrote::Done { size, bytes, .. } if asked => each_listed(View { bytes, first: 0 }, Table { sector: 0, size: *size })?,
+        _ => Found::default(),
+    };
     let (want, whole) = (plain::whole(&plain), ours::whole(job, None));
     if want != whole {
         return Err(format!("one call: ours {}, plain {}", cut(&whole), cut(&want)));
@@ -94,7 +102,7 @@ fn answers(job: &Job, turns: bool) -> Result<Seen, String> {
         Wrote::Done { size, bytes, .. } => (*size, *size < 10_000 && stands_at(bytes, *size, 1_020)),
         Wrote::Refused { .. } => (0, false),
     };
-    Ok(Seen { how: short(&want) + &how, asked, turns, size, at_1020 })
+    Ok(Seen { how: short(&want) + &how, asked, turns, size, at_1020, found })
 }
 
 /// What is wrong with a job's answers. A panic on our side is a difference too: the harness looks at lent memory by assertions.
@@ -150,12 +158,13 @@ impl Tally {
                 self.count(what, seen.how);
                 self.asked += seen.asked as u64;
                 self.tables += 1 + seen.turns as u64;
+                self.listed("table of a list", Ok(seen.found));
                 if seen.at_1020 {
-                    self.count("tables with an entry", "at 1,020".into());
+                    self.input("tables with an entry", "at 1,020");
                 }
                 for (name, low, high) in [("2,032 to 2,048", 2_032, 2_048), ("262,128 to 262,160", 262_128, 262_160)] {
                     if (low..=high).contains(&seen.size) {
-                        self.count("tables of a size of", name.into());
+                        self.input("tables of a size of", name);
                     }
                 }
             }
