@@ -7,19 +7,20 @@
 -- found-listed and unlisted are of both rules. found-listed-by, listed-found-by, unlisted-by and found-again-by say the same of every set of absent links.
 use Prim.Native.Nat.{ℕ, _+_, _≤_, _<_}
 use mathlib.Core.Path.{_≡_, refl, sym, ap, _∙_}
-use mathlib.Core.Bool.{Bool, true, false}
+use mathlib.Core.Bool.{true, false}
 use mathlib.Core.Logic.{inl, inr}
 use mathlib.Core.List.{List, [], _∷_, map, List·Memᴰ}
 use native.Mathlib.Omega.{arith}
 use mathlib.Core.Option.{some}
 use lib.ListN.{length}
-use Rattle.units.specs.Told.{Told, gives, refuses, pick}
+use Rattle.units.specs.Told.{Told, gives, refuses}
 use Rattle.units.specs.declared.Sector.{Sector}
 use Rattle.units.specs.declared.Region.{Region}
 use Rattle.name_role.specs.Roles.{badSought}
 use Rattle.read_entry.specs.Links.{isIn, oneAbsent, walkAbsent, absentUnder}
 use Rattle.read_lookup.specs.Lookup.{Finding, lookupBy, lookupOf}
-use Rattle.read_lookup.proofs.Rules.{under, rule-one, rule-two}
+use Rattle.read_lookup.proofs.Rules.{lookup-by-rule}
+use Rattle.read_lookup.proofs.Laws.{let-through}
 use Rattle.lookup_way.specs.Along.{Real, Clear, Cut}
 use Rattle.lookup_way.proofs.Along.{along-clear, along-absent, clear-or-cut}
 use Rattle.lookup_way.proofs.Sets.{one-0, walk-0, rule-0, without-255, with-255, walk-clear}
@@ -59,18 +60,9 @@ module _ (place : ℕ) (xs : List Item) (name : List ℕ) where
   sound-missing a (found y c m q k) f = absurd (f y m q)
   sound-missing a (missing c k) f = (c, k, refl)
 
--- what is found has a name of ASCII bytes
-not-2 : (b : Bool) (x : Told Finding) (a : Finding) → pick b (refuses 2 []) x ≡ gives a → b ≡ false
-not-2 true x a e = let z : _≡_ {A = ℕ} 0 1 = cc in absurd (omega arith)
-not-2 false x a e = refl
-
-found-ascii : (absent w : List ℕ) (first : Sector) (t : Region) (name : List ℕ) (a : Finding) → lookupBy absent w first t name ≡ gives a → badSought name ≡ false
-unfolding lookupBy
-found-ascii absent w first t name a e = not-2 (badSought name) _ a e
-
--- what is found is not 22
-given-not-22 : {x : Told Finding} {a : Finding} {c : ℕ} → x ≡ gives a → x ≡ refuses 22 (c ∷ []) → _≡_ {A = ℕ} 0 1
-given-not-22 e f = cc
+-- what is given is not refused
+pub given-not-refused : {A : Type 0} {x : Told A} {a : A} {k : ℕ} {vs : List ℕ} → x ≡ gives a → x ≡ refuses k vs → ⊥
+given-not-refused e f = let z : _≡_ {A = ℕ} 0 1 = cc in omega arith
 
 -- EVERY SET OF ABSENT LINKS: where reading agrees with the items, and for a name of ASCII bytes
 module _ (w : List ℕ) (first : Sector) (t : Region) (place : ℕ) (xs : List Item) (all : Agreement w first t place xs) (absent name : List ℕ) (ascii : badSought name ≡ false) where
@@ -96,7 +88,7 @@ module _ (w : List ℕ) (first : Sector) (t : Region) (place : ℕ) (xs : List I
 pub found-again-by : (w : List ℕ) (first : Sector) (t : Region) (place : ℕ) (xs : List Item) → Agreement w first t place xs → (absent other : List ℕ) → isIn 0 absent ≡ true
     → ((ks : List ℕ) → Real ks → Clear other ks) → (name : List ℕ) (a : Finding) → lookupBy absent w first t name ≡ gives a → lookupBy other w first t name ≡ gives a
 found-again-by w first t place xs all absent other none clear name a e =
-    let ascii : badSought name ≡ false = found-ascii absent w first t name a e in
+    let ascii : badSought name ≡ false = let-through absent w first t name (gives a) e (λ q. omega arith) in
     let l = found-listed-by w first t place xs all absent name ascii none a e in
     let y : Item = l .item in
     let r = of-item (Reached w first t place xs) xs y (all .reached) (l .among) in
@@ -106,9 +98,7 @@ found-again-by w first t place xs all absent other none clear name a e =
       | inl f ↦
           at-other ∙ along-clear other (placedAt place y) (y .offset) 1 (r .links) (clear (r .links) (r .real))
           ∙ sym (at-absent ∙ along-clear absent (placedAt place y) (y .offset) 1 (r .links) f) ∙ e
-      | inr f ↦
-          let z : _≡_ {A = ℕ} 0 1 = given-not-22 e (at-absent ∙ along-absent absent (placedAt place y) (y .offset) 1 (r .links) f .1) in
-          absurd (omega arith)
+      | inr f ↦ absurd (given-not-refused e (at-absent ∙ along-absent absent (placedAt place y) (y .offset) 1 (r .links) f .1))
     ]
 
 -- THE TWO RULES, of a written table, in a window where it stands
@@ -121,19 +111,19 @@ module _ (entry : ℕ → Entry) (align s : ℕ) (x : Tree) (w : List ℕ) (firs
 
   pub one-then-two : (name : List ℕ) (a : Finding) → lookupOf 1 w first t name ≡ gives a → lookupOf 2 w first t name ≡ gives a
   one-then-two name a e =
-      rule-two w first t name ∙ found-again-by w first t (g .stand .place) xs all oneAbsent walkAbsent one-0 walk-clear name a (sym (rule-one w first t name) ∙ e)
+      lookup-by-rule w first t name .rule-two ∙ found-again-by w first t (g .stand .place) xs all oneAbsent walkAbsent one-0 walk-clear name a (sym (lookup-by-rule w first t name .rule-one) ∙ e)
 
   module _ (name : List ℕ) (ascii : badSought name ≡ false) where
     pub found-listed : (rule : ℕ) (absent : List ℕ) → absentUnder rule ≡ some absent → (a : Finding) → lookupOf rule w first t name ≡ gives a → Listed xs (g .stand .place) name a
     found-listed rule absent e a f =
-        found-listed-by w first t (g .stand .place) xs all absent name ascii (rule-0 rule absent e) a (sym (under w first t name rule absent e) ∙ f)
+        found-listed-by w first t (g .stand .place) xs all absent name ascii (rule-0 rule absent e) a (sym (lookup-by-rule w first t name .under rule absent e) ∙ f)
 
     pub listed-found : (y : Item) → List·Memᴰ y xs → Same name (y .entry .name) → (r : Reached w first t (g .stand .place) xs y)
         × ((List·Memᴰ 255 (r .links) → ⊥)
         → lookupOf 1 w first t name ≡ gives (record { entry = placedAt (g .stand .place) y; offset = y .offset; headers = 1 + length (r .links) }))
         × (List·Memᴰ 255 (r .links) → (c : ℕ) × (lookupOf 1 w first t name ≡ refuses 22 (c ∷ [])))
     listed-found y m e =
-        let one = rule-one w first t name in
+        let one = lookup-by-rule w first t name .rule-one in
         let f = listed-found-by w first t (g .stand .place) xs all oneAbsent name ascii y m e in (
           f .0,
           (λ n. one ∙ f .1 (without-255 (f .0 .links) (f .0 .real) n)),
@@ -146,10 +136,10 @@ module _ (entry : ℕ → Entry) (align s : ℕ) (x : Tree) (w : List ℕ) (firs
         let f = listed-found-by w first t (g .stand .place) xs all walkAbsent name ascii y m e in
         let found = f .1 (walk-clear (f .0 .links) (f .0 .real)) in
         let l = found-listed-by w first t (g .stand .place) xs all walkAbsent name ascii walk-0 _ found in
-        (1 + length (f .0 .links), l .headers, rule-two w first t name ∙ found)
+        (1 + length (f .0 .links), l .headers, lookup-by-rule w first t name .rule-two ∙ found)
 
     pub unlisted : (rule : ℕ) (absent : List ℕ) → absentUnder rule ≡ some absent → ((y : Item) → List·Memᴰ y xs → Same name (y .entry .name) → ⊥)
         → (c : ℕ) × (c ≤ mostHeaders) × (lookupOf rule w first t name ≡ refuses 22 (c ∷ []))
     unlisted rule absent e f =
         let u = unlisted-by w first t (g .stand .place) xs all absent name ascii (rule-0 rule absent e) f in
-        (u .0, u .1, under w first t name rule absent e ∙ u .2)
+        (u .0, u .1, lookup-by-rule w first t name .under rule absent e ∙ u .2)

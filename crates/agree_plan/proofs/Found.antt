@@ -22,7 +22,7 @@ use Rattle.read_entry.specs.Links.{oneAbsent, walkAbsent}
 use Rattle.read_lookup.specs.Lookup.{Finding, lookupBy}
 use Rattle.read_path.specs.Path as path
 use Rattle.read_path.specs.Path.{lastOf, turnOf, onward, partsFrom, pathBy, pathOf}
-use Rattle.read_path.proofs.Rules.{rule-one, rule-two}
+use Rattle.read_path.proofs.Rules.{path-by-rule}
 use Rattle.lookup_way.specs.Along.{Along, Real, Clear, Cut}
 use Rattle.lookup_way.proofs.Along.{along-clear, along-absent, clear-or-cut}
 use Rattle.lookup_way.proofs.Sets.{without-255, with-255, walk-clear}
@@ -327,9 +327,9 @@ module _ (R : Request) (places : ℕ) (tables sectors : List ℕ) (p : Plan) (w 
       × (pathOf 2 w first (rootOf p) (joined cs) ≡ gives (placedAt (f .place) (f .item)))
   path-found e j cs l =
       let f = path-finds-by e j cs l in
-      let one = rule-one w first (rootOf p) (joined cs) in (
+      let one = path-by-rule w first (rootOf p) (joined cs) .rule-one in (
         f,
         (λ n. one ∙ f .found oneAbsent (without-255 (f .links) (f .real) n)),
         (λ m. one ∙ f .lost oneAbsent (with-255 (f .links) m)),
-        rule-two w first (rootOf p) (joined cs) ∙ f .found walkAbsent (walk-clear (f .links) (f .real)),
+        path-by-rule w first (rootOf p) (joined cs) .rule-two ∙ f .found walkAbsent (walk-clear (f .links) (f .real)),
       )

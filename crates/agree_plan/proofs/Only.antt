@@ -19,7 +19,7 @@ use Rattle.read_entry.specs.Links.{isIn, oneAbsent, walkAbsent, absentUnder}
 use Rattle.read_lookup.specs.Lookup.{Finding, lookupBy}
 use Rattle.read_path.specs.Path.{lastOf, turnOf, onward, partsFrom, pathBy, pathOf}
 use Rattle.read_path.specs.Path as path
-use Rattle.read_path.proofs.Rules.{under, rule-one, rule-two}
+use Rattle.read_path.proofs.Rules.{path-by-rule}
 use Rattle.lookup_way.specs.Along.{Real, Clear}
 use Rattle.lookup_way.proofs.Along.{clear-or-cut}
 use Rattle.lookup_way.proofs.Sets.{one-0, rule-0, walk-clear}
@@ -31,6 +31,7 @@ use Rattle.img_model.proofs.Rule.{some-directory, names-one}
 use Rattle.agree.specs.Agreement.{placedAt, Same, mostHeaders}
 use Rattle.agree.specs.Agreement as agreement
 use Rattle.agree.specs.Given.{times}
+use Rattle.agree.proofs.Plain.{given-not-refused}
 use Rattle.agree_plan.specs.Planned.{itemsAt, sectorAt}
 use Rattle.agree_plan.specs.Image.{Imaged, rootOf, RegionFor, PathPart, joined, Leads, last, into, regionOf, Only, finds, misses, meets, AllParts}
 use Rattle.agree_plan.proofs.Tables.{rule-kept}
@@ -69,10 +70,6 @@ numbered entry sector (x ∷ xs) (j ∷ is) a b y m =
 file-kind : (b : Bool) → b ≡ false → attributes (pick b Directory File) ≡ 32
 file-kind true e = let z : _≡_ {A = ℕ} 0 1 = cc in absurd (omega arith)
 file-kind false e = refl
-
--- what is found is not 22
-given-not-22 : {a : Told Placed} {x : Placed} → a ≡ gives x → a ≡ refuses 22 [] → _≡_ {A = ℕ} 0 1
-given-not-22 e f = cc
 
 -- no parts lead nowhere
 no-parts : {R : Request} {p : Plan} {d e j : ℕ} (cs : List (List ℕ)) → Leads R p d cs e j → cs ≡ [] → ⊥
@@ -171,7 +168,7 @@ module _ (R : Request) (places : ℕ) (tables sectors : List ℕ) (p : Plan) (w 
   -- any path of these parts, from the root, under a rule
   pub path-only : (rule : ℕ) (absent : List ℕ) → absentUnder rule ≡ some absent → Only R p first 0 cs (pathOf rule w first (rootOf p) (joined cs))
   path-only rule absent e =
-      subst (Only R p first 0 cs) (sym (under w first (rootOf p) (joined cs) rule absent e)) (path-only-by R places tables sectors p w first I absent (rule-0 rule absent e) cs ps)
+      subst (Only R p first 0 cs) (sym (path-by-rule w first (rootOf p) (joined cs) .under rule absent e)) (path-only-by R places tables sectors p w first I absent (rule-0 rule absent e) cs ps)
 
   -- what is found with one set of absent links is found the same with another, of which no link on a way is
   found-again-by : (absent other : List ℕ) → ((ks : List ℕ) → Real ks → Clear other ks) → (a : Told Placed) → Only R p first 0 cs a → (x : Placed) → a ≡ gives x
@@ -180,7 +177,7 @@ module _ (R : Request) (places : ℕ) (tables sectors : List ℕ) (p : Plan) (w 
       let f = path-finds-by R places tables sectors p w first I e j cs leads in
       elim (clear-or-cut absent (f .links)) [
         | inl c ↦ f .found other (clear (f .links) (f .real)) ∙ sym (f .found absent c) ∙ found
-        | inr c ↦ let z : _≡_ {A = ℕ} 0 1 = given-not-22 found (f .lost absent c) in absurd (omega arith)
+        | inr c ↦ absurd (given-not-refused found (f .lost absent c))
       ]
   found-again-by absent other clear a misses x q found = let z : _≡_ {A = ℕ} 0 1 = cc in absurd (omega arith)
   found-again-by absent other clear a (meets e j front b bs is leads file) x q found = let z : _≡_ {A = ℕ} 0 1 = cc in absurd (omega arith)
@@ -188,6 +185,6 @@ module _ (R : Request) (places : ℕ) (tables sectors : List ℕ) (p : Plan) (w 
   -- what is found under rule one is found the same under rule two
   pub path-one-then-two : (x : Placed) → pathOf 1 w first (rootOf p) (joined cs) ≡ gives x → pathOf 2 w first (rootOf p) (joined cs) ≡ gives x
   path-one-then-two x e =
-      let found : pathBy oneAbsent w first (rootOf p) (joined cs) ≡ gives x = sym (rule-one w first (rootOf p) (joined cs)) ∙ e in
-      rule-two w first (rootOf p) (joined cs)
+      let found : pathBy oneAbsent w first (rootOf p) (joined cs) ≡ gives x = sym (path-by-rule w first (rootOf p) (joined cs) .rule-one) ∙ e in
+      path-by-rule w first (rootOf p) (joined cs) .rule-two
       ∙ found-again-by oneAbsent walkAbsent walk-clear (pathBy oneAbsent w first (rootOf p) (joined cs)) (path-only-by R places tables sectors p w first I oneAbsent one-0 cs ps) x found found

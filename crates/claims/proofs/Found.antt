@@ -9,7 +9,7 @@ use Rattle.units.specs.declared.Sector.{Sector}
 use Rattle.units.specs.declared.Region.{Region}
 use mathlib.Core.Option.{some}
 use Rattle.read_entry.specs.Links.{oneAbsent, walkAbsent}
-use Rattle.read_lookup.proofs.Rules.{under, rule-one, rule-two}
+use Rattle.read_lookup.proofs.Rules.{lookup-by-rule}
 use Rattle.read_walk.specs.Walk as walking
 use Rattle.strict_rule.specs.Strict as checking
 use Rattle.strict_rule.specs.Strict.{strictOf}
@@ -47,13 +47,13 @@ module _ (w : List ℕ) (first : Sector) (t : Region) (place : ℕ) where
     real = r .real;
     one-way = λ ks k q. a .one-way (y .offset) ks (r .links) k q (r .way) (r .real);
     found-one = λ none name low same.
-        rule-one w first t name ∙ r .answers oneAbsent name low same ∙ along-clear oneAbsent (placedAt place y) (y .offset) 1 (r .links) (without-255 (r .links) (r .real) none);
+        lookup-by-rule w first t name .rule-one ∙ r .answers oneAbsent name low same ∙ along-clear oneAbsent (placedAt place y) (y .offset) 1 (r .links) (without-255 (r .links) (r .real) none);
     lost-one = λ some name low same.
         let b = along-absent oneAbsent (placedAt place y) (y .offset) 1 (r .links) (with-255 (r .links) some) in
-        (b .0, rule-one w first t name ∙ r .answers oneAbsent name low same ∙ b .1);
+        (b .0, lookup-by-rule w first t name .rule-one ∙ r .answers oneAbsent name low same ∙ b .1);
     found-two = λ name low same.
         let f = r .answers walkAbsent name low same ∙ along-clear walkAbsent (placedAt place y) (y .offset) 1 (r .links) (walk-clear (r .links) (r .real)) in
-        (rule-two w first t name ∙ f, found-listed-by w first t place xs a walkAbsent name low walk-0 _ f .headers);
+        (lookup-by-rule w first t name .rule-two ∙ f, found-listed-by w first t place xs a walkAbsent name low walk-0 _ f .headers);
   }
 
   -- what the agreement of a table, its entries and the strict check give
@@ -72,8 +72,8 @@ module _ (w : List ℕ) (first : Sector) (t : Region) (place : ℕ) where
             (walk-lists w first t list (length scratch) l (offsets xs) (a .listed (length list) (omega arith)));
         read = λ y m. of-item (ReadBack w first t place) xs y (a .read) m;
         found = λ y m. found-by-name xs y a (of-item (Reached w first t place xs) xs y (a .reached) m);
-        only = λ rule absent e name low. subst (Sound place xs 19 name) (sym (under w first t name rule absent e)) (a .sound absent (rule-0 rule absent e) name low);
-        same = λ name x f. rule-two w first t name ∙ found-again-by w first t place xs a oneAbsent walkAbsent one-0 walk-clear name x (sym (rule-one w first t name) ∙ f);
+        only = λ rule absent e name low. subst (Sound place xs 19 name) (sym (lookup-by-rule w first t name .under rule absent e)) (a .sound absent (rule-0 rule absent e) name low);
+        same = λ name x f. lookup-by-rule w first t name .rule-two ∙ found-again-by w first t place xs a oneAbsent walkAbsent one-0 walk-clear name x (sym (lookup-by-rule w first t name .rule-one) ∙ f);
         accepted = λ list scratch h l.
             subst (λ (k : ℕ). (checking.strictAnswer w first t (length list) (length scratch) ≡ gives k)
             × (checking.listAfter w first t list (length scratch) ≡ offsets xs ++ replicate (length list - k) 0)) same

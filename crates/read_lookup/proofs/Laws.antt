@@ -4,14 +4,14 @@
 --     found-stands                      an entry that is given stands at its offset, and its name is the one sought
 --     count-is-length                   a count is the length of the chain
 use Prim.Native.Nat.{ℕ, _+_, _*_, _<_}
-use mathlib.Core.Path.{_≡_, refl, ap, subst}
+use mathlib.Core.Path.{_≡_, refl, sym, ap, subst}
 use mathlib.Core.Bool.{Bool, true, false}
 use mathlib.Core.List.{List, [], _∷_}
 use mathlib.Core.Option.{Option, some, none}
 use native.Mathlib.Omega.{arith}
 use borrow.Author.Tests.{ne-eqb}
 use lib.Dec.{eqb}
-use Rattle.units.specs.Told.{Told, gives, refuses, pick}
+use Rattle.units.specs.Told.{Told, gives, refuses, numberOf, pick}
 use Rattle.units.specs.declared.Sector.{Sector}
 use Rattle.units.specs.declared.Region.{Region}
 use Rattle.layout_name.specs.declared.Order.{Order}
@@ -80,6 +80,15 @@ module _ (absent w : List ℕ) (first : Sector) (t : Region) (name : List ℕ) w
   step-found : (o : ℕ) (z : Placed) → stepAt absent w first t name o ≡ found z → (readAt w first t o ≡ gives (some z)) × Named w name z
   unfolding stepAt
   step-found o z e = read-found (readAt w first t o) z e
+
+  other-than-2 : (b : Bool) (x y : Told Finding) → pick b (refuses 2 []) x ≡ y → (numberOf y ≡ 2 → ⊥) → b ≡ false
+  other-than-2 true x y e f = absurd (f (ap numberOf (sym e)))
+  other-than-2 false x y e f = refl
+
+  -- a name that is not answered 2 can be sought
+  pub let-through : (y : Told Finding) → lookupBy absent w first t name ≡ y → (numberOf y ≡ 2 → ⊥) → badSought name ≡ false
+  unfolding lookupBy
+  let-through y e f = other-than-2 (badSought name) _ y e f
 
   given-by-chain : (a b : Bool) (r : Told Finding) (x : Finding) → pick a (refuses 2 []) (pick b (refuses 21 []) r) ≡ gives x → r ≡ gives x
   given-by-chain true b r x e = let z : _≡_ {A = ℕ} 0 1 = cc in absurd (omega arith)

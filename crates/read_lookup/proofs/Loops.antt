@@ -13,7 +13,7 @@ use Rattle.read_entry.specs.Entry.{readHere, readAt, nameOf}
 use Rattle.read_entry.specs.Links.{isIn, oneAbsent}
 use Rattle.read_lookup.specs.Lookup.{byLink, stepAt}
 use Rattle.read_lookup.specs.Chain.{offsetFrom, ReadsAgain}
-use Rattle.read_lookup.proofs.Rules.{rule-one}
+use Rattle.read_lookup.proofs.Rules.{lookup-by-rule}
 use Rattle.read_lookup.proofs.Laws.{again-looped}
 use Rattle.read_lookup.proofs.Cases.{file, first, of-size, look}
 
@@ -26,7 +26,7 @@ unfolding offsetFrom stepAt byLink isIn readAt locateOf readHere headerOf all is
 itself-again = record { first = 1; second = 2; later = omega arith; offset = 16; at-first = refl; at-second = refl }
 
 pub itself-looped : look itself 32 (122 ∷ []) ≡ refuses 25 []
-itself-looped = rule-one itself first (of-size 32) (122 ∷ []) ∙ again-looped oneAbsent itself first (of-size 32) (122 ∷ []) (unfold badSought in refl) (λ e. omega arith) itself-again
+itself-looped = lookup-by-rule itself first (of-size 32) (122 ∷ []) .rule-one ∙ again-looped oneAbsent itself first (of-size 32) (122 ∷ []) (unfold badSought in refl) (λ e. omega arith) itself-again
 
 -- two entries that point at each other
 abbrev each-other : List ℕ
@@ -37,4 +37,4 @@ unfolding offsetFrom stepAt byLink isIn readAt locateOf readHere headerOf all is
 each-other-again = record { first = 1; second = 3; later = omega arith; offset = 16; at-first = refl; at-second = refl }
 
 pub each-other-looped : look each-other 48 (122 ∷ []) ≡ refuses 25 []
-each-other-looped = rule-one each-other first (of-size 48) (122 ∷ []) ∙ again-looped oneAbsent each-other first (of-size 48) (122 ∷ []) (unfold badSought in refl) (λ e. omega arith) each-other-again
+each-other-looped = lookup-by-rule each-other first (of-size 48) (122 ∷ []) .rule-one ∙ again-looped oneAbsent each-other first (of-size 48) (122 ∷ []) (unfold badSought in refl) (λ e. omega arith) each-other-again

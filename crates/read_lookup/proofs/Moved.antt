@@ -136,26 +136,6 @@ module _ (absent w : List ℕ) (first : Sector) (t : Region) (name part : List �
     whole : movedAnswer base (told r) ≡ lookupBy absent w first t name
     whole = rw (looked-in, base-is) (sym (lookup-moved absent w first t name f (record { sector = s; size = t .size }) f-is s-is refl part is-part))
 
-    pub found-there : (h : Header) (p : ℕ) (o : Offset) (n : ℕ) → r ≡ looked.Found h p o n → (q : ℕ) → q ≡ base + p → told (looked.Found h q o n) ≡ lookupBy absent w first t name
-    found-there h p o n e q d = rw d (rw e at whole)
-
-    pub bad-rule : r ≡ looked.BadRule → told looked.BadRule ≡ lookupBy absent w first t name
-    bad-rule e = rw e at whole
-
-    pub bad-byte : r ≡ looked.BadByte → told looked.BadByte ≡ lookupBy absent w first t name
-    bad-byte e = rw e at whole
-
-    pub empty-there : r ≡ looked.DirectoryEmpty → told looked.DirectoryEmpty ≡ lookupBy absent w first t name
-    empty-there e = rw e at whole
-
-    pub not-there : (n : ℕ) → r ≡ looked.DoesNotExist n → told (looked.DoesNotExist n) ≡ lookupBy absent w first t name
-    not-there n e = rw e at whole
-
-    pub out-there : (o : Offset) → r ≡ looked.OutOfBounds o → told (looked.OutOfBounds o) ≡ lookupBy absent w first t name
-    out-there o e = rw e at whole
-
-    pub cut-there : (o : Offset) → r ≡ looked.Truncated o → told (looked.Truncated o) ≡ lookupBy absent w first t name
-    cut-there o e = rw e at whole
-
-    pub looped-there : r ≡ looked.Looped → told looked.Looped ≡ lookupBy absent w first t name
-    looped-there e = rw e at whole
+    -- each answer in the part is that for the window, with the place of what is found counted from the part's start
+    pub there : (q : Looked) → r ≡ q → movedAnswer base (told q) ≡ lookupBy absent w first t name
+    there q e = rw e at whole

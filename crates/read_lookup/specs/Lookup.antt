@@ -13,7 +13,7 @@ use Rattle.layout_name.specs.declared.Order.{Order}
 use Rattle.layout_name.specs.declared.Order.the-variants.{Less, Equal, Greater}
 use Rattle.name_role.specs.Roles.{soughtOrder, badSought}
 use Rattle.read_entry.specs.Entry.{Placed, readAt, nameOf}
-use Rattle.read_entry.specs.Links.{isIn, absentUnder}
+use Rattle.read_entry.specs.Links.{isIn, absentUnder, underRule}
 use Rattle.read_lookup.specs.declared.Looked.{Looked}
 use Rattle.read_lookup.specs.declared.Looked.the-variants as looked
 
@@ -72,11 +72,6 @@ lookupBy absent w first t name =
     pick (badSought name) (refuses 2 [])
     (pick (eqb (t .size) 0) (refuses 21 [])
     (chainFrom (stepAt absent w first t name) most 0 0))
-
--- with the links that are absent under a rule, or 29 where there is no such rule
-abbrev pub underRule : {A : Type 0} → Option (List ℕ) → (List ℕ → Told A) → Told A
-underRule (some absent) next = next absent
-underRule none next = refuses 29 []
 
 -- the answer of a lookup under the rule of a number: 29, then as by the rule's links
 unfoldable pub lookupOf : ℕ → List ℕ → Sector → Region → List ℕ → Told Finding

@@ -9,8 +9,8 @@ use Rattle.units.specs.declared.Region.{Region}
 use Rattle.name_role.specs.Roles.{badSought}
 use Rattle.layout_node.specs.Header.{isDirectory}
 use Rattle.read_entry.specs.Entry.{Placed}
-use Rattle.read_entry.specs.Links.{absentUnder}
-use Rattle.read_lookup.specs.Lookup.{Finding, lookupBy, underRule}
+use Rattle.read_entry.specs.Links.{absentUnder, underRule}
+use Rattle.read_lookup.specs.Lookup.{Finding, lookupBy}
 use Rattle.read_path.specs.declared.PathFound.{PathFound}
 use Rattle.read_path.specs.declared.PathFound.the-variants as path-found
 

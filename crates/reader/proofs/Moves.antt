@@ -11,8 +11,8 @@ use Rattle.units.specs.declared.Sector.{Sector}
 use Rattle.units.specs.declared.Region.{Region}
 use Rattle.layout_node.specs.Header.{isDirectory}
 use Rattle.read_entry.specs.Entry.{Placed, readAt}
-use Rattle.read_entry.specs.Links.{absentUnder}
-use Rattle.read_lookup.specs.Lookup.{Finding, lookupBy, underRule, lookupOf}
+use Rattle.read_entry.specs.Links.{absentUnder, underRule}
+use Rattle.read_lookup.specs.Lookup.{Finding, lookupBy, lookupOf}
 use Rattle.read_lookup.proofs.Laws.{Named, found-stands}
 use Rattle.read_path.specs.Path.{Turns, into, stops, turnOf}
 use Rattle.read_place.specs.Place.{headerEntered, tableAt}

@@ -1,8 +1,14 @@
 -- `read_lookup::look_up_by` meets its contract: a lookup in the table's own part of the window is the lookup in the window (proofs/Moved.antt). Assumes nothing.
-use Rattle.read_lookup.proofs.Moved.{part-short, place-held, found-there, bad-rule, bad-byte, empty-there, not-there, out-there, cut-there, looped-there}
-use mathlib.Core.Path.{refl}
+use Prim.Native.Nat.{_-_}
+use mathlib.Core.Path.{_≡_, refl}
+use mathlib.Core.List.{[], _∷_}
 use native.Mathlib.Omega.{arith}
 use borrow.Author.Needs.{needs}
+use lib.ListN.{length}
+use Rattle.read_lookup.specs.declared.Looked.{Looked}
+use Rattle.read_lookup.specs.declared.Looked.the-variants as looked
+use Rattle.read_lookup.specs.Lookup.{lookupBy, told}
+use Rattle.read_lookup.proofs.Moved.{movedAnswer, part-short, place-held, there}
 use Rattle.read_lookup.proofs.look_up_by.Statement.{statement}
 use Rattle.read_lookup.proofs.look_up_by.Tie as tie
 
@@ -12,56 +18,25 @@ add-t23 c =
     let z = place-held _ _ _ _ _ _ (k .before .before .before .part-of .ensures) _ _ (k .before .before .new .ensures) (k .before .new2 .ensures) _ (k .look-in .ensures) _ _ _ _ (c .before .h .given .1) in
     omega (arith, z, k .before .before .before .before .before .before .good .0)
 
-returns : tie.Need-returns
-returns c =
-    let k = c .before .before .before in
-    found-there _ _ _ _ _ _ (k .before .before .before .part-of .ensures) _ _ (k .before .before .new .ensures) (k .before .new2 .ensures) _ (k .look-in .ensures)
-    _ refl _ _ _ _ (c .before .h .given .1) _ refl
+-- after the lookup in the part: each of its answers, moved, is that for the window
+module _ (k : tie.After-look-in) where
+  abbrev s : tie.Start
+  s = k .before .before .before .before .before .before
 
-returns-2 : tie.Need-returns-2
-returns-2 c =
-    let k = c .before .before in
-    bad-rule _ _ _ _ _ _ (k .before .before .before .part-of .ensures) _ _ (k .before .before .new .ensures) (k .before .new2 .ensures) _ (k .look-in .ensures) _
-    refl (c .enum-told .given .1)
-
-returns-3 : tie.Need-returns-3
-returns-3 c =
-    let k = c .before .before in
-    bad-byte _ _ _ _ _ _ (k .before .before .before .part-of .ensures) _ _ (k .before .before .new .ensures) (k .before .new2 .ensures) _ (k .look-in .ensures) _
-    refl (c .enum-told2 .given .1)
-
-returns-4 : tie.Need-returns-4
-returns-4 c =
-    let k = c .before .before in
-    empty-there _ _ _ _ _ _ (k .before .before .before .part-of .ensures) _ _ (k .before .before .new .ensures) (k .before .new2 .ensures) _ (k .look-in .ensures) _
-    refl (c .enum-told3 .given .1)
-
-returns-5 : tie.Need-returns-5
-returns-5 c =
-    let k = c .before .before .before in
-    not-there _ _ _ _ _ _ (k .before .before .before .part-of .ensures) _ _ (k .before .before .new .ensures) (k .before .new2 .ensures) _ (k .look-in .ensures) _
-    refl _ (c .before .n .given .1)
-
-returns-6 : tie.Need-returns-6
-returns-6 c =
-    let k = c .before .before .before in
-    out-there _ _ _ _ _ _ (k .before .before .before .part-of .ensures) _ _ (k .before .before .new .ensures) (k .before .new2 .ensures) _ (k .look-in .ensures) _
-    refl _ (c .before .o .given .1)
-
-returns-7 : tie.Need-returns-7
-returns-7 c =
-    let k = c .before .before .before in
-    cut-there _ _ _ _ _ _ (k .before .before .before .part-of .ensures) _ _ (k .before .before .new .ensures) (k .before .new2 .ensures) _ (k .look-in .ensures) _
-    refl _ (c .before .o2 .given .1)
-
-returns-8 : tie.Need-returns-8
-returns-8 c =
-    let k = c .before .before in
-    looped-there _ _ _ _ _ _ (k .before .before .before .part-of .ensures) _ _ (k .before .before .new .ensures) (k .before .new2 .ensures) _ (k .look-in .ensures) _
-    refl (c .enum-told4 .given .1)
+  answered : (q : Looked) → k .look-in .result ≡ q
+      → movedAnswer (length (s .args .w .now) - length (k .before .before .before .part-of .result .now)) (told q)
+      ≡ lookupBy (0 ∷ s .args .absent ∷ []) (s .args .w .now) (s .args .first) (s .args .table) (s .args .name .now)
+  answered = there _ _ _ _ _ _ (k .before .before .before .part-of .ensures) _ _ (k .before .before .new .ensures) (k .before .new2 .ensures) _ (k .look-in .ensures) _ refl
 
 pub look-up-by-spec : {M : Type 1} → statement M
 look-up-by-spec = tie.close (tie.spec (λ c κs. search needs) (λ c. search part-short) (λ c κs. search needs)
     (λ c κs. search needs) (λ c κs. search needs) (λ c. search needs) add-t23 (λ c. search needs) (λ c. search needs)
-    (λ c. search needs) (λ c. search needs) (λ c. search needs) (λ c. search needs) (λ c. search needs) returns
-    returns-2 returns-3 returns-4 returns-5 returns-6 returns-7 returns-8)
+    (λ c. search needs) (λ c. search needs) (λ c. search needs) (λ c. search needs) (λ c. search needs)
+    (λ c. answered (c .before .before .before) (looked.Found _ _ _ _) (c .before .h .given .1))
+    (λ c. answered (c .before .before) looked.BadRule (c .enum-told .given .1))
+    (λ c. answered (c .before .before) looked.BadByte (c .enum-told2 .given .1))
+    (λ c. answered (c .before .before) looked.DirectoryEmpty (c .enum-told3 .given .1))
+    (λ c. answered (c .before .before .before) (looked.DoesNotExist _) (c .before .n .given .1))
+    (λ c. answered (c .before .before .before) (looked.OutOfBounds _) (c .before .o .given .1))
+    (λ c. answered (c .before .before .before) (looked.Truncated _) (c .before .o2 .given .1))
+    (λ c. answered (c .before .before) looked.Looped (c .enum-told4 .given .1)))
