@@ -2,10 +2,11 @@
 // length) and cells (a pointer). include/xdvdfs.h declares them.
 //
 // What a function returns is a number of docs/SCOPE.md, 0 where nothing is refused. The values of the answer go into
-// lent cells, and a cell for which the answer has no value is unchanged (capi_cells/specs/Cells.antt). Each
-// contract says so by the definition that the like-named operation of `xdvdfs` has: the number, each cell and each
-// lent slice is an equation. No function asks anything of its caller beyond what every call from C does: pointers
-// to as many elements as the length says, and no two that overlap.
+// lent cells, and a cell for which the answer has no value is unchanged (capi_cells/specs/Cells.antt); but the limits
+// loader stores every cell at every call, so that no older value is left in one. Each contract says so by the
+// definition that the like-named operation of `xdvdfs` or `limits` has: the number, each cell and each lent slice is an
+// equation. No function asks anything of its caller beyond what every call from C does: pointers to as many elements
+// as the length says, and no two that overlap.
 //
 // `was x`, `is x`, `m .entry` and `m .exit` are as in `xdvdfs`: at the call, and at the return.
 //
@@ -14,6 +15,7 @@
 use capi_cells::store_checked;
 use capi_cells::store_descriptor;
 use capi_cells::store_entry;
+use capi_cells::store_limits;
 use capi_cells::store_looked;
 use capi_cells::store_name;
 use capi_cells::store_path;
@@ -42,6 +44,7 @@ ghost use Rattle.dirtab_list.specs.Whole as whole;
 ghost use Rattle.img_model.specs.Image as image;
 ghost use Rattle.layout_sector.specs.Counter as sectors;
 ghost use Rattle.layout_volume.specs.Descriptor as volume;
+ghost use Rattle.limits_rule.specs.Limits as loading;
 ghost use Rattle.read_entry.specs.Entry as entry;
 ghost use Rattle.read_lookup.specs.Lookup as lookup;
 ghost use Rattle.read_path.specs.Path as following;
@@ -243,6 +246,33 @@ pub extern "C" fn xdvdfs_check_table(
 {
     let r = xdvdfs::check_table(w, sector_of(first), region_of(sector, size), list, scratch);
     store_checked(r, count, offset)
+}
+
+// THE LIMITS LOADER
+
+// Finds a file by its path, under rule two, in an image whose date allows it at a time and by a greatest age, both
+// counted in 100 ns as the stamp is: the file's sector, its size and the volume's stamp. 20, 40, 41, 42, then as
+// `xdvdfs_find_path`, without its offset, then 43. All three cells are stored at every call, with 0 on a refusal.
+#[no_mangle]
+pub extern "C" fn xdvdfs_load_limits(
+    w: &[u8],
+    first: u32,
+    path: &[u8],
+    time: u64,
+    age: u64,
+    sector: &mut u32,
+    size: &mut u32,
+    stamp: &mut u64,
+) -> u32
+    ensures { λ n.
+        let answer = loading.limitsOf (was w) (sectorOf first) (was path) time age in
+        ⌜ n ≡ answer .number ⌝
+        ∗ ⌜ is sector ≡ answer .sector .0 ⌝
+        ∗ ⌜ is size ≡ answer .size ⌝
+        ∗ ⌜ is stamp ≡ answer .stamp ⌝ }
+{
+    let r = limits::load_limits(w, sector_of(first), path, time, age);
+    store_limits(r, sector, size, stamp)
 }
 
 // WRITING

@@ -1,8 +1,10 @@
 // An answer of reading as a number and cells: for each answer a function that puts its values into lent cells,
 // leaves the others unchanged, and gives the answer's number of docs/SCOPE.md, 0 for what is no refusal. Each
-// contract is over what the answer is told as (specs/Cells.antt). Crate capi_written has those of writing.
+// contract is over what the answer is told as (specs/Cells.antt). Of the limits loader every cell is stored, on a
+// refusal too. Crate capi_written has those of writing.
 use layout_node::Header;
 use layout_volume::DescriptorRead;
+use limits_rule::Limits;
 use read_entry::Read;
 use read_lookup::Looked;
 use read_path::PathFound;
@@ -243,4 +245,18 @@ pub fn store_checked(r: Checked, count: &mut usize, offset: &mut u32) -> u32
             32
         }
     }
+}
+
+// The file's sector and size and the volume's stamp: each cell is stored, whatever is answered; of a refusal with 0.
+pub fn store_limits(r: Limits, sector: &mut u32, size: &mut u32, stamp: &mut u64) -> u32
+    ensures { λ n. ⌜ n ≡ r .number ⌝ }
+    ensures { λ _. ⌜ is sector ≡ r .sector .0 ⌝ }
+    ensures { λ _. ⌜ is size ≡ r .size ⌝ }
+    ensures { λ _. ⌜ is stamp ≡ r .stamp ⌝ }
+{
+    let start = r.sector;
+    *sector = start.number();
+    *size = r.size;
+    *stamp = r.stamp;
+    r.number
 }

@@ -1,0 +1,2 @@
+-- What the limits loader answers.
+pub mod Limits
