@@ -1,2 +1,3 @@
--- What the limits loader answers.
+-- What the limits loader answers, and when.
 pub mod Limits
+pub mod Outcome

@@ -1,0 +1,4 @@
+-- The marks; the outcomes, each with its cause; when the loader accepts, and which numbers there are.
+pub mod Marks
+pub mod Outcomes
+pub mod Numbers
