@@ -5,6 +5,7 @@ use widths::u32_as_usize;
 use xdvdfs::Date;
 use xdvdfs::Descriptor;
 use xdvdfs::DescriptorRead;
+use xdvdfs::Header;
 use xdvdfs::PathFound;
 use xdvdfs::Sector;
 ghost use mathlib.Core.Path.{_≡_};
@@ -30,10 +31,11 @@ fn refused(number: u32) -> Limits
 fn volume_in(w: &[u8], first: Sector) -> DescriptorRead
     ensures { λ r. ⌜ volume.readTold r ≡ volumeIn (was w) first ⌝ }
 {
-    if 32 < first.number() {
+    let n = first.number();
+    if 32 < n {
         return DescriptorRead::NoVolume;
     }
-    let start = u32_as_usize(2048 * (32 - first.number()));
+    let start = u32_as_usize(2048 * (32 - n));
     if w.len() < start {
         return DescriptorRead::NoVolume;
     }
@@ -58,22 +60,29 @@ fn check_date(d: Descriptor, time: u64, age: u64) -> u32
     }
 }
 
-// What a path that was found, or not, loads, with its volume's stamp: 43 for a directory, else the path's number.
-fn file_found(found: PathFound, stamp: u64) -> Limits
-    ensures { λ r. ⌜ r ≡ answered (andThen (following.told found) (fileOf stamp)) ⌝ }
+// What is loaded of an entry, with its volume's stamp: 43 for a directory.
+fn load_file(h: Header, stamp: u64) -> Limits
+    ensures { λ r. ⌜ r ≡ answered (fileOf stamp h) ⌝ }
+{
+    if h.is_directory() {
+        return refused(43);
+    }
+    let sector = h.sector;
+    let size = h.size;
+    Limits {
+        number: 0,
+        sector,
+        size,
+        stamp,
+    }
+}
+
+// What is loaded of what a path leads to: of an entry as above, else the path's number.
+fn load_found(found: PathFound, stamp: u64) -> Limits
+    ensures { λ r. ⌜ r ≡ answered (andThen (following.told found) (λ x. fileOf stamp (x .header))) ⌝ }
 {
     match found {
-        PathFound::Entry(h, _) => {
-            if h.is_directory() {
-                return refused(43);
-            }
-            Limits {
-                number: 0,
-                sector: h.sector,
-                size: h.size,
-                stamp,
-            }
-        }
+        PathFound::Entry(h, _) => load_file(h, stamp),
         PathFound::BadRule => refused(29),
         PathFound::BadByte => refused(2),
         PathFound::DirectoryEmpty => refused(21),
@@ -98,7 +107,7 @@ pub fn load_limits(w: &[u8], first: Sector, path: &[u8], time: u64, age: u64) ->
             if number != 0 {
                 return refused(number);
             }
-            file_found(xdvdfs::find_path(w, first, d.root, path, 2), d.stamp)
+            load_found(xdvdfs::find_path(w, first, d.root, path, 2), d.stamp)
         }
         DescriptorRead::NoVolume => refused(20),
     }

@@ -22,7 +22,7 @@ use Rattle.limits_rule.proofs.Marks.{volume-20, unmarked-volume, refuse
 
 -- what comes after the descriptor, and after its date
 abbrev from-root : List ℕ → Sector → List ℕ → Descriptor → ℕ → Told Limits
-from-root w first path d stamp = andThen (pathOf 2 w first (d .root) path) (λ x. fileOf stamp x)
+from-root w first path d stamp = andThen (pathOf 2 w first (d .root) path) (λ x. fileOf stamp (x .header))
 
 -- the date's answer, by what the stamp is
 module _ (time age stamp : ℕ) where
@@ -59,17 +59,17 @@ module _ (w : List ℕ) (first : Sector) (path : List ℕ) (time age : ℕ) wher
   by-date d k v e = sym (by-volume d v ∙ ap (λ (t : Told ℕ). answered (andThen t (from-root w first path d))) e)
 
   pub by-found : (d : Descriptor) (a : Told Placed) → Allows w first path time age d → pathOf 2 w first (d .root) path ≡ a
-      → limitsOf w first path time age ≡ answered (andThen a (λ x. fileOf (d .stamp) x))
+      → limitsOf w first path time age ≡ answered (andThen a (λ x. fileOf (d .stamp) (x .header)))
   by-found d a h e =
       by-volume d (h .volume)
       ∙ ap (λ (t : Told ℕ). answered (andThen t (from-root w first path d))) (allowed time age (d .stamp) (h .dated) (h .begun) (h .fresh))
-      ∙ ap (λ (t : Told Placed). answered (andThen t (λ x. fileOf (d .stamp) x))) e
+      ∙ ap (λ (t : Told Placed). answered (andThen t (λ x. fileOf (d .stamp) (x .header)))) e
 
-  file-by : (d : Descriptor) (x : Placed) → isDirectory (x .header) ≡ false → answered (fileOf (d .stamp) x) ≡ loaded d x
+  file-by : (d : Descriptor) (x : Placed) → isDirectory (x .header) ≡ false → answered (fileOf (d .stamp) (x .header)) ≡ loaded d x
   unfolding fileOf
   file-by d x e = rw e
 
-  directory-by : (d : Descriptor) (x : Placed) → isDirectory (x .header) ≡ true → answered (fileOf (d .stamp) x) ≡ refusedBy 43
+  directory-by : (d : Descriptor) (x : Placed) → isDirectory (x .header) ≡ true → answered (fileOf (d .stamp) (x .header)) ≡ refusedBy 43
   unfolding fileOf
   directory-by d x e = rw e
 

@@ -8,10 +8,10 @@ use lib.Dec.{ltb, leb}
 use lib.ListN.{drop}
 use Rattle.units.specs.Told.{Told, gives, refuses, pick}
 use Rattle.units.specs.declared.Sector.{Sector}
+use Rattle.layout_node.specs.declared.Header.{Header}
 use Rattle.layout_node.specs.Header.{isDirectory}
 use Rattle.layout_volume.specs.declared.Descriptor.{Descriptor}
 use Rattle.layout_volume.specs.Descriptor.{readOf, dateOf}
-use Rattle.read_entry.specs.Entry.{Placed}
 use Rattle.read_path.specs.Path.{pathOf}
 use Rattle.limits_rule.specs.declared.Limits.{Limits}
 
@@ -27,11 +27,11 @@ allowedAt time age none = refuses 40 []
 allowedAt time age (some stamp) =
     pick (ltb time stamp) (refuses 41 []) (pick (ltb age (time - stamp)) (refuses 42 []) (gives stamp))
 
--- what is loaded of an entry, with its volume's stamp: it must be a file (else 43)
-unfoldable pub fileOf : ℕ → Placed → Told Limits
-fileOf stamp x =
-    pick (isDirectory (x .header)) (refuses 43 [])
-    (gives (record { number = 0; sector = x .header .sector; size = x .header .size; stamp = stamp }))
+-- what is loaded of an entry, by its header, with the volume's stamp: it must be a file (else 43)
+unfoldable pub fileOf : ℕ → Header → Told Limits
+fileOf stamp h =
+    pick (isDirectory h) (refuses 43 [])
+    (gives (record { number = 0; sector = h .sector; size = h .size; stamp = stamp }))
 
 -- what comes after an answer: it goes on from what was given, and a refusal stays
 abbrev pub andThen : {A B : Type 0} → Told A → (A → Told B) → Told B
@@ -43,7 +43,7 @@ unfoldable pub loadOf : List ℕ → Sector → List ℕ → (time age : ℕ) �
 loadOf w first path time age =
     andThen (volumeIn w first) (λ d.
     andThen (allowedAt time age (dateOf (d .stamp))) (λ stamp.
-    andThen (pathOf 2 w first (d .root) path) (λ x. fileOf stamp x)))
+    andThen (pathOf 2 w first (d .root) path) (λ x. fileOf stamp (x .header))))
 
 -- a refusal keeps its number alone: sector, size and stamp are 0
 abbrev pub refusedBy : ℕ → Limits

@@ -1,0 +1,2 @@
+-- What the returns of the loader's functions are made of.
+pub mod Answers
