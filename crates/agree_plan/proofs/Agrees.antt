@@ -35,6 +35,15 @@ pub directory-kind : (b : Bool) → b ≡ true → attributes (pick b Directory 
 directory-kind true e = refl
 directory-kind false e = let z : _≡_ {A = ℕ} 0 1 = cc in absurd (omega arith)
 
+-- and of a file
+pub file-size : (b : Bool) (x v : ℕ) → b ≡ false → storedSize (pick b Directory File) (pick b x v) ≡ v
+file-size true x v e = let z : _≡_ {A = ℕ} 0 1 = cc in absurd (omega arith)
+file-size false x v e = refl
+
+pub file-kind : (b : Bool) → b ≡ false → attributes (pick b Directory File) ≡ 32
+file-kind true e = let z : _≡_ {A = ℕ} 0 1 = cc in absurd (omega arith)
+file-kind false e = refl
+
 module _ (R : Request) (places : ℕ) (tables sectors : List ℕ) (p : Plan) (w : List ℕ) (first : Sector) (I : Imaged R places tables sectors p w first) where
   abbrev S : List ℕ
   S = p .sizes

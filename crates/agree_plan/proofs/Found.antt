@@ -310,15 +310,23 @@ module _ (R : Request) (places : ℕ) (tables sectors : List ℕ) (p : Plan) (w 
   all-parts d e j cs (last _ _ a hi part same) = part
   all-parts d e j cs (into _ i _ _ a b bs hi part same dir rest) = (part, all-parts (valueOf (shareOf R d) i) e j (b ∷ bs) rest)
 
-  -- THE PARTS, one after the other, from the root
-  pub parts-find : (e j : ℕ) (cs : List (List ℕ)) → Leads R p 0 cs e j → Finds R p w first (rootOf p) cs e j (λ absent. partsFrom absent w first (rootOf p) cs)
-  parts-find e j cs l =
-      leads-to 0 e j cs l (some-directory R (rule-kept R places tables sectors p (I .planned))) (rootOf p) (root-region R places tables sectors p w first I)
+  -- from a region of the root's table, which may have its size as reported or more, up to that size rounded
+  module _ (t : Region) (r : RegionFor p 0 t) where
+    -- THE PARTS, one after the other
+    pub parts-find : (e j : ℕ) (cs : List (List ℕ)) → Leads R p 0 cs e j → Finds R p w first t cs e j (λ absent. partsFrom absent w first t cs)
+    parts-find e j cs l = leads-to 0 e j cs l (some-directory R (rule-kept R places tables sectors p (I .planned))) t r
 
-  -- THE PATH that has slashes between them, for every set of absent links
-  pub path-finds-by : (e j : ℕ) (cs : List (List ℕ)) → Leads R p 0 cs e j → Finds R p w first (rootOf p) cs e j (λ absent. pathBy absent w first (rootOf p) (joined cs))
-  path-finds-by e j cs l =
-      subst (Finds R p w first (rootOf p) cs e j) (sym (λ k absent. joined-path absent w first (rootOf p) cs (all-parts 0 e j cs l) k)) (parts-find e j cs l)
+    -- THE PATH that has slashes between them, for every set of absent links
+    pub path-finds-by : (e j : ℕ) (cs : List (List ℕ)) → Leads R p 0 cs e j → Finds R p w first t cs e j (λ absent. pathBy absent w first t (joined cs))
+    path-finds-by e j cs l =
+        subst (Finds R p w first t cs e j) (sym (λ k absent. joined-path absent w first t cs (all-parts 0 e j cs l) k)) (parts-find e j cs l)
+
+    -- under rule two it finds the planned entry, whatever links stand on the way
+    pub path-found-two : (e j : ℕ) (cs : List (List ℕ)) (l : Leads R p 0 cs e j)
+        → let f = path-finds-by e j cs l in pathOf 2 w first t (joined cs) ≡ gives (placedAt (f .place) (f .item))
+    path-found-two e j cs l =
+        let f = path-finds-by e j cs l in
+        path-by-rule w first t (joined cs) .rule-two ∙ f .found walkAbsent (walk-clear (f .links) (f .real))
 
   -- A PATH finds the planned entry: under rule one, unless a link of 255 stands on the way, and then 22; under rule two always
   pub path-found : (e j : ℕ) (cs : List (List ℕ)) → Leads R p 0 cs e j → (f : Finds R p w first (rootOf p) cs e j (λ absent. pathBy absent w first (rootOf p) (joined cs)))
@@ -326,10 +334,11 @@ module _ (R : Request) (places : ℕ) (tables sectors : List ℕ) (p : Plan) (w 
       × (List·Memᴰ 255 (f .links) → pathOf 1 w first (rootOf p) (joined cs) ≡ refuses 22 [])
       × (pathOf 2 w first (rootOf p) (joined cs) ≡ gives (placedAt (f .place) (f .item)))
   path-found e j cs l =
-      let f = path-finds-by e j cs l in
+      let root = root-region R places tables sectors p w first I in
+      let f = path-finds-by (rootOf p) root e j cs l in
       let one = path-by-rule w first (rootOf p) (joined cs) .rule-one in (
         f,
         (λ n. one ∙ f .found oneAbsent (without-255 (f .links) (f .real) n)),
         (λ m. one ∙ f .lost oneAbsent (with-255 (f .links) m)),
-        path-by-rule w first (rootOf p) (joined cs) .rule-two ∙ f .found walkAbsent (walk-clear (f .links) (f .real)),
+        path-found-two (rootOf p) root e j cs l,
       )

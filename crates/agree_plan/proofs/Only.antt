@@ -36,7 +36,7 @@ use Rattle.agree_plan.specs.Planned.{itemsAt, sectorAt}
 use Rattle.agree_plan.specs.Image.{Imaged, rootOf, RegionFor, PathPart, joined, Leads, last, into, regionOf, Only, finds, misses, meets, AllParts}
 use Rattle.agree_plan.proofs.Tables.{rule-kept}
 use Rattle.agree_plan.proofs.Sectors.{sectors-planned}
-use Rattle.agree_plan.proofs.Agrees.{directory-kind, table-agrees, root-region, entry-region}
+use Rattle.agree_plan.proofs.Agrees.{directory-kind, file-kind, table-agrees, root-region, entry-region}
 use Rattle.agree_plan.proofs.Paths.{joined-path}
 use Rattle.agree_plan.proofs.Found.{path-finds-by}
 
@@ -66,10 +66,6 @@ numbered entry sector (x ∷ xs) (j ∷ is) a b y m =
       sector-is = ap (λ (v : Item). v .sector) q ∙ f;
     }
     go e f ih (inr n) = let r = ih n in record { number = r .number; listed = omega (arith, r .listed); entry-is = r .entry-is; sector-is = r .sector-is }
-
-file-kind : (b : Bool) → b ≡ false → attributes (pick b Directory File) ≡ 32
-file-kind true e = let z : _≡_ {A = ℕ} 0 1 = cc in absurd (omega arith)
-file-kind false e = refl
 
 -- no parts lead nowhere
 no-parts : {R : Request} {p : Plan} {d e j : ℕ} (cs : List (List ℕ)) → Leads R p d cs e j → cs ≡ [] → ⊥
@@ -174,7 +170,7 @@ module _ (R : Request) (places : ℕ) (tables sectors : List ℕ) (p : Plan) (w 
   found-again-by : (absent other : List ℕ) → ((ks : List ℕ) → Real ks → Clear other ks) → (a : Told Placed) → Only R p first 0 cs a → (x : Placed) → a ≡ gives x
       → pathBy absent w first (rootOf p) (joined cs) ≡ gives x → pathBy other w first (rootOf p) (joined cs) ≡ gives x
   found-again-by absent other clear a (finds e j place item leads is at sector) x q found =
-      let f = path-finds-by R places tables sectors p w first I e j cs leads in
+      let f = path-finds-by R places tables sectors p w first I (rootOf p) (root-region R places tables sectors p w first I) e j cs leads in
       elim (clear-or-cut absent (f .links)) [
         | inl c ↦ f .found other (clear (f .links) (f .real)) ∙ sym (f .found absent c) ∙ found
         | inr c ↦ absurd (given-not-refused found (f .lost absent c))

@@ -1,0 +1,1 @@
+// No code: a file that was planned is loaded.
