@@ -1,6 +1,6 @@
 -- WHAT THE STATEMENTS SUPPOSE CAN BE MET, computed: by a list of `a`, `b`, `c`, files of size 1, written from sector 34 on; by an arena that holds them; by an
--- image with a directory `d` and a file `a` in its root, and a file `b` in `d`; by a chain that reads an offset again; and by a descriptor with the greatest numbers that its
--- fields hold, and the bytes of two that differ in the stamp alone. Assumes nothing.
+-- image with a directory `d` and a file `a` in its root, and a file `b` in `d`; by that image with its descriptor before it, in both forms of the root's size; by a chain that
+-- reads an offset again; and by a descriptor with the greatest numbers that its fields hold, and the bytes of two that differ in the stamp alone. Assumes nothing.
 use Prim.Native.Nat.{ℕ, zero, suc, _+_, _≤_, _<_}
 use native.Mathlib.Omega.{arith}
 use mathlib.Core.Path.{_≡_, refl, sym, ap, _∙_}
@@ -8,6 +8,7 @@ use mathlib.Core.Bool.{Bool, true, _&&_}
 use mathlib.Core.Logic.{inl, inr}
 use mathlib.Core.List.{List, [], _∷_, _++_, append-nil}
 use lib.ListN.{length, getD, take, drop, replicate, length-replicate}
+use lib.Seq.{drop-at, drop-drop}
 use lib.Dec.{ltb}
 use borrow.Author.Tests.{ltb-true}
 use Rattle.units.specs.Told.{gives}
@@ -40,16 +41,23 @@ use Rattle.img_model.specs.Plan.{total, treeIn, sizesDown, takingAll, takingUp,
 use Rattle.img_model.specs.Image as image
 use Rattle.img_model.specs.Image.{Asked, asked, fits, hasRoom, requestIn, imageOf, lentAfter}
 use Rattle.agree.specs.Given.{grown}
+use Rattle.agree.specs.Written.{Stand, SizedFor}
+use Rattle.agree.proofs.Sized.{as-reported, as-rounded}
 use Rattle.agree_list.specs.InTurn.{addAll, emptyIn, thenAnswer, thenOutput, Wide}
 use Rattle.agree_list.proofs.Same.{same-answer}
 use Rattle.agree_plan.proofs.Cases as plans
 use Rattle.agree_writers.proofs.Stands.{first-stand}
 use Rattle.agree_causes.specs.Lists.{Fair, FairList, Enough, EnoughInTurn, treeFor}
 use Rattle.agree_causes.specs.Plans.{FairImage, EnoughFor, GivenIn}
+use Rattle.layout_volume.specs.declared.Descriptor.{Descriptor}
 use Rattle.layout_volume.specs.Descriptor.{descriptorBytes}
+use Rattle.layout_volume.proofs.Laws.{descriptor-length}
+use Rattle.limits_rule.specs.Limits.{limitsOf}
+use Rattle.agree_limits.specs.Loaded.{Described}
 use Rattle.claims.specs.Dated.{Fits, stamped}
 use Rattle.claims.specs.Found.{ListRead, TurnRead, ArenaRead}
 use Rattle.claims.specs.Image.{ImageRead}
+use Rattle.claims.proofs.Loaded.{planned-loads}
 
 -- numbers below a bound, one by one
 first-of : (P : ℕ → Type 0) → P 0 → (i : ℕ) → i < 1 → P i
@@ -275,6 +283,46 @@ small-given = record { plan = plans.its-plan; planned = plans.planned; free = re
 
 pub small-read : ImageRead (requestIn small) plans.its-plan plans.window plans.window-first
 small-read = record { apart = plans.imaged .apart; stand = plans.imaged .stand }
+
+-- with its descriptor, at sector 32; the root's size is 32, as reported, or 2,048
+abbrev small-descriptor : ℕ → Descriptor
+small-descriptor size = stamped (record { sector = record { 0 = 33 }; size = size }) 1000
+
+abbrev small-window : ℕ → List ℕ
+small-window size = descriptorBytes (small-descriptor size) ++ plans.window
+
+abbrev sector-32 : Sector
+sector-32 = record { 0 = 32 }
+
+module _ (size : ℕ) where
+  -- what stands in the window from sector 33 on stands in this one
+  behind-it : (sector : Sector) (bytes : List ℕ) → Stand plans.window plans.window-first sector bytes → Stand (small-window size) sector-32 sector bytes
+  behind-it sector bytes s = record {
+    place = 2048 + s .place;
+    at-sector = omega (arith, s .at-sector);
+    rest = s .rest;
+    here = sym (drop-drop (s .place) 2048 (small-window size))
+        ∙ ap (drop (s .place)) (drop-at (descriptorBytes (small-descriptor size)) plans.window 2048 (descriptor-length (small-descriptor size))) ∙ s .here;
+  }
+
+  pub small-dated : ImageRead (requestIn small) plans.its-plan (small-window size) sector-32
+  small-dated = record { apart = plans.imaged .apart; stand = λ d h. behind-it _ _ (plans.imaged .stand d h) }
+
+  pub small-described : SizedFor 32 size → Described plans.its-plan (small-window size) sector-32 (small-descriptor size)
+  small-described z = record { root = record { at = refl; sized = z }; stamp = omega arith; stand = record { place = 0; at-sector = refl; rest = plans.window; here = refl } }
+
+  -- so the file `b` in `d` is loaded, by the path `D/B`, at the time of its stamp
+  small-loaded : SizedFor 32 size → limitsOf (small-window size) sector-32 (68 ∷ 47 ∷ 66 ∷ []) 1000 0 ≡ record { number = 0; sector = record { 0 = 37 }; size = 1; stamp = 1000 }
+  unfolding small-given
+  small-loaded z =
+      planned-loads small lent 38 small-given (small-window size) sector-32 small-dated (small-descriptor size) (small-described z) 1 0 ((68 ∷ []) ∷ (66 ∷ []) ∷ []) plans.led refl .loaded
+      1000 0 (omega arith) (omega arith) (omega arith)
+
+pub loaded-as-reported : limitsOf (small-window 32) sector-32 (68 ∷ 47 ∷ 66 ∷ []) 1000 0 ≡ record { number = 0; sector = record { 0 = 37 }; size = 1; stamp = 1000 }
+loaded-as-reported = small-loaded 32 (as-reported 32 32 refl)
+
+pub loaded-as-rounded : limitsOf (small-window 2048) sector-32 (68 ∷ 47 ∷ 66 ∷ []) 1000 0 ≡ record { number = 0; sector = record { 0 = 37 }; size = 1; stamp = 1000 }
+loaded-as-rounded = small-loaded 2048 (as-rounded 32 2048 refl)
 
 -- ---- a window of bytes in which a chain reads an offset again: its second entry names itself
 

@@ -5,6 +5,7 @@ pub mod Found
 pub mod Image
 pub mod Reading
 pub mod Dated
+pub mod Loaded
 pub mod Determined
 pub mod Starred
 pub mod Instances
