@@ -2,3 +2,4 @@
 pub mod Marks
 pub mod Outcomes
 pub mod Numbers
+pub mod Cases
