@@ -11,7 +11,7 @@ use Rattle.layout_volume.specs.declared.Descriptor.{Descriptor}
 use Rattle.read_entry.specs.Entry.{Placed}
 use Rattle.read_entry.specs.Links.{isIn}
 use Rattle.limits_rule.specs.declared.Limits.{Limits}
-use Rattle.limits_rule.specs.Limits.{volumeIn, refusedBy, limitsOf}
+use Rattle.limits_rule.specs.Limits.{volumeIn, limitsOf}
 use Rattle.limits_rule.specs.Outcome.{Marked, loaded, Accepts, Outcome}
 use Rattle.img_model.specs.Shares.{shareOf, isDirectory}
 use Rattle.img_model.specs.Image.{Asked, Lent, requestIn}
@@ -33,9 +33,10 @@ pub record Loading (w : List ℕ) (first : Sector) (path : List ℕ) (time age :
   -- REFUSED by the first cause in the order: whatever is answered has its cause, and a cause has one answer
   pub outcome : Outcome w first path time age (limitsOf w first path time age)
   pub outcome-one : (r : Limits) → Outcome w first path time age r → r ≡ limitsOf w first path time age
-  -- with nothing to go on with: sector, size and stamp are 0
+  -- with nothing to go on with
   pub nothing : (limitsOf w first path time age .number ≡ 0 → ⊥)
-      → limitsOf w first path time age ≡ refusedBy (limitsOf w first path time age .number)
+      → (limitsOf w first path time age .sector .0 ≡ 0) × (limitsOf w first path time age .size ≡ 0)
+      × (limitsOf w first path time age .stamp ≡ 0)
   -- the numbers are these, and 29 is none of them
   pub known : isIn (limitsOf w first path time age .number)
       (0 ∷ 20 ∷ 40 ∷ 41 ∷ 42 ∷ 2 ∷ 28 ∷ 21 ∷ 22 ∷ 23 ∷ 24 ∷ 25 ∷ 27 ∷ 43 ∷ []) ≡ true

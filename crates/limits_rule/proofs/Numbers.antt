@@ -15,7 +15,7 @@ use Rattle.read_path.specs.Path.{pathOf}
 use Rattle.read_path.proofs.Rules.{path-by-rule}
 use Rattle.read_path.proofs.Numbers.{OfPath, path-refuses}
 use Rattle.limits_rule.specs.declared.Limits.{Limits}
-use Rattle.limits_rule.specs.Limits.{refusedBy, limitsOf}
+use Rattle.limits_rule.specs.Limits.{limitsOf}
 use Rattle.limits_rule.specs.Outcome.{loaded, Accepts, Outcome, accepted, no-volume, no-date, clock-back, too-old, by-path, not-a-file, numbers}
 use Rattle.limits_rule.proofs.Outcomes.{outcome, outcome-one}
 
@@ -64,17 +64,18 @@ module _ (w : List ℕ) (first : Sector) (path : List ℕ) (time age : ℕ) wher
   pub loads : (d : Descriptor) (x : Placed) → Accepts w first path time age d x → limitsOf w first path time age ≡ loaded d x
   loads d x a = sym (outcome-one w first path time age (loaded d x) (accepted d x a))
 
-  nothing-by : (r : Limits) → Outcome w first path time age r → (r .number ≡ 0 → ⊥) → r ≡ refusedBy (r .number)
+  nothing-by : (r : Limits) → Outcome w first path time age r → (r .number ≡ 0 → ⊥) → (r .sector .0 ≡ 0) × (r .size ≡ 0) × (r .stamp ≡ 0)
   nothing-by r (accepted d x a) h = absurd (h refl)
-  nothing-by r (no-volume n) h = refl
-  nothing-by r (no-date d v k) h = refl
-  nothing-by r (clock-back d v n k) h = refl
-  nothing-by r (too-old d v n k l) h = refl
-  nothing-by r (by-path d k vs n p) h = refl
-  nothing-by r (not-a-file d x n p k) h = refl
+  nothing-by r (no-volume n) h = (refl, refl, refl)
+  nothing-by r (no-date d v k) h = (refl, refl, refl)
+  nothing-by r (clock-back d v n k) h = (refl, refl, refl)
+  nothing-by r (too-old d v n k l) h = (refl, refl, refl)
+  nothing-by r (by-path d k vs n p) h = (refl, refl, refl)
+  nothing-by r (not-a-file d x n p k) h = (refl, refl, refl)
 
   -- any other number comes with nothing
-  pub nothing : (limitsOf w first path time age .number ≡ 0 → ⊥) → limitsOf w first path time age ≡ refusedBy (limitsOf w first path time age .number)
+  pub nothing : (limitsOf w first path time age .number ≡ 0 → ⊥)
+      → (limitsOf w first path time age .sector .0 ≡ 0) × (limitsOf w first path time age .size ≡ 0) × (limitsOf w first path time age .stamp ≡ 0)
   nothing h = nothing-by _ (outcome w first path time age) h
 
   known-by : (r : Limits) → Outcome w first path time age r → isIn (r .number) numbers ≡ true
