@@ -125,11 +125,8 @@ pub fn words(error: Error) -> String {
 /// The offset in a table that a refusal carries.
 pub fn offset_of(error: Error) -> Option<u32> {
     match error {
-        Error::OutOfBounds { offset }
-        | Error::Truncated { offset }
-        | Error::Shared { offset }
-        | Error::OutOfOrder { offset }
-        | Error::BadPlace { offset } => Some(offset),
+        Error::OutOfBounds { offset } | Error::Truncated { offset } => offset,
+        Error::Shared { offset } | Error::OutOfOrder { offset } | Error::BadPlace { offset } => Some(offset),
         _ => None,
     }
 }

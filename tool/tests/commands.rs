@@ -350,7 +350,7 @@ fn strict_faults() {
     let place = told(&|b| b[at + 16 + 13] = 3);
     assert!(place.starts_with(&format!("strict: /: {}; the entry is c;", words(Error::BadPlace { offset: 32 }))), "{place}");
     // a link leaves the table: nothing can be listed
-    let bounds = words(Error::OutOfBounds { offset: 1600 });
+    let bounds = words(Error::OutOfBounds { offset: Some(1600) });
     let left = told(&|b| b[at + 32..at + 34].copy_from_slice(&400u16.to_le_bytes()));
     assert_eq!(
         left,
@@ -361,7 +361,7 @@ fn strict_faults() {
         )
     );
     // the image ends before the table does
-    let cut = words(Error::Truncated { offset: 0 });
+    let cut = words(Error::Truncated { offset: Some(0) });
     let short = told(&|b| b.truncate(at));
     assert_eq!(short.lines().next(), Some(&*format!("strict: /: {cut}")));
 }

@@ -1,5 +1,7 @@
-//! When a volume was made: the stamp of its descriptor, and the date of a stamp. The library reads and writes stamps; the way from one to a date is Rust, tested and not proved.
+//! When a volume was made: the stamp of its descriptor, and the date of a stamp. The library reads and writes stamps; the way from one to a date, and back, is Rust, tested and
+//! not proved.
 use std::fmt;
+use std::str::FromStr;
 use std::time::{SystemTime, UNIX_EPOCH};
 
 /// When a volume was made: a count of 100 ns since the start of 1601, UTC. 0 is no date. As text it is its date as [`Date`] has it, or `no date`.
@@ -37,6 +39,42 @@ impl fmt::Display for Stamp {
         }
     }
 }
+
+/// From a date as [`Date`] has it as text, in which a fraction may have less than seven digits. `no date` is none, and no text gives [`Stamp::NO_DATE`].
+impl FromStr for Stamp {
+    type Err = BadDate;
+
+    fn from_str(text: &str) -> Result<Stamp, BadDate> {
+        let date = Date::read(text).ok_or(BadDate::Form)?;
+        if !date.is_in_calendar() {
+            return Err(BadDate::Calendar);
+        }
+        date.count().map(Stamp).filter(|&stamp| stamp != Stamp::NO_DATE).ok_or(BadDate::Range)
+    }
+}
+
+/// Why a text is not the date of a stamp.
+#[derive(Clone, Copy, Debug, PartialEq, Eq)]
+pub enum BadDate {
+    /// It is not written as [`Date`] has it.
+    Form,
+    /// There is no such day or no such time of day, as on 2026-02-29 or at 24:00:00.
+    Calendar,
+    /// It is before the first date that a stamp has, 1601-01-01T00:00:00.0000001Z, or past the last, +60056-05-28T05:36:10.9551615Z.
+    Range,
+}
+
+impl fmt::Display for BadDate {
+    fn fmt(&self, f: &mut fmt::Formatter<'_>) -> fmt::Result {
+        f.write_str(match self {
+            BadDate::Form => "the date is not written like 2026-11-16T12:00:00Z",
+            BadDate::Calendar => "there is no such day or no such time of day",
+            BadDate::Range => "no stamp has that date: the first is 1601-01-01T00:00:00.0000001Z, the last +60056-05-28T05:36:10.9551615Z",
+        })
+    }
+}
+
+impl std::error::Error for BadDate {}
 
 /// A date of the Gregorian calendar with a time of day, UTC. As text it is as ISO 8601 has it, like `1970-01-01T00:00:00Z`. Where it is no whole second, a fraction of seven
 /// digits comes after the seconds, like `1601-01-01T00:00:00.0000001Z`; a year from 10,000 on has a plus sign and all its digits, like `+10000-01-01T00:00:00Z`.
@@ -77,6 +115,63 @@ impl Date {
             fraction: (stamp % Stamp::SECOND) as u32,
         }
     }
+
+    /// The numbers of a date as text has them, whatever they are; none where the text has another form.
+    fn read(text: &str) -> Option<Date> {
+        let text = text.strip_suffix('Z')?;
+        let (whole, fraction) = match text.split_once('.') {
+            Some((whole, digits)) => (whole, read_fraction(digits)?),
+            None => (text, 0),
+        };
+        let (year, rest) = match whole.strip_prefix('+') {
+            Some(rest) => take_digits(rest, 5).filter(|&(year, _)| year > 9999)?,
+            None => take_digits(whole, 4)?,
+        };
+        let (month, rest) = take_digits(rest.strip_prefix('-')?, 2)?;
+        let (day, rest) = take_digits(rest.strip_prefix('-')?, 2)?;
+        let (hour, rest) = take_digits(rest.strip_prefix('T')?, 2)?;
+        let (minute, rest) = take_digits(rest.strip_prefix(':')?, 2)?;
+        let (second, rest) = take_digits(rest.strip_prefix(':')?, 2)?;
+        rest.is_empty().then_some(Date { year, month, day, hour, minute, second, fraction })
+    }
+
+    /// Whether there is such a day and such a time of day.
+    fn is_in_calendar(&self) -> bool {
+        let Some(month) = self.month.checked_sub(1) else {
+            return false;
+        };
+        let length = month_lengths(self.is_in_leap_year()).get(month as usize).copied().unwrap_or(0);
+        (1..=length).contains(&self.day) && self.hour < 24 && self.minute < 60 && self.second < 60
+    }
+
+    fn is_in_leap_year(&self) -> bool {
+        leap_years(self.year) != leap_years(self.year.saturating_sub(1))
+    }
+
+    /// Of a date of the calendar, how many times 100 ns the start of 1601 is ago; none where it is still to come, or they are more than 2^64 - 1.
+    fn count(&self) -> Option<u64> {
+        let years = self.year.checked_sub(1601)?;
+        let leap_days = leap_years(self.year - 1) - leap_years(1600);
+        let months: u32 = month_lengths(self.is_in_leap_year()).iter().take(self.month as usize - 1).sum();
+        let days = 365 * years + leap_days + months + self.day - 1;
+        let of_day = 3600 * self.hour + 60 * self.minute + self.second;
+        // a year has at most five digits: these are less than 2^26 days and 2^42 seconds
+        let seconds = 86_400 * u64::from(days) + u64::from(of_day);
+        seconds.checked_mul(Stamp::SECOND)?.checked_add(self.fraction.into())
+    }
+}
+
+/// The number that a text begins with, of so many digits, and what comes after them.
+fn take_digits(text: &str, many: usize) -> Option<(u32, &str)> {
+    let (digits, rest) = (text.get(..many)?, text.get(many..)?);
+    digits.bytes().all(|b| b.is_ascii_digit()).then_some((digits.parse().ok()?, rest))
+}
+
+/// One to seven digits behind the point of a second, in units of 100 ns.
+fn read_fraction(digits: &str) -> Option<u32> {
+    let missing = 7usize.checked_sub(digits.len())?;
+    let (number, _) = take_digits(digits, digits.len())?;
+    Some(number * 10u32.pow(missing as u32))
 }
 
 /// How many whole runs of so many days there are, but at most `most`; they are taken off.
@@ -86,9 +181,19 @@ fn take_runs(days: &mut u32, run: u32, most: u32) -> u32 {
     runs
 }
 
+/// How many leap years there are up to this year, from the year 1 on.
+fn leap_years(year: u32) -> u32 {
+    year / 4 - year / 100 + year / 400
+}
+
+/// How many days each month of a year has.
+fn month_lengths(leap_day: bool) -> [u32; 12] {
+    [31, if leap_day { 29 } else { 28 }, 31, 30, 31, 30, 31, 31, 30, 31, 30, 31]
+}
+
 /// How many whole months of a year there are; they are taken off.
 fn take_months(days: &mut u32, leap_day: bool) -> u32 {
-    let lengths = [31, if leap_day { 29 } else { 28 }, 31, 30, 31, 30, 31, 31, 30, 31, 30, 31];
+    let lengths = month_lengths(leap_day);
     let mut months = 0;
     while *days >= lengths[months] {
         *days -= lengths[months];

@@ -1,5 +1,5 @@
 //! For every slice of every function a call in which it is null with length 0 and the others are there, and one in which all are: the number is the one that
-//! include/xdvdfs.h says, and a cell for which the answer has no value is as it was. (bindings/c/tests.c looks at all lent memory too.)
+//! include/xdvdfs.h says, and a cell for which the answer has no value is as it was; but the limits loader stores 0 there. (bindings/c/tests.c looks at all lent memory too.)
 use crate::sys;
 use std::ptr::{null, null_mut};
 
@@ -82,6 +82,23 @@ fn lookups_and_paths() {
         assert_eq!((number, offset), should, "{missing:?}, rule {rule}");
         assert_eq!((fields, place), ([UNTOUCHED; 6], 77));
     }
+}
+
+#[test]
+fn limits() {
+    let mut descriptor = [0; 2048];
+    assert_eq!(unsafe { sys::xdvdfs_write_descriptor(descriptor.as_mut_ptr(), 2048, 33, 48, 5) }, 0);
+    let image = [&descriptor[..], &ABC].concat();
+    let load = |missing| {
+        let (w, p) = (read(missing, 0, &image), read(missing, 1, b"a"));
+        let (mut sector, mut size, mut stamp) = (UNTOUCHED, UNTOUCHED, 77);
+        let n = unsafe { sys::xdvdfs_load_limits(w.0, w.1, 32, p.0, p.1, 6, 1, &mut sector, &mut size, &mut stamp) };
+        (n, sector, size, stamp)
+    };
+    for missing in ways(2) {
+        assert_eq!(load(missing), (if is_empty(missing, 0) { 20 } else { 28 }, 0, 0, 0), "{missing:?}");
+    }
+    assert_eq!(load(Some(2)), (0, 35, 1, 5));
 }
 
 #[test]

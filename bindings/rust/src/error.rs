@@ -5,7 +5,7 @@ use std::fmt;
 /// function's own words say: unchanged, but for scratch and the lists of a walk.
 ///
 /// `entry` is the number of an entry in a list, from 0 on; there is none where a single entry was added. `directory` is the number of a directory in a plan; there is none
-/// where a single table was written. `offset` is a byte offset in a table.
+/// where a single table was written. `offset` is a byte offset in a table; there is none where the limits loader refused.
 #[derive(Clone, Copy, Debug, PartialEq, Eq)]
 #[non_exhaustive]
 pub enum Error {
@@ -51,11 +51,13 @@ pub enum Error {
     DoesNotExist {
         headers: Option<u32>,
     },
+    /// An offset is not below the table's size. With the offset, but where [`Window::load_limits`](crate::Window::load_limits) was asked.
     OutOfBounds {
-        offset: u32,
+        offset: Option<u32>,
     },
+    /// An entry is not whole in the window. With its offset, but where [`Window::load_limits`](crate::Window::load_limits) was asked.
     Truncated {
-        offset: u32,
+        offset: Option<u32>,
     },
     Looped,
     /// An entry was read when the list was full: the list has too few places, or the links lead round in a ring and no list would do.
@@ -73,6 +75,14 @@ pub enum Error {
     BadPlace {
         offset: u32,
     },
+    /// The volume has no date: its stamp is 0.
+    NoDate,
+    /// The time is before the volume's date.
+    ClockBack,
+    /// From the volume's date to the time is more than the greatest age.
+    TooOld,
+    /// The path leads to a directory.
+    NotAFile,
 }
 
 impl Error {
@@ -104,6 +114,10 @@ impl Error {
             Error::Shared { .. } => 30,
             Error::OutOfOrder { .. } => 31,
             Error::BadPlace { .. } => 32,
+            Error::NoDate => 40,
+            Error::ClockBack => 41,
+            Error::TooOld => 42,
+            Error::NotAFile => 43,
         }
     }
 
@@ -153,8 +167,8 @@ impl Error {
             20 => Error::NoVolume,
             21 => Error::DirectoryEmpty,
             22 => Error::DoesNotExist { headers },
-            23 => Error::OutOfBounds { offset },
-            24 => Error::Truncated { offset },
+            23 => Error::OutOfBounds { offset: Some(offset) },
+            24 => Error::Truncated { offset: Some(offset) },
             25 => Error::Looped,
             26 => Error::WalkFull,
             27 => Error::IsNotDirectory,
@@ -163,6 +177,26 @@ impl Error {
             30 => Error::Shared { offset },
             31 => Error::OutOfOrder { offset },
             32 => Error::BadPlace { offset },
+            n => ruled_out(n),
+        }
+    }
+
+    /// A refusal of the limits loader, which carries its number alone.
+    pub(crate) fn loading(number: u32) -> Error {
+        match number {
+            2 => Error::BadByteSought,
+            20 => Error::NoVolume,
+            21 => Error::DirectoryEmpty,
+            22 => Error::DoesNotExist { headers: None },
+            23 => Error::OutOfBounds { offset: None },
+            24 => Error::Truncated { offset: None },
+            25 => Error::Looped,
+            27 => Error::IsNotDirectory,
+            28 => Error::NoDirent,
+            40 => Error::NoDate,
+            41 => Error::ClockBack,
+            42 => Error::TooOld,
+            43 => Error::NotAFile,
             n => ruled_out(n),
         }
     }
@@ -219,8 +253,12 @@ impl fmt::Display for Error {
                     None => Ok(()),
                 }
             }
-            Error::OutOfBounds { offset } => write!(f, "offset {offset} is not below the table's size"),
-            Error::Truncated { offset } => write!(f, "the entry at offset {offset} of its table is not whole in the bytes at hand"),
+            Error::OutOfBounds { offset: Some(offset) } => write!(f, "offset {offset} is not below the table's size"),
+            Error::OutOfBounds { offset: None } => write!(f, "an offset is not below the table's size"),
+            Error::Truncated { offset: Some(offset) } => {
+                write!(f, "the entry at offset {offset} of its table is not whole in the bytes at hand")
+            }
+            Error::Truncated { offset: None } => write!(f, "an entry of the table is not whole in the bytes at hand"),
             Error::Looped => write!(f, "the table's links lead round in a ring: the lookup would never end"),
             Error::WalkFull => {
                 write!(f, "the list is full and there is an entry more: ")?;
@@ -237,6 +275,10 @@ impl fmt::Display for Error {
             Error::BadPlace { offset } => {
                 write!(f, "the entry at offset {offset} overlaps another, crosses a sector line or leaves the table")
             }
+            Error::NoDate => write!(f, "the volume has no date: its stamp is 0"),
+            Error::ClockBack => write!(f, "the time is before the volume's date"),
+            Error::TooOld => write!(f, "the volume is too old: from its date to the time is more than the greatest age"),
+            Error::NotAFile => write!(f, "the path leads to a directory, no file"),
         }
     }
 }

@@ -1,7 +1,7 @@
 //! XDVDFS directory tables, read and written by proved code.
 //!
 //! A safe skin over libcapi.a (`rt staticlib capi`): slices in, `Result<_, Error>` out. Every number and every byte is accepted: bad input is an [`Error`], whose message
-//! says in words what is wrong. The date of a [`Stamp`] is worked out in this crate, tested and not proved.
+//! says in words what is wrong. The date of a [`Stamp`], and the stamp of a date, is worked out in this crate, tested and not proved.
 //!
 //! ```
 //! use xdvdfs_tables::{write_table, Kind, NewEntry, Rule, Table, Window};
@@ -15,13 +15,15 @@
 //! ```
 mod date;
 mod error;
+mod limits;
 mod plan;
 mod read;
 mod sys;
 mod write;
 
-pub use date::{Date, Stamp};
+pub use date::{BadDate, Date, Stamp};
 pub use error::Error;
+pub use limits::Limits;
 pub use plan::{plan, Content, Plan, PlanEntry};
 pub use read::{read_descriptor, Descriptor, Entry, Found, Header, Rule, Table, Window};
 pub use write::{
@@ -32,5 +34,7 @@ pub use write::{
 mod date_tests;
 #[cfg(test)]
 mod empty_slices;
+#[cfg(test)]
+mod limits_tests;
 #[cfg(test)]
 mod tests;

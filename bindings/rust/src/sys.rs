@@ -70,6 +70,18 @@ extern "C" {
         count: *mut usize,
         offset: *mut u32,
     ) -> u32;
+    pub fn xdvdfs_load_limits(
+        w: *const u8,
+        w_len: usize,
+        first: u32,
+        path: *const u8,
+        path_len: usize,
+        time: u64,
+        age: u64,
+        sector: *mut u32,
+        size: *mut u32,
+        stamp: *mut u64,
+    ) -> u32;
     pub fn xdvdfs_write_descriptor(out: *mut u8, out_len: usize, sector: u32, size: u32, stamp: u64) -> u32;
     pub fn xdvdfs_first_sector() -> u32;
     pub fn xdvdfs_required_sectors(length: u64) -> u64;

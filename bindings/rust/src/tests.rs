@@ -50,7 +50,7 @@ fn reading() {
     assert_eq!(read_descriptor(&[]), Err(Error::NoVolume));
     let window = Window { bytes: &bytes, first: 32 };
     assert_eq!(window.read_entry(Table { size: 2048, ..root }, 36), Ok(None));
-    assert_eq!(window.read_entry(root, 36), Err(Error::OutOfBounds { offset: 36 }));
+    assert_eq!(window.read_entry(root, 36), Err(Error::OutOfBounds { offset: Some(36) }));
     assert_eq!(window.name(usize::MAX, 255), b"");
     for rule in RULES {
         let found = window.look_up(root, b"LIMITS", rule).unwrap();
@@ -61,7 +61,7 @@ fn reading() {
         assert_eq!(window.look_up(root, b"\x80", rule), Err(Error::BadByteSought));
         assert_eq!(window.look_up(Table { size: 0, ..root }, b"d", rule), Err(Error::DirectoryEmpty));
         let cut = Window { bytes: &bytes[..2048 + 20], first: 32 };
-        assert_eq!(cut.look_up(root, b"limits", rule), Err(Error::Truncated { offset: 16 }));
+        assert_eq!(cut.look_up(root, b"limits", rule), Err(Error::Truncated { offset: Some(16) }));
     }
 }
 
@@ -79,7 +79,7 @@ fn paths() {
         assert_eq!(window.find_path(root, b"\x80", rule), Err(Error::BadByteSought));
         assert_eq!(window.find_path(root, b"d/y", rule), Err(Error::DoesNotExist { headers: None }));
         let cut = Window { bytes: &bytes[..4096], first: 32 };
-        assert_eq!(cut.find_path(root, b"d/x", rule), Err(Error::Truncated { offset: 0 }));
+        assert_eq!(cut.find_path(root, b"d/x", rule), Err(Error::Truncated { offset: Some(0) }));
     }
 }
 
@@ -379,18 +379,22 @@ fn words() {
         Error::DuplicateFileName { entry: Some(2) }.to_string(),
         "entry 2 of the list: an entry of that name is there already, upper and lower case being one"
     );
-    assert_eq!(Error::Truncated { offset: 16 }.to_string(), "the entry at offset 16 of its table is not whole in the bytes at hand");
+    assert_eq!(Error::Truncated { offset: Some(16) }.to_string(), "the entry at offset 16 of its table is not whole in the bytes at hand");
+    assert_eq!(Error::Truncated { offset: None }.to_string(), "an entry of the table is not whole in the bytes at hand");
+    assert_eq!(Error::OutOfBounds { offset: Some(16) }.to_string(), "offset 16 is not below the table's size");
+    assert_eq!(Error::OutOfBounds { offset: None }.to_string(), "an offset is not below the table's size");
     assert_eq!(
         Error::DoesNotExist { headers: Some(3) }.to_string(),
         "the name was not found; under rule one what stands below a link of 255 is not found, though a walk lists it (3 headers read)"
     );
-    let numbers = (1..=12).chain(20..=32);
+    let numbers = (1..=12).chain(20..=32).chain(40..=43);
     for n in numbers {
         let e = match n {
             1..=6 => Error::adding(n, None),
             10 | 11 => Error::planning(n, None, 0),
             7..=12 => Error::writing(n),
-            _ => Error::reading(n, 0, None),
+            20..=32 => Error::reading(n, 0, None),
+            _ => Error::loading(n),
         };
         assert_eq!(e.number(), n);
         assert!(e.to_string().len() > 10);

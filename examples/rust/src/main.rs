@@ -1,4 +1,5 @@
-//! tables IMAGE PATH: shows the date of an image's volume, lists its root directory, looks a path up in it, then builds a small image in memory, reads it back, and plans it.
+//! tables IMAGE PATH: shows the date of an image's volume, lists its root directory, looks a path up in it, then builds a small image in memory, reads it back, loads limits out
+//! of it, and plans it.
 use std::error::Error;
 use std::process::ExitCode;
 use std::time::{Duration, UNIX_EPOCH};
@@ -38,6 +39,14 @@ fn find(window: Window, table: Table, path: &str) {
     match window.find_path(table, path.as_bytes(), Rule::Two) {
         Ok(e) => println!("{path}: {}", line(&e)),
         Err(e) => println!("{path}: {e} (refusal {})", e.number()),
+    }
+}
+
+/// Loads a file's limits with their date, which must not be more than 30 days old. Where that is refused there is nothing to go on with.
+fn load(window: Window, path: &str, time: Stamp) {
+    match window.load_limits(path.as_bytes(), time, Duration::from_secs(30 * 86_400)) {
+        Ok(limits) => println!("load: {path} at {time}: sector {}, size {}, of {}", limits.sector, limits.size, limits.stamp),
+        Err(e) => println!("load: {path} at {time}: {e} (refusal {})", e.number()),
     }
 }
 
@@ -100,6 +109,9 @@ fn run(file: &str, path: &str) -> Result<(), Box<dyn Error>> {
     println!("check: good, entries {}", window.check_table(root, &mut [0; 16], &mut [0; 17])?);
     for path in ["Maps/TWO.bin", "limits/x", "maps/three.bin", "//"] {
         find(window, root, path);
+    }
+    for time in ["2026-12-16T12:00:00Z", "2026-12-16T12:00:00.0000001Z"] {
+        load(window, "limits", time.parse()?);
     }
     let twice = NewEntry { name: b"Ab", kind: Kind::File, size: 1 };
     let refused = write_table(&[twice, NewEntry { name: b"aB", ..twice }], 33).unwrap_err();
