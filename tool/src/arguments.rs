@@ -2,7 +2,8 @@
 use clap::{Args, Parser, Subcommand};
 use std::ffi::OsString;
 use std::path::PathBuf;
-use xdvdfs_tables::Rule;
+use std::time::Duration;
+use xdvdfs_tables::{BadDate, Rule, Stamp};
 
 const AFTER: &str = "\
 Examples:
@@ -22,7 +23,8 @@ that of the boards in the field: links of 0 and 255 are absent to it, so it does
 not find what stands below a link of 255, though ls lists it. Rule two (--rule
 2) is that of newer loaders: links of 0 and 65535 are absent to it, as they are
 to ls. What rule two finds and rule one does not is refused under rule one all
-the same, and a second line on standard error says where it is.
+the same, and a second line on standard error says where it is. limits takes no
+--rule: it looks up under rule two.
 
 Names are bytes. As text a backslash is doubled, and a byte that cannot be
 printed is \\xNN. In JSON a name is there twice: name is a string, or null where
@@ -53,6 +55,7 @@ pub enum Command {
     Find(FindArguments),
     Check(CheckArguments),
     Info(InfoArguments),
+    Limits(LimitsArguments),
     Plan(PlanArguments),
     Table(TableArguments),
 }
@@ -64,6 +67,7 @@ impl Command {
             Command::Find(_) => "find",
             Command::Check(_) => "check",
             Command::Info(_) => "info",
+            Command::Limits(_) => "limits",
             Command::Plan(_) => "plan",
             Command::Table(_) => "table",
         }
@@ -207,12 +211,53 @@ start to the end of the file. stamp counts 100 ns since the start of 1601, UTC,
 and is a string of digits: many readers of JSON round numbers above 2^53. date
 is the date of the stamp as ISO 8601 has it, null where the stamp is 0.";
 
-/// Shows where the game partition and the root directory are, and the date
+/// Shows where the partition and the root directory are, and the date
 #[derive(Debug, Args)]
 #[command(after_help = INFO)]
 pub struct InfoArguments {
     #[command(flatten)]
     pub image: ImageArguments,
+}
+
+const LIMITS: &str = "\
+Sector, size and date are printed together or not at all. They are printed
+exactly where the volume has a date, the time is not before it, from the date to
+the time is at most AGE, and the path finds a file, under rule two. Else there
+is a refusal, the first of these: 20, no volume; 40, no date; 41, the time is
+before the date; 42, the date is too old; those of a path, as find has them; 43,
+the path leads to a directory.
+
+AGE is a whole number with a unit: s, m, h, d (24 hours) or w (7 days). More
+than 1844674407370s, which is as far as stamps reach, is wrong usage. TIME is a
+date as info prints it, a fraction having one to seven digits; or a stamp, which
+is digits alone. Where --now is not given, it is the machine's clock.
+
+Examples:
+  xdvdfs limits game.iso maps/one.bin --max-age 30d
+  xdvdfs limits --json game.iso maps/one.bin --max-age 36h | jq .sector
+  xdvdfs limits old.iso limits --max-age 2w --now 2026-11-20T12:00:00Z
+
+JSON: {command, image, partition: {offset, name}, path, path_hex, sector, byte,
+       size, stamp, date, age, greatest_age, time: {stamp, date}}
+path is as it was given, byte the one of the image at which the data starts.
+stamp and date are the volume's, as info has them; time is what was taken as
+now, and age what is from the one to the other. Stamps and ages count 100 ns and
+are strings of digits.";
+
+/// Loads a file's sector and size with the volume's date, or none of them
+#[derive(Debug, Args)]
+#[command(after_help = LIMITS)]
+pub struct LimitsArguments {
+    #[command(flatten)]
+    pub image: ImageArguments,
+    /// The path of the file, its parts separated by slashes
+    pub path: OsString,
+    /// The greatest age of the volume: 90s, 15m, 36h, 30d, 4w
+    #[arg(long, value_name = "AGE", value_parser = age)]
+    pub max_age: Duration,
+    /// The time that is taken as now, instead of the clock's
+    #[arg(long, value_name = "TIME", value_parser = time)]
+    pub now: Option<Stamp>,
 }
 
 #[derive(Debug, Args)]
@@ -310,6 +355,35 @@ fn rule(text: &str) -> Result<Rule, String> {
         "2" => Ok(Rule::Two),
         _ => Err("no rule; 1 and 2 are".to_owned()),
     }
+}
+
+/// An age, which is no longer than stamps reach.
+fn age(text: &str) -> Result<Duration, String> {
+    const UNITS: [(char, u64); 5] = [('s', 1), ('m', 60), ('h', 3600), ('d', 86_400), ('w', 604_800)];
+    const MOST: u64 = u64::MAX / 10_000_000;
+    let split = UNITS.iter().find_map(|&(letter, seconds)| Some((text.strip_suffix(letter)?, seconds)));
+    let Some((digits, seconds)) = split.filter(|(digits, _)| is_digits(digits)) else {
+        return Err("no age; 90s, 15m, 36h, 30d and 4w are".to_owned());
+    };
+    let age = digits.parse().ok().and_then(|number: u64| number.checked_mul(seconds));
+    age.filter(|&age| age <= MOST).map(Duration::from_secs).ok_or(format!("stamps do not reach so far; the greatest age is {MOST}s"))
+}
+
+/// A date, or the digits of a stamp.
+fn time(text: &str) -> Result<Stamp, String> {
+    if !is_digits(text) {
+        return text.parse().map_err(|e: BadDate| e.to_string());
+    }
+    match text.parse() {
+        Ok(0) => Err("the stamp 0 is no date".to_owned()),
+        Ok(stamp) => Ok(Stamp(stamp)),
+        Err(_) => Err(format!("no stamp; the greatest is {}", u64::MAX)),
+    }
+}
+
+/// Whether there are digits 0 to 9, and nothing else.
+fn is_digits(text: &str) -> bool {
+    !text.is_empty() && text.bytes().all(|b| b.is_ascii_digit())
 }
 
 /// A number of bytes, decimal or with 0x in front.

@@ -3,10 +3,9 @@ use crate::arguments::InfoArguments;
 use crate::fault::Fault;
 use crate::image::{open_volume, shown_path, Image, JsonTable, Partition, SECTOR};
 use crate::output::Printer;
+use crate::text::{shown_date, JsonDate};
 use serde::Serialize;
-use xdvdfs_tables::Stamp;
 
-/// The stamp goes out as a string of digits: many readers of JSON round numbers above 2^53.
 #[derive(Serialize)]
 struct Answer {
     command: &'static str,
@@ -15,8 +14,8 @@ struct Answer {
     partition: Partition,
     sectors: u64,
     root: JsonTable,
-    stamp: String,
-    date: Option<String>,
+    #[serde(flatten)]
+    made: JsonDate,
 }
 
 pub fn info(a: &InfoArguments, printer: &mut Printer) -> Result<u8, Fault> {
@@ -33,8 +32,7 @@ pub fn info(a: &InfoArguments, printer: &mut Printer) -> Result<u8, Fault> {
             partition,
             sectors,
             root: volume.root.into(),
-            stamp: volume.stamp.0.to_string(),
-            date: volume.stamp.date().map(|date| date.to_string()),
+            made: JsonDate::of(volume.stamp),
         })?;
         return Ok(crate::DONE);
     }
@@ -44,12 +42,4 @@ pub fn info(a: &InfoArguments, printer: &mut Printer) -> Result<u8, Fault> {
     printer.line(format_args!("root       sector {}, {} bytes", volume.root.sector, volume.root.size))?;
     printer.line(format_args!("date       {}", shown_date(volume.stamp)))?;
     Ok(crate::DONE)
-}
-
-/// The date with its stamp, or that there is none.
-fn shown_date(stamp: Stamp) -> String {
-    match stamp.date() {
-        Some(date) => format!("{date} (stamp {})", stamp.0),
-        None => stamp.to_string(),
-    }
 }

@@ -7,6 +7,7 @@ mod fault;
 mod find;
 mod image;
 mod info;
+mod limits;
 mod listing;
 mod manifest;
 mod output;
@@ -40,6 +41,7 @@ pub fn run(arguments: impl IntoIterator<Item = OsString>, out: &mut dyn Write, e
         Command::Find(a) => find::find(a, &mut printer),
         Command::Check(a) => check::check(a, &mut printer),
         Command::Info(a) => info::info(a, &mut printer),
+        Command::Limits(a) => limits::limits(a, &mut printer),
         Command::Plan(a) => planning::plan_image(a, &mut printer),
         Command::Table(a) => planning::write_one(a, &mut printer),
     };

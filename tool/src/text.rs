@@ -1,6 +1,6 @@
-//! Names and paths, which are bytes, as text for a terminal and for JSON.
+//! Names and paths, which are bytes, as text for a terminal and for JSON; rules, counts, dates and ages as text.
 use serde::Serialize;
-use xdvdfs_tables::Rule;
+use xdvdfs_tables::{Rule, Stamp};
 
 /// For a terminal: printable characters as they are, a backslash doubled, every other byte as \xNN. No two runs of bytes look alike.
 pub fn shown(bytes: &[u8]) -> String {
@@ -81,6 +81,19 @@ impl JsonPath {
     }
 }
 
+/// A stamp in JSON: a string of digits, since many readers round numbers above 2^53; and its date, null where there is none.
+#[derive(Clone, Debug, Serialize)]
+pub struct JsonDate {
+    pub stamp: String,
+    pub date: Option<String>,
+}
+
+impl JsonDate {
+    pub fn of(stamp: Stamp) -> JsonDate {
+        JsonDate { stamp: stamp.0.to_string(), date: stamp.date().map(|date| date.to_string()) }
+    }
+}
+
 /// A rule as refusals and findings name it.
 pub fn rule_name(rule: Rule) -> &'static str {
     match rule {
@@ -92,6 +105,30 @@ pub fn rule_name(rule: Rule) -> &'static str {
 /// `1 entry`, `2 entries`.
 pub fn counted(n: u64, one: &str, many: &str) -> String {
     format!("{n} {}", if n == 1 { one } else { many })
+}
+
+/// The date with its stamp, or that there is none.
+pub fn shown_date(stamp: Stamp) -> String {
+    match stamp.date() {
+        Some(date) => format!("{date} (stamp {})", stamp.0),
+        None => stamp.to_string(),
+    }
+}
+
+/// An age of so many units of 100 ns in days, hours, minutes and seconds, like `29d 12h`; those of which there are none are left out. A fraction of a second has seven digits.
+pub fn shown_age(units: u64) -> String {
+    let (seconds, fraction) = (units / 10_000_000, units % 10_000_000);
+    let mut parts: Vec<String> = [(seconds / 86_400, "d"), (seconds / 3600 % 24, "h"), (seconds / 60 % 60, "m")]
+        .iter()
+        .filter(|(number, _)| *number != 0)
+        .map(|(number, unit)| format!("{number}{unit}"))
+        .collect();
+    match (seconds % 60, fraction) {
+        (0, 0) if !parts.is_empty() => {}
+        (second, 0) => parts.push(format!("{second}s")),
+        (second, fraction) => parts.push(format!("{second}.{fraction:07}s")),
+    }
+    parts.join(" ")
 }
 
 #[cfg(test)]
@@ -109,6 +146,29 @@ mod tests {
         assert_eq!(shown("\u{202e}gpj.exe".as_bytes()), "\\xe2\\x80\\xaegpj.exe");
         assert_eq!(shown("\u{9b}31m".as_bytes()), "\\xc2\\x9b31m");
         assert_eq!(shown(b""), "");
+    }
+
+    #[test]
+    fn ages() {
+        const SECOND: u64 = 10_000_000;
+        for (units, text) in [
+            (0, "0s"),
+            (1, "0.0000001s"),
+            (SECOND - 1, "0.9999999s"),
+            (SECOND, "1s"),
+            (59 * SECOND, "59s"),
+            (60 * SECOND, "1m"),
+            (61 * SECOND + 5, "1m 1.0000005s"),
+            (3599 * SECOND, "59m 59s"),
+            (3600 * SECOND, "1h"),
+            (86_399 * SECOND, "23h 59m 59s"),
+            (86_400 * SECOND, "1d"),
+            (86_400 * SECOND + 1, "1d 0.0000001s"),
+            (30 * 86_400 * SECOND + 12 * 3600 * SECOND, "30d 12h"),
+            (u64::MAX, "21350398d 5h 36m 10.9551615s"),
+        ] {
+            assert_eq!(shown_age(units), text);
+        }
     }
 
     #[test]

@@ -11,16 +11,6 @@ fn game() -> (Folder, String) {
     (folder, image)
 }
 
-/// A refusal's words with its number.
-fn words(error: Error) -> String {
-    format!("{error} (refusal {})", error.number())
-}
-
-fn refused(args: &[&str], what: &str, error: Error) {
-    let ran = xdvdfs(args);
-    assert_eq!((ran.status, ran.err, ran.out.as_str()), (1, format!("xdvdfs: {what}: {}\n", words(error)), ""), "{args:?}");
-}
-
 #[test]
 fn ls() {
     let (_folder, image) = game();
@@ -166,11 +156,6 @@ fn check() {
     want["rule"] = json!(2);
     assert_eq!(xdvdfs(&["check", "--all", "--json", "--rule", "2", &image]).json(), want);
     refused(&["check", &image, "none"], "none in /", Error::DoesNotExist { headers: Some(2) });
-}
-
-/// So many files whose names have six bytes; of more than fifty one stands at 1,020, behind a link of 255.
-fn many_files(n: usize) -> Vec<Member> {
-    (0..n).map(|i| file(&format!("file{i:02}"), 1)).collect()
 }
 
 /// A link of 255 is followed by the walk and not by rule one: the strict check accepts the table, and a name in it is hidden under that rule.

@@ -3,8 +3,10 @@ mod common;
 use common::*;
 use std::path::Path;
 use std::process::Command;
+use std::time::{Duration, SystemTime};
+use xdvdfs_tables::Stamp;
 
-const COMMANDS: [&str; 7] = ["", "ls", "find", "check", "info", "plan", "table"];
+const COMMANDS: [&str; 8] = ["", "ls", "find", "check", "info", "limits", "plan", "table"];
 
 fn help(command: &str) -> String {
     let args: Vec<&str> = [command, "--help"].into_iter().filter(|a| !a.is_empty()).collect();
@@ -26,14 +28,16 @@ fn help_is_as_stored() {
     }
 }
 
-/// Each example, as printed, on an image, a manifest and a folder of the names that the examples use.
+/// Each example, as printed, on images, a manifest and a folder of the names that the examples use. The first image is an hour old by the clock.
 #[test]
 fn examples_work() {
     let folder = Folder::new();
     let at = |name: &str| folder.path().join(name);
     let day = directory("day", vec![file("sun", 1)]);
     let members = vec![file("default.xbe", 7), directory("maps", vec![file("one", 1), file("one.bin", 100), day])];
-    folder.file("game.iso", &image_of(&members));
+    let an_hour_ago = Stamp::from_system_time(SystemTime::now() - Duration::from_secs(3600)).unwrap();
+    folder.file("game.iso", &stamped_image_of(&members, an_hour_ago.0));
+    folder.file("old.iso", &stamped_image_of(&[file("limits", 7)], NOON));
     folder.file("game.txt", b"d maps\nf 5000 maps/two.bin\nf 7 limits\n");
     std::fs::create_dir_all(at("folder/maps")).unwrap();
     std::fs::write(at("folder/maps/one"), b"one").unwrap();
@@ -60,5 +64,5 @@ fn examples_work() {
             ran += 1;
         }
     }
-    assert!(ran >= 14, "only {ran} examples ran");
+    assert!(ran >= 16, "only {ran} examples ran");
 }

@@ -1,10 +1,10 @@
 //! Images that nobody would make: whatever the bytes are, the program ends with an answer or a refusal, prints nothing that a terminal would obey, and what `check` calls
-//! good can be found.
+//! good can be found. What `limits` says is what `info` and `find` say together.
 mod common;
 use common::*;
 use std::panic::{catch_unwind, AssertUnwindSafe};
 
-const RUNS: usize = 10_000;
+const RUNS: usize = 20_000;
 
 /// A run that may refuse and may not panic. What it prints has no control byte but the ends of lines.
 fn survives(args: &[&str], why: &dyn Fn() -> String) -> Ran {
@@ -54,7 +54,44 @@ fn every_command(image: &str, dice: &mut Dice, why: &dyn Fn() -> String) -> usiz
         survives(&["find", "--rule", rule, image, path], why);
         found_where_good(image, rule, dice, why);
     }
-    runs + RULES.len()
+    for path in paths {
+        loaded_as_found(image, path, dice, why);
+    }
+    runs + RULES.len() + paths.len()
+}
+
+/// `limits` at a time beside the stamp: the first refusal in its order, or the date that `info` shows with the file that `find` finds under rule two.
+fn loaded_as_found(image: &str, path: &str, dice: &mut Dice, why: &dyn Fn() -> String) {
+    let info = survives(&["info", "--json", image], why).json();
+    let found = survives(&["find", "--json", "--rule", "2", "--", image, path], why).json();
+    let stamp: u64 = info["stamp"].as_str().map_or(1, |digits| digits.parse().unwrap());
+    let after = [0, 1, 10_000_000, 10_000_001][dice.below(4)];
+    let time = if dice.below(5) == 0 { stamp.saturating_sub(1) } else { stamp.saturating_add(after) }.max(1);
+    let age = dice.below(2) as u64;
+    let (age_text, time_text) = (format!("{age}s"), time.to_string());
+    let loaded = survives(&["limits", "--json", "--max-age", &age_text, "--now", &time_text, "--", image, path], why).json();
+    let refusal = if !info["refused"].is_null() {
+        20.into()
+    } else if stamp == 0 {
+        40.into()
+    } else if time < stamp {
+        41.into()
+    } else if time - stamp > age * 10_000_000 {
+        42.into()
+    } else if found["entry"]["kind"] == "directory" {
+        43.into()
+    } else {
+        found["refused"]["number"].clone()
+    };
+    assert_eq!(loaded["refused"]["number"], refusal, "{path} at {time}, {age}s, on {}", why());
+    let answer = |sector, size, byte, stamp| [sector, size, byte, stamp].map(serde_json::Value::clone);
+    let told = answer(&loaded["sector"], &loaded["size"], &loaded["byte"], &loaded["stamp"]);
+    if refusal.is_null() {
+        let entry = &found["entry"];
+        assert_eq!(told, answer(&entry["sector"], &entry["size"], &found["byte"], &info["stamp"]), "{path} on {}", why());
+    } else {
+        assert!(told.iter().all(|value| value.is_null()), "{path} is refused, and answered, on {}", why());
+    }
 }
 
 /// Where `check` finds the root good under a rule, each name that `ls` lists is found where it is listed under that rule; ten of them are asked for.
@@ -81,7 +118,8 @@ fn found_where_good(image: &str, rule: &str, dice: &mut Dice, why: &dyn Fn() -> 
 
 fn bases() -> Vec<Vec<u8>> {
     let many = (0..100).map(|i| file(&format!("file{i:02}"), i)).collect::<Vec<_>>();
-    vec![image_of(&sample()), image_of(&many), image_of(&[directory("maps", many)]), image_of(&[])]
+    let dated = |members: &[Member]| stamped_image_of(members, NOON);
+    vec![dated(&sample()), dated(&many), dated(&[directory("maps", many)]), image_of(&[])]
 }
 
 /// Where tables and descriptor stand: damage elsewhere says nothing.
@@ -120,7 +158,7 @@ fn random_tables_below_a_good_descriptor() {
     let folder = Folder::new();
     let mut dice = Dice::new(2);
     for round in 0..1000 {
-        let mut bytes = image_by_hand(&[(33, vec![vec![0; 4096]])]);
+        let mut bytes = stamped(image_by_hand(&[(33, vec![vec![0; 4096]])]), NOON);
         for b in &mut bytes[33 * SECTOR as usize..] {
             // small links and lengths, so that something is linked to something
             *b = match dice.below(4) {
@@ -241,7 +279,7 @@ fn what_is_no_image() {
     let pipe = folder.path().join("pipe").to_str().unwrap().to_owned();
     assert!(std::process::Command::new("mkfifo").arg(&pipe).status().unwrap().success());
     let missing = folder.path().join("missing").to_str().unwrap().to_owned();
-    let closed = folder.file("closed", &image_of(&sample()));
+    let closed = folder.file("closed", &stamped_image_of(&sample(), NOON));
     let mut rights = std::fs::metadata(&closed).unwrap().permissions();
     std::os::unix::fs::PermissionsExt::set_mode(&mut rights, 0o000);
     std::fs::set_permissions(&closed, rights).unwrap();
@@ -254,9 +292,14 @@ fn what_is_no_image() {
         (&missing, "No such file or directory"),
         (&closed, if readable { "" } else { "Permission denied" }),
     ] {
-        for args in
-            [&["ls", image][..], &["ls", "-l", image, "maps"], &["find", image, "save"], &["check", "--all", image], &["info", image]]
-        {
+        for args in [
+            &["ls", image][..],
+            &["ls", "-l", image, "maps"],
+            &["find", image, "save"],
+            &["check", "--all", image],
+            &["info", image],
+            &["limits", image, "save", "--max-age", "0s", "--now", "2026-11-16T12:00:00Z"],
+        ] {
             let ran = survives(args, &|| image.clone());
             assert_eq!(ran.status, u8::from(image != &closed || !readable), "{args:?}: {ran:?}");
             assert!(ran.err.contains(words), "{args:?}: {ran:?}");

@@ -3,6 +3,7 @@ mod common;
 use common::*;
 use std::io::{Read, Write};
 use std::os::unix::ffi::OsStrExt;
+use std::os::unix::fs::FileExt;
 use std::process::{Command, Output, Stdio};
 use std::time::{Duration, Instant};
 
@@ -17,7 +18,7 @@ fn start(args: &[&str]) -> Output {
 #[test]
 fn statuses_and_streams() {
     let folder = Folder::new();
-    let image = folder.file("game.iso", &image_of(&sample()));
+    let image = folder.file("game.iso", &stamped_image_of(&sample(), NOON));
     for (args, status) in [
         (&["ls", &image][..], 0),
         (&["ls", &image, "none"], 1),
@@ -28,6 +29,11 @@ fn statuses_and_streams() {
         (&["ls", "--offset", "x", &image], 2),
         (&["find", "--rule", "2", &image, "save"], 0),
         (&["find", "--rule", "3", &image, "save"], 2),
+        (&["limits", &image, "save", "--max-age", "1d", "--now", "2026-11-17T12:00:00Z"], 0),
+        (&["limits", &image, "save", "--max-age", "1d", "--now", "2026-11-17T12:00:00.0000001Z"], 1),
+        (&["limits", &image, "save", "--now", "2026-11-17T12:00:00Z"], 2),
+        (&["limits", &image, "save", "--max-age", "1", "--now", "2026-11-17T12:00:00Z"], 2),
+        (&["limits", &image, "--max-age", "1d"], 2),
         (&["plan"], 2),
         (&["plan", "m", "--dir", "d"], 2),
         (&["table", "--json", &image], 2),
@@ -110,12 +116,15 @@ fn large_images_at_once() {
     for partition in [0, 0x1830_0000, 0x0fd9_0000, 0x0208_0000] {
         let path = folder.path().join("game.iso");
         sparse_image(&path, &members, partition, 4 * GIB);
+        let written = std::fs::OpenOptions::new().write(true).open(&path).unwrap();
+        written.write_all_at(&NOON.to_le_bytes(), partition + 32 * SECTOR + 28).unwrap();
         let image = path.to_str().unwrap();
         for (args, status) in [
             (&["info", image][..], 0),
             (&["ls", image], 0),
             (&["ls", "-l", image, "many"], 0),
             (&["find", image, "MANY/AZ"], 0),
+            (&["limits", image, "MANY/AZ", "--max-age", "0s", "--now", "2026-11-16T12:00:00Z"], 0),
             (&["check", image], 1), // under rule one a link of 255 hides names of the root
             (&["check", image, "many"], 1),
             (&["check", "--all", image], 1),

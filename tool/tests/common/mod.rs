@@ -5,10 +5,14 @@ use std::fs::File;
 use std::os::unix::fs::FileExt;
 use std::path::{Path, PathBuf};
 use std::sync::atomic::{AtomicU32, Ordering};
-use xdvdfs_tables::{plan, write_descriptor, write_table, Content, Descriptor, Kind, NewEntry, PlanEntry, Stamp, Table};
+use xdvdfs_tables::{
+    plan, read_descriptor, write_descriptor, write_table, Content, Descriptor, Error, Kind, NewEntry, PlanEntry, Stamp, Table,
+};
 use xdvdfs_tool::{run, Screen};
 
 pub const SECTOR: u64 = 2048;
+/// The stamp of 2026-11-16T12:00:00Z.
+pub const NOON: u64 = 134_393_040_000_000_000;
 pub const NO_SCREEN: Screen = Screen { out: false, err: false, plain: false };
 
 /// What a run of the program gave.
@@ -41,6 +45,17 @@ pub fn on_screen<A: Into<OsString> + Clone>(args: &[A], screen: Screen) -> Ran {
 
 pub fn xdvdfs<A: Into<OsString> + Clone>(args: &[A]) -> Ran {
     on_screen(args, NO_SCREEN)
+}
+
+/// A refusal's words with its number.
+pub fn words(error: Error) -> String {
+    format!("{error} (refusal {})", error.number())
+}
+
+/// The program refuses, says of what and why, and prints nothing.
+pub fn refused(args: &[&str], what: &str, error: Error) {
+    let ran = xdvdfs(args);
+    assert_eq!((ran.status, ran.err, ran.out.as_str()), (1, format!("xdvdfs: {what}: {}\n", words(error)), ""), "{args:?}");
 }
 
 /// A folder of the test's own, gone with it.
@@ -90,7 +105,6 @@ pub fn directory(name: &str, members: Vec<Member>) -> Member {
 /// The parts of an image that are not files' contents: the byte from the partition's start on at which each stands, and the length of the whole.
 pub struct Parts {
     pub parts: Vec<(u64, Vec<u8>)>,
-    pub root: Table,
     pub length: u64,
 }
 
@@ -130,7 +144,7 @@ pub fn parts_of(members: &[Member]) -> Parts {
         assert_eq!(w.size, table.size);
         parts.push((u64::from(table.sector) * SECTOR, bytes));
     }
-    Parts { parts, root: planned.tables[0], length: u64::from(planned.next_free) * SECTOR }
+    Parts { parts, length: u64::from(planned.next_free) * SECTOR }
 }
 
 /// The bytes of an image; files hold zeros.
@@ -145,9 +159,14 @@ pub fn image_of(members: &[Member]) -> Vec<u8> {
 
 /// The same with a stamp.
 pub fn stamped_image_of(members: &[Member], stamp: u64) -> Vec<u8> {
-    let mut bytes = image_of(members);
-    let descriptor = Descriptor { root: parts_of(members).root, stamp: Stamp(stamp) };
-    write_descriptor(&mut bytes[32 * SECTOR as usize..], descriptor).unwrap();
+    stamped(image_of(members), stamp)
+}
+
+/// An image with another stamp.
+pub fn stamped(mut bytes: Vec<u8>, stamp: u64) -> Vec<u8> {
+    let descriptor = &mut bytes[32 * SECTOR as usize..];
+    let root = read_descriptor(descriptor).unwrap().root;
+    write_descriptor(descriptor, Descriptor { root, stamp: Stamp(stamp) }).unwrap();
     bytes
 }
 
@@ -194,6 +213,11 @@ pub fn image_by_hand(tables: &[(u32, Vec<Vec<u8>>)]) -> Vec<u8> {
 pub fn sample() -> Vec<Member> {
     let maps = vec![file("one.bin", 100), file("two.bin", 5000), directory("Night", vec![file("moon", 1)])];
     vec![file("default.xbe", 7), directory("maps", maps), file("save", 2048), directory("empty", vec![]), file("a b", 0)]
+}
+
+/// So many files whose names have six bytes; of more than fifty one stands at 1,020, behind a link of 255.
+pub fn many_files(n: usize) -> Vec<Member> {
+    (0..n).map(|i| file(&format!("file{i:02}"), 1)).collect()
 }
 
 /// 15,000 files in one directory, which is nearly all that a table takes: their names are as short as can be, control bytes among them.
