@@ -77,9 +77,9 @@ pub enum Error {
     },
     /// The volume has no date: its stamp is 0.
     NoDate,
-    /// The time is before the volume's date.
+    /// The time is before the volume's stamp.
     ClockBack,
-    /// From the volume's date to the time is more than the greatest age.
+    /// The time less the volume's stamp is more than the greatest age.
     TooOld,
     /// The path leads to a directory.
     NotAFile,
@@ -275,10 +275,10 @@ impl fmt::Display for Error {
             Error::BadPlace { offset } => {
                 write!(f, "the entry at offset {offset} overlaps another, crosses a sector line or leaves the table")
             }
-            Error::NoDate => write!(f, "the volume has no date: its stamp is 0"),
+            Error::NoDate => write!(f, "the volume has no date"),
             Error::ClockBack => write!(f, "the time is before the volume's date"),
-            Error::TooOld => write!(f, "the volume is too old: from its date to the time is more than the greatest age"),
-            Error::NotAFile => write!(f, "the path leads to a directory, no file"),
+            Error::TooOld => write!(f, "the volume is older than the greatest age"),
+            Error::NotAFile => write!(f, "the path leads to a directory and not to a file"),
         }
     }
 }

@@ -22,7 +22,8 @@ impl Window<'_> {
     /// [`Rule::Two`](crate::Rule::Two), as [`Window::find_path`] does it.
     ///
     /// It accepts exactly where both marks of the descriptor stand, the stamp is not 0, the time is not before the stamp, the time less the stamp is at most the greatest age,
-    /// and the path finds a file, which is an entry that is no directory. A greatest age of 0 accepts only a time that is the stamp.
+    /// and the path finds a file, which is an entry that is no directory. A greatest age of 0 accepts only a time that is the stamp. The time is believed, and whether the window
+    /// has the bytes of the file itself is not looked at.
     ///
     /// The refusals, in their order: [`Error::NoVolume`], also where the window starts past sector 32; [`Error::NoDate`], [`Error::ClockBack`], [`Error::TooOld`]; then the
     /// path's, [`Error::BadByteSought`], [`Error::NoDirent`], and part by part [`Error::DirectoryEmpty`], [`Error::DoesNotExist`], [`Error::OutOfBounds`],

@@ -387,6 +387,15 @@ fn words() {
         Error::DoesNotExist { headers: Some(3) }.to_string(),
         "the name was not found; under rule one what stands below a link of 255 is not found, though a walk lists it (3 headers read)"
     );
+    assert_eq!(
+        [Error::NoDate, Error::ClockBack, Error::TooOld, Error::NotAFile].map(|e| e.to_string()),
+        [
+            "the volume has no date",
+            "the time is before the volume's date",
+            "the volume is older than the greatest age",
+            "the path leads to a directory and not to a file"
+        ]
+    );
     let numbers = (1..=12).chain(20..=32).chain(40..=43);
     for n in numbers {
         let e = match n {
