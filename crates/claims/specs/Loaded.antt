@@ -1,6 +1,6 @@
--- THE LIMITS LOADER: what it answers and when, and that a file that was planned is loaded. Said of what `load_limits` is
--- proved to answer. (limits_rule/specs/Outcome.antt has the conditions and the causes, agree_limits/specs/Loaded.antt
--- what is supposed of an image beside its plan.) Assumes nothing.
+-- THE LIMITS LOADER: what it answers and when, and that a file that was planned is loaded. Said of what `load_limits`
+-- is proved to answer. (limits_rule/specs/Outcome.antt has the conditions and the causes; what is supposed of an image
+-- beside its plan is in agree_limits/specs/Loaded.antt.) Assumes nothing.
 use Prim.Native.Nat.{ℕ}
 use mathlib.Core.Path.{_≡_}
 use mathlib.Core.Bool.{true, false}
