@@ -9,8 +9,9 @@
  * WHAT A CALL DOES. It returns a number, 0 (XDVDFS_DONE) where nothing is refused, else one of `enum xdvdfs_number`;
  * xdvdfs_text says in words what a number means. Values of the answer are stored where the parameters marked [out]
  * point. A place for which the answer has no value is left as it was: after a refusal that is every [out] place but
- * those that the function's comment names for that number. No call keeps a pointer, allocates, prints, or has state of
- * its own: calls from several threads do not disturb each other, so long as none writes what another reads.
+ * those that the function's comment names for that number. xdvdfs_load_limits is the exception: it writes all its
+ * [out] places on every call, and after a refusal they are 0. No call keeps a pointer, allocates, prints, or has state
+ * of its own: calls from several threads do not disturb each other, so long as none writes what another reads.
  *
  * WHAT A CALL ASKS. Any numbers and any bytes will do: bad input gets a number. Of pointers it asks what C cannot
  * check:
@@ -27,13 +28,18 @@
  * the window starts. An offset is a byte offset in a table, a place is an index into the window. A stamp says when a
  * volume was made: it counts 100 ns since the start of 1601, UTC, and 0 is no date.
  *
+ * LIMITS. A rig that loads the limits of its axes from an image calls xdvdfs_load_limits, and stops where that refuses.
+ * The one call stands for xdvdfs_read_descriptor, a look at the date, and xdvdfs_find_path: it answers a file and the
+ * stamp of its volume together, or neither.
+ *
  * RULES. xdvdfs_look_up and xdvdfs_find_path take the number of a rule, which says what links they take for absent:
  *   - XDVDFS_RULE_TWO: 0 and 65,535, as xdvdfs_walk does. A new loader takes this one: in a table that this library
  *     wrote it finds every entry by its name, and in an image that this library planned every file by its path;
  *   - XDVDFS_RULE_ONE: 0 and 255, as the boards in the field do, and the tool that this library agrees with. It is for
  *     what has to answer as they do, and does not find what stands below a link of 255.
  * What rule one finds in a table that this library wrote, rule two finds too, at the same offset and after as many
- * headers. Any other number is XDVDFS_BAD_RULE, before all else that a call refuses.
+ * headers. Any other number is XDVDFS_BAD_RULE, before all else that a call refuses. xdvdfs_load_limits takes no
+ * number: it looks up under rule two.
  *
  * A NAME THAT IS LISTED MAY NOT BE FOUND. Under rule one an entry at offset 1,020, which a link of 255 names, and every
  * entry below it, is listed by xdvdfs_walk and is XDVDFS_DOES_NOT_EXIST to xdvdfs_look_up and xdvdfs_find_path. Tables
@@ -61,9 +67,11 @@ extern "C" {
 
 /* The version of this interface: as text, and as 10,000 for the first of its numbers, 100 for the second, 1 for the
  * third. Where one of the first two is another, functions may have other parameters under the same names: a program is
- * compiled with the header of the library that it is linked with. */
-#define XDVDFS_VERSION "0.3.0"
-#define XDVDFS_VERSION_NUMBER 300
+ * compiled with the header of the library that it is linked with. From 0.3.0 to 0.4.0 none has: xdvdfs_load_limits, the
+ * numbers 40 to 43 and XDVDFS_STAMP_DAY were added, and a program that was compiled with the header of 0.3.0 links with
+ * this library and runs as it did. */
+#define XDVDFS_VERSION "0.4.0"
+#define XDVDFS_VERSION_NUMBER 400
 
 /* What a call returns. */
 enum xdvdfs_number {
@@ -101,7 +109,13 @@ enum xdvdfs_number {
     XDVDFS_SHARED = 30,                    /* an entry is reached twice */
     XDVDFS_OUT_OF_ORDER = 31,              /* a left child's name is not less than its parent's, or a right child's not
                                               greater */
-    XDVDFS_BAD_PLACE = 32                  /* an entry overlaps another, crosses a sector line or leaves the table */
+    XDVDFS_BAD_PLACE = 32,                 /* an entry overlaps another, crosses a sector line or leaves the table */
+    /* loading limits */
+    XDVDFS_UNDATED = 40,                   /* NoDate in docs/SCOPE.md: the volume's stamp is 0. (XDVDFS_NO_DATE, below,
+                                              is that stamp and no number of this list: it is 0 and not 40) */
+    XDVDFS_CLOCK_BACK = 41,                /* the time is before the volume's stamp */
+    XDVDFS_TOO_OLD = 42,                   /* the time less the volume's stamp is above the greatest age */
+    XDVDFS_NOT_A_FILE = 43                 /* the path leads to a directory */
 };
 
 /* What a number means, in words: one line without a full stop. Never NULL, also for a number that no call returns. */
@@ -164,6 +178,14 @@ static inline const char *xdvdfs_text(uint32_t number)
         return "a left child's name is not less than its parent's, or a right child's not greater";
     case XDVDFS_BAD_PLACE:
         return "an entry overlaps another, crosses a sector line or leaves the table";
+    case XDVDFS_UNDATED:
+        return "the volume has no date";
+    case XDVDFS_CLOCK_BACK:
+        return "the time is before the volume's date";
+    case XDVDFS_TOO_OLD:
+        return "the volume is older than the greatest age";
+    case XDVDFS_NOT_A_FILE:
+        return "the path leads to a directory and not to a file";
     default:
         return "a number that no call returns";
     }
@@ -175,7 +197,7 @@ static inline const char *xdvdfs_text(uint32_t number)
 #define XDVDFS_KIND_FILE 0u           /* the kinds of an entry to write; any number but 1 is a file */
 #define XDVDFS_KIND_DIRECTORY 1u
 #define XDVDFS_NO_NODE 65535u         /* the root of an arena that holds nothing; its count is 0 */
-#define XDVDFS_NO_DATE 0u             /* the stamp of a volume without a date */
+#define XDVDFS_NO_DATE 0u             /* the stamp of a volume without a date; the number 40 is XDVDFS_UNDATED */
 #define XDVDFS_RULE_ONE 1u            /* a lookup as the boards in the field do it: links 0 and 255 are absent */
 #define XDVDFS_RULE_TWO 2u            /* a lookup for a new loader: links 0 and 65,535 are absent, as in a walk */
 
@@ -201,6 +223,7 @@ struct xdvdfs_fields {
  */
 #define XDVDFS_STAMP_1970 UINT64_C(116444736000000000)  /* the stamp of 1970-01-01T00:00:00Z */
 #define XDVDFS_STAMP_SECOND UINT64_C(10000000)          /* a second, in the units of a stamp */
+#define XDVDFS_STAMP_DAY UINT64_C(864000000000)         /* a day of 24 hours, in the same */
 #define XDVDFS_DATE_SIZE 32u                            /* the bytes that xdvdfs_date_text asks for */
 
 /* A date of the Gregorian calendar with a time of day, UTC. */
@@ -430,6 +453,51 @@ uint32_t xdvdfs_check_table(
     uint64_t *scratch, size_t scratch_len,  /* [scratch] at least list_len + 1 */
     size_t *count,                          /* [out] */
     uint32_t *offset);                      /* [out] */
+
+/* LOADING LIMITS */
+
+/*
+ * Finds a file by its path, in a volume that is not too old, for a rig that is to load its limits: the file's first
+ * sector, its size and the volume's stamp are answered together, or none of them is. It accepts exactly where both
+ * marks of the volume descriptor stand, the volume has a date, `time` is not before the stamp, `time` less the stamp is
+ * at most `age`, and the path finds a file from the root table on, as xdvdfs_find_path does under XDVDFS_RULE_TWO. A
+ * file is an entry without the attribute bit XDVDFS_DIRECTORY.
+ *
+ * The descriptor is looked for at sector 32 of the image, which is byte 2,048 * (32 - first) of the window: the window
+ * may be a whole image, with a `first` of 0, or start at any sector up to 32.
+ *
+ * 0: *sector and *size are the file's, *stamp is the volume's and is not 0. Refusals, in this order:
+ *   - XDVDFS_NO_VOLUME, also where the window starts past sector 32 or ends before the descriptor's second mark does;
+ *   - XDVDFS_UNDATED, XDVDFS_CLOCK_BACK, XDVDFS_TOO_OLD;
+ *   - those of xdvdfs_find_path under rule two, without the offset;
+ *   - XDVDFS_NOT_A_FILE.
+ *
+ * ALL THREE CELLS ARE WRITTEN ON EVERY CALL, with zeros on a refusal. Every other function leaves a cell for which the
+ * answer has no value as it was. Here that could be what an earlier call answered, and after a refusal a rig must have
+ * nothing to go on with. Nor is there a way to get one of the three without the others, and none of the pointers may be
+ * NULL: a limits file without a date is a rumour. (xdvdfs_find_path gives a file's sector and size whatever the date: a
+ * rig does not load by it.) Every refusal is a reason to stop, XDVDFS_DOES_NOT_EXIST too, and none is a reason to keep
+ * the limits of before.
+ *
+ * `time` and `age` count 100 ns, as a stamp does; the time counts from the start of 1601, UTC. The time now is, in
+ * whole seconds, or with their fraction after clock_gettime(CLOCK_REALTIME, &t):
+ *
+ *     XDVDFS_STAMP_1970 + (uint64_t)time(NULL) * XDVDFS_STAMP_SECOND
+ *     XDVDFS_STAMP_1970 + (uint64_t)t.tv_sec * XDVDFS_STAMP_SECOND + (uint64_t)t.tv_nsec / 100
+ *
+ * An age of thirty days is 30 * XDVDFS_STAMP_DAY; one of 0 accepts no time but the stamp's. The time is believed: with
+ * a clock that is slow a volume looks younger than it is. (With one that was never set, and says 1970, every volume
+ * that was made later is XDVDFS_CLOCK_BACK.)
+ *
+ * Whether the window, or the image, has the bytes of the file itself is not looked at.
+ */
+uint32_t xdvdfs_load_limits(
+    const uint8_t *w, size_t w_len, uint32_t first,
+    const uint8_t *path, size_t path_len,
+    uint64_t time, uint64_t age,
+    uint32_t *sector,  /* [out] written on every call */
+    uint32_t *size,    /* [out] written on every call */
+    uint64_t *stamp);  /* [out] written on every call */
 
 /* WRITING */
 
