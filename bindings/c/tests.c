@@ -1,6 +1,6 @@
 /*
  * tests: what include/xdvdfs.h says of empty slices, of names that are listed and not found under the two rules, of numbers that are no rule's, of rings, of shares that
- * overlap, of a kind that is neither 0 nor 1, of the bytes of a descriptor, of dates and of the numbers' texts.
+ * overlap, of a kind that is neither 0 nor 1, of the bytes of a descriptor, of dates, of the limits loader and of the numbers' texts.
  * For every slice of every function a call is made in which that slice is NULL with length 0 and the others are there, and one in which all are; each number, each [out] cell and all
  * lent memory are compared with what the header says. bin/test-bindings builds and runs it. It prints each difference; its last line counts.
  */
@@ -537,6 +537,7 @@ static void known_dates(void)
         {1, "1601-01-01T00:00:00.0000001Z"},
         {UINT64_C(863999999999), "1601-01-01T23:59:59.9999999Z"},
         {UINT64_C(864000000000), "1601-01-02T00:00:00Z"},
+        {XDVDFS_STAMP_1970 + 20773 * XDVDFS_STAMP_DAY + 43200 * XDVDFS_STAMP_SECOND, "2026-11-16T12:00:00Z"},
         {UINT64_C(95667264000000000), "1904-02-29T00:00:00Z"},
         {UINT64_C(0x019db1ded53e8000), "1970-01-01T00:00:00Z"},
         {UINT64_C(125911583999999999), "1999-12-31T23:59:59.9999999Z"},
@@ -617,6 +618,371 @@ static void dates_of_libc(void)
     EXPECT("dates that differ, of each second of a day", other_dates(0, 1, day), 0);
 }
 
+/* THE LIMITS LOADER */
+
+enum { SECTOR = 2048, DESCRIPTOR = 32 * SECTOR, ROOT = 33 * SECTOR, FOLDER = 35 * SECTOR, MOST = 60 };
+
+#define MADE UINT64_C(134393040000000000) /* 2026-11-16T12:00:00Z */
+
+/* Writes a table into a sector, of names of six bytes each; its reported size */
+static uint32_t write_six(uint32_t count, const char *names, const uint32_t *size, const uint8_t *kind, uint32_t first, uint8_t *out)
+{
+    uint32_t start[MOST], len[MOST], key[MOST], table_size = UNTOUCHED, next_free, entry, i;
+    uint16_t left[MOST], right[MOST], parent[MOST], order[MOST], place[MOST];
+    uint8_t height[MOST];
+    int missing = NONE;
+    for (i = 0; i < count; i++) {
+        start[i] = 6 * i;
+        len[i] = 6;
+    }
+    EXPECT("write_list for a volume",
+           xdvdfs_write_list(count, start, count, len, count, size, count, kind, count, (const uint8_t *)names, 6 * count, first, left, MOST, right, MOST, parent, MOST, height,
+                             MOST, key, MOST, order, MOST, place, MOST, out, SECTOR, &table_size, &next_free, &entry),
+           XDVDFS_DONE);
+    return table_size;
+}
+
+/* An image of the sectors 0 to 35. In the root table, of 60 bytes, `hollow` is at 0, a directory of size 0; `folder` at 20, a directory, its table at sector 35; `limits` at 40, a
+ * file of 7 bytes at sector 36. In `folder` are `axis_1`, 100 bytes at sector 37, and `axis_2`, 5,000 bytes at 38. */
+static uint8_t volume[36 * SECTOR];
+
+static void describe(uint32_t root_size, uint64_t stamp)
+{
+    int missing = NONE;
+    EXPECT("write_descriptor for a volume", xdvdfs_write_descriptor(volume + DESCRIPTOR, SECTOR, 33, root_size, stamp), XDVDFS_DONE);
+}
+
+static void make_volume(uint64_t stamp)
+{
+    static const uint32_t folder_size[] = {100, 5000};
+    static const uint8_t folder_kind[] = {XDVDFS_KIND_FILE, XDVDFS_KIND_FILE}, kind[] = {XDVDFS_KIND_DIRECTORY, XDVDFS_KIND_DIRECTORY, XDVDFS_KIND_FILE};
+    uint32_t size[] = {0, 0, 7};
+    FILL(volume);
+    size[1] = write_six(2, "axis_1axis_2", folder_size, folder_kind, 37, volume + FOLDER);
+    describe(write_six(3, "hollowfolderlimits", size, kind, 34, volume + ROOT), stamp);
+}
+
+/* What is asked of the loader: a window, a path, a time and a greatest age */
+struct asked {
+    const uint8_t *w;
+    size_t w_len;
+    uint32_t first;
+    const char *path;
+    uint64_t time, age;
+};
+
+static struct asked ask(uint32_t first, const char *path, uint64_t time, uint64_t age)
+{
+    struct asked a = {volume, sizeof volume, 0, NULL, 0, 0};
+    a.w += first * SECTOR;
+    a.w_len -= first * SECTOR;
+    a.first = first;
+    a.path = path;
+    a.time = time;
+    a.age = age;
+    return a;
+}
+
+/* Before the call no cell holds 0 or what is to be answered; after it all three hold the answer, which is 0 of a refusal */
+static void answers(int line, struct asked a, uint32_t number, uint32_t sector, uint32_t size, uint64_t stamp)
+{
+    uint32_t sector_is, size_is;
+    uint64_t stamp_is;
+    FILL(sector_is);
+    FILL(size_is);
+    FILL(stamp_is);
+    expect(line, "load_limits", NONE,
+           xdvdfs_load_limits(a.w, a.w_len, a.first, (const uint8_t *)a.path, a.path == NULL ? 0 : strlen(a.path), a.time, a.age, &sector_is, &size_is, &stamp_is), number);
+    expect(line, "load_limits: sector", NONE, sector_is, sector);
+    expect(line, "load_limits: size", NONE, size_is, size);
+    expect(line, "load_limits: stamp", NONE, stamp_is, stamp);
+}
+
+static void loads(int line, struct asked a, uint32_t sector, uint32_t size, uint64_t stamp)
+{
+    answers(line, a, XDVDFS_DONE, sector, size, stamp);
+}
+
+static void refuses(int line, struct asked a, uint32_t number)
+{
+    answers(line, a, number, 0, 0, 0);
+}
+
+/* The window and the path, each NULL with length 0, and both */
+static void limits_of_nothing(void)
+{
+    struct asked a;
+    make_volume(MADE);
+    a = ask(0, NULL, MADE, 0);
+    refuses(__LINE__, a, XDVDFS_NO_DIRENT);
+    a.w = NULL;
+    a.w_len = 0;
+    refuses(__LINE__, a, XDVDFS_NO_VOLUME);
+    a.path = "limits";
+    refuses(__LINE__, a, XDVDFS_NO_VOLUME);
+    a.first = 32;
+    refuses(__LINE__, a, XDVDFS_NO_VOLUME);
+}
+
+/* At each stamp: the time is the stamp's, one less, as much later as the age allows, and one more */
+static void limits_by_date(void)
+{
+    static const uint64_t stamps[] = {1, XDVDFS_STAMP_1970, MADE, UINT64_C(1) << 63, UINT64_MAX - XDVDFS_STAMP_DAY - 1};
+    static const uint64_t ages[] = {0, 1, UINT32_MAX, UINT64_C(1) << 32, XDVDFS_STAMP_DAY};
+    size_t i, j;
+    for (i = 0; i < sizeof stamps / sizeof *stamps; i++) {
+        uint64_t stamp = stamps[i];
+        make_volume(stamp);
+        for (j = 0; j < sizeof ages / sizeof *ages; j++) {
+            uint64_t age = ages[j];
+            loads(__LINE__, ask(0, "limits", stamp, age), 36, 7, stamp);
+            refuses(__LINE__, ask(0, "limits", stamp - 1, age), XDVDFS_CLOCK_BACK);
+            refuses(__LINE__, ask(0, "limits", 0, age), XDVDFS_CLOCK_BACK);
+            loads(__LINE__, ask(0, "limits", stamp + age, age), 36, 7, stamp);
+            refuses(__LINE__, ask(0, "limits", stamp + age + 1, age), XDVDFS_TOO_OLD);
+        }
+    }
+    /* the ends of the numbers: no sum of a stamp and an age is made */
+    make_volume(UINT64_MAX);
+    loads(__LINE__, ask(0, "limits", UINT64_MAX, 0), 36, 7, UINT64_MAX);
+    loads(__LINE__, ask(0, "limits", UINT64_MAX, UINT64_MAX), 36, 7, UINT64_MAX);
+    refuses(__LINE__, ask(0, "limits", UINT64_MAX - 1, UINT64_MAX), XDVDFS_CLOCK_BACK);
+    refuses(__LINE__, ask(0, "limits", 0, UINT64_MAX), XDVDFS_CLOCK_BACK);
+    make_volume(UINT64_MAX - 1);
+    refuses(__LINE__, ask(0, "limits", UINT64_MAX, 0), XDVDFS_TOO_OLD);
+    loads(__LINE__, ask(0, "limits", UINT64_MAX, 1), 36, 7, UINT64_MAX - 1);
+    make_volume(1);
+    loads(__LINE__, ask(0, "limits", UINT64_MAX, UINT64_MAX), 36, 7, 1);
+    loads(__LINE__, ask(0, "limits", UINT64_MAX, UINT64_MAX - 1), 36, 7, 1);
+    refuses(__LINE__, ask(0, "limits", UINT64_MAX, UINT64_MAX - 2), XDVDFS_TOO_OLD);
+    /* no date, at any time and by any age */
+    make_volume(XDVDFS_NO_DATE);
+    refuses(__LINE__, ask(0, "limits", 0, 0), XDVDFS_UNDATED);
+    refuses(__LINE__, ask(0, "limits", 0, UINT64_MAX), XDVDFS_UNDATED);
+    refuses(__LINE__, ask(0, "limits", UINT64_MAX, 0), XDVDFS_UNDATED);
+    refuses(__LINE__, ask(0, "limits", UINT64_MAX, UINT64_MAX), XDVDFS_UNDATED);
+}
+
+/* Wherever the window starts, the descriptor is that of sector 32 */
+static void limits_by_window(void)
+{
+    uint32_t first;
+    struct asked a;
+    make_volume(MADE);
+    for (first = 0; first <= 32; first++) {
+        loads(__LINE__, ask(first, "limits", MADE, 0), 36, 7, MADE);
+        loads(__LINE__, ask(first, "folder/axis_2", MADE, 0), 38, 5000, MADE);
+    }
+    for (first = 33; first <= 36; first++)
+        refuses(__LINE__, ask(first, "limits", MADE, 0), XDVDFS_NO_VOLUME);
+    /* the same bytes, said to start at another sector */
+    a = ask(32, "limits", MADE, 0);
+    for (a.first = 0; a.first <= 100; a.first++)
+        if (a.first != 32)
+            refuses(__LINE__, a, XDVDFS_NO_VOLUME);
+    a.first = UINT32_MAX;
+    refuses(__LINE__, a, XDVDFS_NO_VOLUME);
+    a = ask(0, "limits", MADE, 0);
+    a.first = 32;
+    refuses(__LINE__, a, XDVDFS_NO_VOLUME);
+}
+
+/* The window is cut: before the second mark's end there is no volume; from there on to the end of the entry that is sought the table is cut short */
+static void limits_of_a_cut_window(void)
+{
+    static const uint32_t firsts[] = {0, 31, 32};
+    size_t i;
+    make_volume(MADE);
+    for (i = 0; i < sizeof firsts / sizeof *firsts; i++) {
+        struct asked a = ask(firsts[i], "limits", MADE, 0);
+        size_t descriptor = (32 - firsts[i]) * SECTOR, whole = a.w_len;
+        for (a.w_len = 0; a.w_len < descriptor; a.w_len += SECTOR - 1)
+            refuses(__LINE__, a, XDVDFS_NO_VOLUME);
+        for (a.w_len = descriptor; a.w_len < descriptor + SECTOR; a.w_len++)
+            refuses(__LINE__, a, XDVDFS_NO_VOLUME);
+        for (; a.w_len < descriptor + SECTOR + 60; a.w_len++)
+            refuses(__LINE__, a, XDVDFS_TRUNCATED);
+        for (; a.w_len <= descriptor + SECTOR + 61; a.w_len++)
+            loads(__LINE__, a, 36, 7, MADE);
+        a.path = "folder/axis_2"; /* its entry is the last of a table of 40 bytes */
+        for (a.w_len = whole - SECTOR - 1; a.w_len < whole - SECTOR + 40; a.w_len++)
+            refuses(__LINE__, a, XDVDFS_TRUNCATED);
+        loads(__LINE__, a, 38, 5000, MADE);
+    }
+}
+
+/* A byte of the descriptor is changed: one of a mark, and there is no volume; of the rest nothing but root and stamp counts */
+static void limits_by_marks(void)
+{
+    size_t i;
+    make_volume(MADE);
+    for (i = 0; i < SECTOR; i++) {
+        volume[DESCRIPTOR + i] ^= 0x20;
+        if (i < 20 || i >= 2028)
+            refuses(__LINE__, ask(0, "limits", MADE, UINT64_MAX), XDVDFS_NO_VOLUME);
+        else if (i >= 36)
+            loads(__LINE__, ask(0, "limits", MADE, 0), 36, 7, MADE);
+        volume[DESCRIPTOR + i] ^= 0x20;
+    }
+}
+
+/* What a path answers in a volume as it is made, and below each earlier refusal: those of the volume come before those of its date, and both before the path's */
+static void limits_by_path(void)
+{
+    static const struct {
+        const char *path;
+        uint32_t number, sector, size;
+    } paths[] = {
+        {"limits", XDVDFS_DONE, 36, 7},
+        {"LIMITS", XDVDFS_DONE, 36, 7},
+        {"///Limits/", XDVDFS_DONE, 36, 7},
+        {"folder/axis_1", XDVDFS_DONE, 37, 100},
+        {"/FOLDER/axis_2/", XDVDFS_DONE, 38, 5000},
+        {"\x80", XDVDFS_BAD_BYTE, 0, 0},
+        {"limits\xff", XDVDFS_BAD_BYTE, 0, 0},
+        {"limits/\x80", XDVDFS_BAD_BYTE, 0, 0},
+        {"missing/\x80", XDVDFS_BAD_BYTE, 0, 0},
+        {"", XDVDFS_NO_DIRENT, 0, 0},
+        {"/", XDVDFS_NO_DIRENT, 0, 0},
+        {"///", XDVDFS_NO_DIRENT, 0, 0},
+        {"hollow/limits", XDVDFS_DIRECTORY_EMPTY, 0, 0},
+        {"hollow/limits/x", XDVDFS_DIRECTORY_EMPTY, 0, 0},
+        {"missing", XDVDFS_DOES_NOT_EXIST, 0, 0},
+        {"limit", XDVDFS_DOES_NOT_EXIST, 0, 0},
+        {"limits_", XDVDFS_DOES_NOT_EXIST, 0, 0},
+        {"\x7f", XDVDFS_DOES_NOT_EXIST, 0, 0},
+        {"folder/limits", XDVDFS_DOES_NOT_EXIST, 0, 0},
+        {"missing/limits", XDVDFS_DOES_NOT_EXIST, 0, 0},
+        {"limits/x", XDVDFS_IS_NOT_DIRECTORY, 0, 0},
+        {"folder/axis_1/x", XDVDFS_IS_NOT_DIRECTORY, 0, 0},
+        {"folder", XDVDFS_NOT_A_FILE, 0, 0},
+        {"/folder/", XDVDFS_NOT_A_FILE, 0, 0},
+        {"hollow", XDVDFS_NOT_A_FILE, 0, 0},
+    };
+    static const struct {
+        uint64_t stamp, time, age;
+        uint32_t number;
+    } dates[] = {
+        {MADE, MADE, 0, XDVDFS_DONE},
+        {XDVDFS_NO_DATE, MADE, UINT64_MAX, XDVDFS_UNDATED},
+        {MADE, MADE - 1, UINT64_MAX, XDVDFS_CLOCK_BACK},
+        {MADE, MADE + 2, 1, XDVDFS_TOO_OLD},
+    };
+    size_t i, j;
+    for (i = 0; i < sizeof dates / sizeof *dates; i++) {
+        make_volume(dates[i].stamp);
+        for (j = 0; j < sizeof paths / sizeof *paths; j++) {
+            struct asked a = ask(0, paths[j].path, dates[i].time, dates[i].age);
+            if (dates[i].number != XDVDFS_DONE)
+                refuses(__LINE__, a, dates[i].number);
+            else
+                answers(__LINE__, a, paths[j].number, paths[j].sector, paths[j].size, paths[j].number == XDVDFS_DONE ? MADE : 0);
+            volume[DESCRIPTOR + 2047] ^= 1;
+            refuses(__LINE__, a, XDVDFS_NO_VOLUME);
+            volume[DESCRIPTOR + 2047] ^= 1;
+        }
+    }
+}
+
+/* Tables that are damaged, or said to be shorter than they are */
+static void limits_in_a_bad_table(void)
+{
+    make_volume(MADE);
+    describe(0, MADE);
+    refuses(__LINE__, ask(0, "limits", MADE, 0), XDVDFS_DIRECTORY_EMPTY);
+    refuses(__LINE__, ask(0, "limits/x", MADE, 0), XDVDFS_DIRECTORY_EMPTY);
+    refuses(__LINE__, ask(0, "\x80", MADE, 0), XDVDFS_BAD_BYTE);
+    refuses(__LINE__, ask(0, "", MADE, 0), XDVDFS_NO_DIRENT);
+    refuses(__LINE__, ask(0, "limits", MADE + 1, 0), XDVDFS_TOO_OLD);
+    describe(0, XDVDFS_NO_DATE);
+    refuses(__LINE__, ask(0, "limits", MADE, 0), XDVDFS_UNDATED);
+    /* `limits` stands at 40 */
+    describe(40, MADE);
+    refuses(__LINE__, ask(0, "limits", MADE, 0), XDVDFS_OUT_OF_BOUNDS);
+    refuses(__LINE__, ask(0, "limits", MADE - 1, 0), XDVDFS_CLOCK_BACK);
+    refuses(__LINE__, ask(0, "hollow", MADE, 0), XDVDFS_NOT_A_FILE);
+    describe(41, MADE);
+    loads(__LINE__, ask(0, "limits", MADE, 0), 36, 7, MADE);
+    /* the left child of `folder`, at 20, is itself */
+    make_volume(MADE);
+    volume[ROOT + 20] = 5;
+    volume[ROOT + 21] = 0;
+    refuses(__LINE__, ask(0, "axis_1", MADE, 0), XDVDFS_LOOPED);
+    refuses(__LINE__, ask(0, "axis_1", MADE + 1, 0), XDVDFS_TOO_OLD);
+    loads(__LINE__, ask(0, "folder/axis_1", MADE, 0), 37, 100, MADE);
+}
+
+/* What stands in the entry of `limits`: of the attributes the bit of a directory alone counts; sector and size are any, and a file at 0 of 0 bytes is loaded like another */
+static void limits_by_entry(void)
+{
+    uint8_t *entry = volume + ROOT + 40;
+    unsigned bits;
+    make_volume(MADE);
+    for (bits = 0; bits <= 255; bits++) {
+        entry[12] = (uint8_t)bits;
+        if (bits & XDVDFS_DIRECTORY)
+            refuses(__LINE__, ask(0, "limits", MADE, 0), XDVDFS_NOT_A_FILE);
+        else
+            loads(__LINE__, ask(0, "limits", MADE, 0), 36, 7, MADE);
+    }
+    entry[12] = 0;
+    memset(entry + 4, 0xff, 8);
+    loads(__LINE__, ask(0, "limits", MADE, 0), UINT32_MAX, UINT32_MAX, MADE);
+    memset(entry + 4, 0, 8);
+    loads(__LINE__, ask(0, "limits", MADE, 0), 0, 0, MADE);
+}
+
+/* A root of sixty names: `file48` stands behind a link of 255. The root's size is the reported one, and rounded up */
+static void limits_behind_255(void)
+{
+    static const uint32_t forms[] = {1200, 2048};
+    char names[6 * MOST + 1], path[sizeof "file00"];
+    uint32_t size[MOST], hidden_names = 0, offset, i;
+    uint8_t kind[MOST];
+    size_t place, form;
+    struct xdvdfs_fields fields;
+    int missing = NONE;
+    for (i = 0; i < MOST; i++) {
+        sprintf(names + 6 * i, "file%02u", (unsigned)i);
+        size[i] = i + 1;
+        kind[i] = XDVDFS_KIND_FILE;
+    }
+    FILL(volume);
+    EXPECT("sixty names: the reported size", write_six(MOST, names, size, kind, 34, volume + ROOT), forms[0]);
+    for (form = 0; form < 2; form++) {
+        describe(forms[form], MADE);
+        for (i = 0; i < MOST; i++) {
+            sprintf(path, "file%02u", (unsigned)i);
+            EXPECT("sixty names: under rule two",
+                   xdvdfs_find_path(volume, sizeof volume, 0, 33, forms[form], (const uint8_t *)path, 6, XDVDFS_RULE_TWO, &fields, &place, &offset), XDVDFS_DONE);
+            loads(__LINE__, ask(0, path, MADE, 0), fields.sector, i + 1, MADE);
+            hidden_names += xdvdfs_find_path(volume, sizeof volume, 0, 33, forms[form], (const uint8_t *)path, 6, XDVDFS_RULE_ONE, &fields, &place, &offset) == XDVDFS_DOES_NOT_EXIST;
+        }
+        loads(__LINE__, ask(32, "file48", MADE, 0), 85, 49, MADE);
+        refuses(__LINE__, ask(32, "file60", MADE, 0), XDVDFS_DOES_NOT_EXIST);
+    }
+    EXPECT("sixty names: not found under rule one, in two forms", hidden_names, 2);
+}
+
+/* A link of 65,535 is absent, as under rule two; one of 65,534 is followed */
+static void limits_behind_65535(void)
+{
+    static uint8_t image[SECTOR + 262156];
+    struct asked a = {image, sizeof image, 32, "c", MADE, 0};
+    uint8_t *table = image + SECTOR;
+    int missing = NONE;
+    FILL(image);
+    EXPECT("write_descriptor of a long root", xdvdfs_write_descriptor(image, SECTOR, 33, 262156, MADE), XDVDFS_DONE);
+    memcpy(table, abc, 16);
+    memset(table, 0, 2);
+    memset(table + 2, 0xff, 2);
+    memcpy(table + 262140, abc + 32, 16);
+    refuses(__LINE__, a, XDVDFS_DOES_NOT_EXIST);
+    table[2] = 0xfe;
+    memcpy(table + 262136, abc + 32, 16);
+    loads(__LINE__, a, 36, 1, MADE);
+}
+
 static void others(void)
 {
     uint32_t next = 33, start = UNTOUCHED;
@@ -633,7 +999,7 @@ static void others(void)
 
 static void texts(void)
 {
-    static const uint32_t known[] = {0, 1, 2, 3, 4, 5, 6, 7, 8, 9, 10, 11, 12, 20, 21, 22, 23, 24, 25, 26, 27, 28, 29, 30, 31, 32};
+    static const uint32_t known[] = {0, 1, 2, 3, 4, 5, 6, 7, 8, 9, 10, 11, 12, 20, 21, 22, 23, 24, 25, 26, 27, 28, 29, 30, 31, 32, 40, 41, 42, 43};
     enum { KNOWN = sizeof known / sizeof *known };
     const char *other = xdvdfs_text(UINT32_MAX);
     int missing = NONE;
@@ -652,6 +1018,14 @@ static void texts(void)
     for (i = 0; i < KNOWN; i++)
         for (j = 0; j < i; j++)
             EXPECT("texts differ", strcmp(xdvdfs_text(known[i]), xdvdfs_text(known[j])) != 0, 1);
+    /* what stops a rig, in words */
+    expect_text(__LINE__, xdvdfs_text(40), "the volume has no date");
+    expect_text(__LINE__, xdvdfs_text(41), "the time is before the volume's date");
+    expect_text(__LINE__, xdvdfs_text(42), "the volume is older than the greatest age");
+    expect_text(__LINE__, xdvdfs_text(43), "the path leads to a directory and not to a file");
+    /* the number is not the stamp that it speaks of */
+    EXPECT("the number of no date", XDVDFS_UNDATED, 40);
+    EXPECT("the stamp of no date", XDVDFS_NO_DATE, 0);
     EXPECT("version", strlen(XDVDFS_VERSION) >= 5 && XDVDFS_VERSION_NUMBER > 0, 1);
 }
 
@@ -671,6 +1045,16 @@ int main(void)
     known_dates();
     no_date();
     dates_of_libc();
+    limits_of_nothing();
+    limits_by_date();
+    limits_by_window();
+    limits_of_a_cut_window();
+    limits_by_marks();
+    limits_by_path();
+    limits_in_a_bad_table();
+    limits_by_entry();
+    limits_behind_255();
+    limits_behind_65535();
     others();
     texts();
     printf("bindings/c/tests: %d compared, %d differ\n", tried, wrong);
