@@ -1,0 +1,3 @@
+-- Laws of digits, and cases of decimal numbers.
+pub mod Digits
+pub mod Cases

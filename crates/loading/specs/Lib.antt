@@ -1,0 +1,2 @@
+-- What bytes say as a decimal number.
+pub mod Decimal
