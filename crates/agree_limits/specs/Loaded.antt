@@ -28,7 +28,11 @@ pub record FileLoaded (R : Request) (p : Plan) (e j : ℕ) (d : Descriptor) (ans
   pub loaded : (time age : ℕ) → 0 < d .stamp → d .stamp ≤ time → time - d .stamp ≤ age
       → answer time age
       ≡ record {
-        number = 0; sector = record { 0 = sectorAt R p e j }; size = valueOf (shareOf R e) j; stamp = d .stamp }
+        number = 0;
+        sector = record { 0 = sectorAt R p e j };
+        size = valueOf (shareOf R e) j;
+        stamp = d .stamp;
+      }
   -- else nothing is wrong but the date: 40, 41 or 42
   pub by-date : (time age : ℕ) → isIn (answer time age .number) (0 ∷ 40 ∷ 41 ∷ 42 ∷ []) ≡ true
   -- and it is never said not to exist
