@@ -107,7 +107,7 @@ pub fn load_limits(w: &[u8], first: Sector, path: &[u8], time: u64, age: u64) ->
             if number != 0 {
                 return refused(number);
             }
-            load_found(xdvdfs::find_path(w, first, d.root, path, 2), d.stamp)
+            load_found(read_path::find_path_two(w, first, d.root, path), d.stamp)
         }
         DescriptorRead::NoVolume => refused(20),
     }

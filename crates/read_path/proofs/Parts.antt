@@ -4,7 +4,8 @@ use mathlib.Core.Path.{_≡_, refl, sym, ap, _∙_}
 use mathlib.Core.Bool.{Bool, true, false}
 use mathlib.Core.List.{List, [], _∷_}
 use native.Mathlib.Omega.{arith}
-use lib.Dec.{eqb}
+use lib.Dec.{eqb, leb}
+use borrow.Author.Tests.{leb-true, leb-false}
 use native.Mathlib.Decide.{ℕ-discrete}
 use lib.ListN.{length, take, drop, length-drop, drop-of-length-le}
 use lib.Seq.{take-length, drop-drop}
@@ -13,14 +14,15 @@ use Rattle.units.specs.declared.Sector.{Sector}
 use Rattle.units.specs.declared.Region.{Region}
 use Rattle.read_entry.specs.Entry.{Placed}
 use Rattle.read_lookup.specs.declared.Looked.{Looked}
-use Rattle.read_lookup.specs.Lookup.{lookupBy}
+use Rattle.read_lookup.specs.Lookup.{Finding, lookupBy}
 use Rattle.read_lookup.specs.Lookup as lookup
 use Rattle.read_path.specs.declared.Turn.{Turn}
 use Rattle.read_path.specs.declared.Turn.the-variants as turn
 use Rattle.read_path.specs.declared.PathFound.{PathFound}
 use Rattle.read_path.specs.declared.PathFound.the-variants as path-found
 use Rattle.read_path.specs.Path.{grow, split, unended, lastOf, turnOf, onward, partsFrom, told}
-use Rattle.read_path.specs.inner.Path.{firstLen, turning}
+use Rattle.read_path.specs.inner.Path.{firstLen, turning, turnAt}
+use Rattle.read_path.specs.Path as Path
 
 -- no slash: one part, the whole
 only-by : (x : ℕ) (xs : List ℕ) (b : Bool) → (firstLen xs ≡ length xs → split xs ≡ xs ∷ []) → pick b zero (suc (firstLen xs)) ≡ suc (length xs) → pick b ([] ∷ split xs) (grow x (split xs)) ≡ (x ∷ xs) ∷ []
@@ -110,6 +112,11 @@ module _ (absent w : List ℕ) (first : Sector) (t : Region) where
       let left : Some (unended (split rest)) = some-left rest (simp length-drop (omega arith)) in
       rw (first-part l (omega arith), unended-more (take (firstLen l) l) (split rest) (some-split rest), left .2)
 
+-- the last part leads into no table
+not-last : (b : Bool) (a : Told Finding) (u : Region) → Path.into u ≡ turnAt b a → b ≡ false
+not-last true a u e = let z : _≡_ {A = ℕ} 0 1 = cc in absurd (omega arith)
+not-last false a u e = refl
+
 -- a turn of the loop, at place i of the path, in the table t; x is the answer of the whole
 module _ (absent w : List ℕ) (first : Sector) (t : Region) (path : List ℕ) (i : ℕ) (x : Told Placed) (so-far : x ≡ partsFrom absent w first t (unended (split (drop i path)))) where
   pub at-end : length path ≤ i → told path-found.NoDirent ≡ x
@@ -119,9 +126,9 @@ module _ (absent w : List ℕ) (first : Sector) (t : Region) (path : List ℕ) (
     part : take (e - i) (drop i path) ≡ take (firstLen (drop i path)) (drop i path)
     part = let d : e - i ≡ firstLen (drop i path) = omega (arith, ends .0) in rw d
 
-    pub last : length path ≤ e + 1 → (f : PathFound) → told f ≡ lastOf (lookup.told a) → told f ≡ x
-    last h f is = sym (so-far ∙ last-part absent w first t (drop i path) (simp length-drop (omega arith)) (simp length-drop (omega (arith, ends .0, ends .1)))
-        (simp length-drop (omega (arith, ends .0))) ∙ rw (is, looked, part))
+    last : length path ≤ e + 1 → x ≡ lastOf (lookup.told a)
+    last h = so-far ∙ last-part absent w first t (drop i path) (simp length-drop (omega arith)) (simp length-drop (omega (arith, ends .0, ends .1)))
+        (simp length-drop (omega (arith, ends .0))) ∙ rw (looked, part)
 
     went : e + 1 < length path → x ≡ onward (turnOf (lookup.told a)) (λ u. partsFrom absent w first u (unended (split (drop (e + 1) path))))
     went h =
@@ -129,8 +136,16 @@ module _ (absent w : List ℕ) (first : Sector) (t : Region) (path : List ℕ) (
         let d : i + suc k ≡ e + 1 = omega (arith, ends .0) in
         so-far ∙ more-parts absent w first t (drop i path) (simp length-drop (omega (arith, ends .0))) ∙ rw (looked, part, drop-drop (suc k) i path, d)
 
-    pub into : e + 1 < length path → (s : Turn) → turning s ≡ turnOf (lookup.told a) → (u : Region) → s ≡ turn.Into u → (j : ℕ) → j ≡ e + 1 → x ≡ partsFrom absent w first u (unended (split (drop j path)))
-    into h s is u at j d = went h ∙ rw (← is, at, d)
+    turned : (b : Bool) → leb (length path) (e + 1) ≡ b → x ≡ onward (turnAt b (lookup.told a)) (λ u. partsFrom absent w first u (unended (split (drop (e + 1) path))))
+    turned true h = last (leb-true _ _ h)
+    turned false h = went (leb-false _ _ h)
 
-    pub stop : e + 1 < length path → (s : Turn) → turning s ≡ turnOf (lookup.told a) → (f : PathFound) → s ≡ turn.Stop f → told f ≡ x
-    stop h s is f at = sym (went h ∙ rw (← is, at))
+    module _ (s : Turn) (is : turning s ≡ turnAt (leb (length path) (e + 1)) (lookup.told a)) where
+      pub more-left : (u : Region) → s ≡ turn.Into u → (j : ℕ) → j ≡ e + 1 → j ≤ length path
+      more-left u at j d = omega (arith, leb-false (length path) (e + 1) (not-last (leb (length path) (e + 1)) (lookup.told a) u (sym (ap turning at) ∙ is)))
+
+      pub into : (u : Region) → s ≡ turn.Into u → (j : ℕ) → j ≡ e + 1 → x ≡ partsFrom absent w first u (unended (split (drop j path)))
+      into u at j d = turned _ refl ∙ rw (← is, at, d)
+
+      pub stop : (f : PathFound) → s ≡ turn.Stop f → told f ≡ x
+      stop f at = sym (turned _ refl ∙ rw (← is, at))

@@ -12,8 +12,8 @@ ghost use Prim.Native.Nat.{_+_, _≤_};
 ghost use lib.ListN.{length, drop};
 ghost use Rattle.units.specs.Lent.{was};
 ghost use Rattle.read_lookup.specs.Lookup as lookup;
-ghost use Rattle.read_path.specs.Path.{trim, told, lastOf, turnOf, pathBy, pathOf};
-ghost use Rattle.read_path.specs.inner.Path.{firstLen, turning};
+ghost use Rattle.read_path.specs.Path.{trim, told, lastOf, pathBy, pathOf};
+ghost use Rattle.read_path.specs.inner.Path.{firstLen, turning, turnAt};
 
 // What a path leads to.
 pub enum PathFound {
@@ -35,7 +35,7 @@ pub enum PathFound {
     NoDirent,
 }
 
-// The answer of a part before the last: the table to go into, or the path's answer.
+// The answer of a part: the table to go into, or the path's answer.
 pub enum Turn {
     Into(Region),
     Stop(PathFound),
@@ -86,12 +86,15 @@ fn last_of(a: Looked) -> PathFound
     }
 }
 
-// The answer of a part before the last: an entry must be a directory.
-fn turn_of(a: Looked) -> Turn
-    ensures { λ r. ⌜ turning r ≡ turnOf (lookup.told a) ⌝ }
+// The answer of a part: an entry ends the path with the last part, and must be a directory before it.
+fn turn_of(a: Looked, last: bool) -> Turn
+    ensures { λ r. ⌜ turning r ≡ turnAt last (lookup.told a) ⌝ }
 {
     match a {
-        Looked::Found(h, _, _, _) => {
+        Looked::Found(h, place, _, _) => {
+            if last {
+                return Turn::Stop(PathFound::Entry(h, place));
+            }
             let sector = h.sector;
             let size = h.size;
             if h.is_directory() {
@@ -99,13 +102,7 @@ fn turn_of(a: Looked) -> Turn
             }
             Turn::Stop(PathFound::IsNotDirectory)
         }
-        Looked::BadRule => Turn::Stop(PathFound::BadRule),
-        Looked::BadByte => Turn::Stop(PathFound::BadByte),
-        Looked::DirectoryEmpty => Turn::Stop(PathFound::DirectoryEmpty),
-        Looked::DoesNotExist(_) => Turn::Stop(PathFound::DoesNotExist),
-        Looked::OutOfBounds(o) => Turn::Stop(PathFound::OutOfBounds(o)),
-        Looked::Truncated(o) => Turn::Stop(PathFound::Truncated(o)),
-        Looked::Looped => Turn::Stop(PathFound::Looped),
+        _ => Turn::Stop(last_of(a)),
     }
 }
 
@@ -121,10 +118,7 @@ fn find_path_by(w: &[u8], first: Sector, table: Region, path: &[u8], absent: u16
     while i < path.len() {
         let e = part_end(path, i);
         let a = read_lookup::look_up_by(w, first, t, &path[i..e], absent);
-        if path.len() <= e + 1 {
-            return last_of(a);
-        }
-        match turn_of(a) {
+        match turn_of(a, path.len() <= e + 1) {
             Turn::Into(u) => t = u,
             Turn::Stop(f) => return f,
         }
@@ -141,4 +135,11 @@ pub fn find_path(w: &[u8], first: Sector, table: Region, path: &[u8], rule: u32)
         Ruled::Absent(n) => find_path_by(w, first, table, path, n),
         Ruled::BadRule => PathFound::BadRule,
     }
+}
+
+// The same under rule two, for a caller who knows no other.
+pub fn find_path_two(w: &[u8], first: Sector, table: Region, path: &[u8]) -> PathFound
+    ensures { λ r. ⌜ told r ≡ pathOf 2 (was w) first table (was path) ⌝ }
+{
+    find_path_by(w, first, table, path, 0xffff)
 }

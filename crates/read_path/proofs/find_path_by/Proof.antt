@@ -11,7 +11,7 @@ use Rattle.units.specs.declared.Region.{Region}
 use Rattle.name_role.specs.Roles.{badSought}
 use Rattle.read_path.specs.declared.PathFound.the-variants as path-found
 use Rattle.read_path.specs.Path.{trim, split, unended, partsFrom, pathBy, told}
-use Rattle.read_path.proofs.Parts.{at-end, last, into, stop}
+use Rattle.read_path.proofs.Parts.{at-end, more-left, into, stop}
 use Rattle.read_path.proofs.find_path_by.Statement.{statement}
 use Rattle.read_path.proofs.find_path_by.Tie as tie
 
@@ -35,10 +35,10 @@ loop-holds : tie.Need-loop-holds Inv-loop μ-loop
 loop-holds c = (search needs, search begins)
 
 loop-again : tie.Need-loop-again Inv-loop μ-loop
-loop-again c = (search needs, search into)
+loop-again c = (search more-left, search into)
 
 pub find-path-by-spec : {M : Type 1} → statement M
 find-path-by-spec = tie.close (tie.spec Inv-loop μ-loop (λ c κs. search needs) (λ c. search bad) (λ c κs. search needs)
     loop-holds (λ c κs. search needs) (λ c. search needs) (λ c. search needs) (λ c. search needs) (λ c κs. search needs)
-    (λ c. search needs) (λ c κs. search needs) (λ c. search last) (λ c κs. search needs) (λ c. search needs)
-    (λ c. search needs) (λ c. search stop) (λ c. search needs) (λ c. search needs) loop-again (λ c. search at-end))
+    (λ c. search needs) (λ c κs. search needs) (λ c. search needs) (λ c. search needs)
+    (λ c. search stop) (λ c. search needs) (λ c. search needs) loop-again (λ c. search at-end))
