@@ -40,6 +40,21 @@ pub struct Entry {
     pub name_len: u8,
 }
 
+/// What the limits loader answers: a file's first sector and size and the stamp of its volume; or the number of a refusal, and then all three are 0.
+#[derive(Clone, Copy, Debug, PartialEq, Eq)]
+pub struct Limits {
+    pub number: u32,
+    pub sector: u32,
+    pub size: u32,
+    pub stamp: u64,
+}
+
+impl Limits {
+    pub fn refused(number: u32) -> Limits {
+        Limits { number, sector: 0, size: 0, stamp: 0 }
+    }
+}
+
 /// An answer, by the numbers of docs/SCOPE.md. What a reader does not say is None.
 #[derive(Clone, Debug, PartialEq, Eq)]
 pub enum Said {

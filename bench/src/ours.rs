@@ -6,14 +6,15 @@ mod plan;
 mod sys;
 mod write;
 
-use crate::{Descriptor, Entry, Said, Table, View};
+use crate::{Descriptor, Entry, Limits, Said, Table, View};
 pub use plan::{plan, Prepared};
 use sys::Fields;
 pub use write::{add_in_turn, whole, write_list, Entries, Lent};
 
 /// What stands in every cell before a call.
 const BEFORE: u32 = 0x0707_0707;
-const BEFORE_DESCRIPTOR: Descriptor = Descriptor { root: Table { sector: BEFORE, size: BEFORE }, stamp: 0x0707_0707_0707_0707 };
+const BEFORE_STAMP: u64 = 0x0707_0707_0707_0707;
+const BEFORE_DESCRIPTOR: Descriptor = Descriptor { root: Table { sector: BEFORE, size: BEFORE }, stamp: BEFORE_STAMP };
 
 /// The cells of a reader's answer.
 struct Answer {
@@ -126,6 +127,13 @@ fn call_check(v: View, t: Table, list: &mut [u32], scratch: &mut [u64]) -> (Answ
     (a, count)
 }
 
+#[inline]
+fn call_limits(v: View, path: &[u8], time: u64, age: u64, l: &mut Limits) {
+    let (w, wl) = (v.bytes.as_ptr(), v.bytes.len());
+    l.number =
+        unsafe { sys::xdvdfs_load_limits(w, wl, v.first, path.as_ptr(), path.len(), time, age, &mut l.sector, &mut l.size, &mut l.stamp) };
+}
+
 /// The lookup of a name under a rule, which is any number.
 pub fn look_up(v: View, t: Table, name: &[u8], rule: u32) -> Said {
     let a = call_look_up(v, t, name, rule);
@@ -204,6 +212,13 @@ pub fn write_descriptor(out: &mut [u8], d: Descriptor) -> u32 {
     number
 }
 
+/// What the limits loader answers. Its cells are stored in every call, so they are given as they are found.
+pub fn load_limits(v: View, path: &[u8], time: u64, age: u64) -> Limits {
+    let mut l = Limits { number: BEFORE, sector: BEFORE, size: BEFORE, stamp: BEFORE_STAMP };
+    call_limits(v, path, time, age, &mut l);
+    l
+}
+
 /// For the race: the answer's number and the entry's sector, so that nothing can be left out.
 #[inline]
 pub fn fast_look_up(v: View, t: Table, name: &[u8], rule: u32) -> u64 {
@@ -233,4 +248,39 @@ pub fn fast_entry(v: View, t: Table, offset: u32) -> u64 {
 pub fn fast_check(v: View, t: Table, list: &mut [u32], scratch: &mut [u64]) -> usize {
     let (a, count) = call_check(v, t, list, scratch);
     count + 1_000_000 * a.number as usize
+}
+
+/// The cells of the limits loader, and of the descriptor and the path that it has in one, lent for the whole race.
+pub struct Cells {
+    limits: Limits,
+    descriptor: Descriptor,
+    found: Answer,
+}
+
+impl Cells {
+    pub fn before() -> Cells {
+        Cells { limits: Limits::refused(BEFORE), descriptor: BEFORE_DESCRIPTOR, found: Answer::before() }
+    }
+}
+
+#[inline]
+pub fn fast_limits(v: View, path: &[u8], time: u64, age: u64, cells: &mut Cells) -> u64 {
+    let l = &mut cells.limits;
+    call_limits(v, path, time, age, l);
+    l.number as u64 + l.sector as u64 + l.size as u64 + l.stamp % 65_536
+}
+
+/// The descriptor of an image, and then a path from its root under a rule: two calls.
+#[inline]
+pub fn fast_descriptor_and_path(v: View, path: &[u8], rule: u32, cells: &mut Cells) -> u64 {
+    let (s, d, a) = (&v.bytes[2048 * (32 - v.first as usize)..], &mut cells.descriptor, &mut cells.found);
+    let (sector, size) = (&mut d.root.sector, &mut d.root.size);
+    let number = unsafe { sys::xdvdfs_read_descriptor(s.as_ptr(), s.len(), sector, size, &mut d.stamp) };
+    if number != 0 {
+        return number as u64;
+    }
+    let (w, wl, p, pl) = (v.bytes.as_ptr(), v.bytes.len(), path.as_ptr(), path.len());
+    let (root, fields) = (d.root, &mut a.fields);
+    a.number = unsafe { sys::xdvdfs_find_path(w, wl, v.first, root.sector, root.size, p, pl, rule, fields, &mut a.place, &mut a.offset) };
+    a.number as u64 + a.fields[2] as u64 + a.fields[3] as u64 + d.stamp % 65_536
 }

@@ -1,7 +1,9 @@
 //! The readers once more, written from docs/SCOPE.md with no thought of speed: they tell beforehand where the Rust would never return, and are compared too.
+mod limits;
 mod plan;
 mod write;
 
+pub use limits::load_limits;
 pub use plan::{plan, refused_twice};
 pub use write::{add_in_turn, sectors_for, stored, whole, MOST};
 

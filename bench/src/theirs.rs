@@ -2,7 +2,7 @@
 mod plan;
 mod write;
 
-use crate::{Descriptor, Entry, Said, Table, View};
+use crate::{Descriptor, Entry, Limits, Said, Table, View};
 pub use plan::{fast_plan, listed, plan};
 use std::panic::{catch_unwind, AssertUnwindSafe};
 pub use write::{add_in_turn, hear_panics, heard, write_list, Heard};
@@ -118,6 +118,31 @@ pub fn read_descriptor(bytes: &[u8]) -> Option<Descriptor> {
     let volume = VolumeDescriptor::deserialize(bytes.get(..2048)?.try_into().unwrap()).ok()?;
     let region = volume.root_table.region;
     volume.is_valid().then_some(Descriptor { root: Table { sector: region.sector, size: region.size }, stamp: volume.filetime })
+}
+
+/// The limits loader, put together of the Rust's parts: the descriptor that its device has at sector 32, the date's tests, `walk_path` from the root, and whether
+/// what that finds is a directory. None where it comes to the path and may not follow it from that root. Of slashes alone `walk_path` panics, which is read as 28.
+pub fn load_limits(v: View, sought: &[u8], time: u64, age: u64, may_follow: impl Fn(Table) -> bool) -> Option<Limits> {
+    let mut sector = [0; 2048];
+    let Some(Descriptor { root, stamp }) = counted(v).read(32 * 2048, &mut sector).ok().and_then(|()| read_descriptor(&sector)) else {
+        return Some(Limits::refused(20));
+    };
+    if stamp == 0 {
+        return Some(Limits::refused(40));
+    }
+    match time.checked_sub(stamp) {
+        None => return Some(Limits::refused(41)),
+        Some(gone) if gone > age => return Some(Limits::refused(42)),
+        Some(_) if !may_follow(root) => return None,
+        Some(_) => {}
+    }
+    match path(v, root, std::str::from_utf8(sought).expect("an ASCII path"), root) {
+        Said::Found { entry, .. } if entry.attributes & 16 != 0 => Some(Limits::refused(43)),
+        Said::Found { entry, .. } => Some(Limits { number: 0, sector: entry.sector, size: entry.size, stamp }),
+        Said::Refused { number, .. } => Some(Limits::refused(number)),
+        Said::Panicked if sought.len() > 1 && sought.iter().all(|&b| b == b'/') => Some(Limits::refused(28)),
+        other => panic!("an answer that docs/SCOPE.md does not know: {other:?}"),
+    }
 }
 
 /// With no stamp the bytes are those of the Rust's own value, untouched.

@@ -6,7 +6,7 @@
 //! times over the turns, its middle time the sum of their medians.
 use bench::inputs::{image, names, shortest_names, written, Dice, Folder};
 use bench::plans::even_request;
-use bench::{ours, plain, theirs, Said, Table, View};
+use bench::{ours, plain, theirs, Limits, Said, Table, View};
 use std::hint::black_box;
 
 const PIECE: usize = 1_000;
@@ -170,6 +170,49 @@ fn three_parts(turns: usize, dice: &mut Dice) {
     seek(label, turns, v, t, &paths, ours::fast_path);
 }
 
+/// So deep, with as many names in each directory: four of them at most are directories, and in the last none.
+fn even_folder(dice: &mut Dice, count: usize, depth: usize) -> Folder {
+    let mut folder = Folder { files: vec![], folders: vec![] };
+    for (i, name) in names(dice, count, "", 4..=8).into_iter().enumerate() {
+        if depth > 0 && i < 4 {
+            folder.folders.push((name, even_folder(dice, count, depth - 1)));
+        } else {
+            folder.files.push((name, dice.below(5_000) as u64));
+        }
+    }
+    folder
+}
+
+/// The limits loader beside the descriptor and then the path, under rule two: a thousand questions in an order drawn once, each of which finds a file.
+fn limits(turns: usize, dice: &mut Dice, count: usize, parts: usize) {
+    let (s, t) = (if count == 1 { "" } else { "s" }, if parts == 1 { "" } else { "s" });
+    let label = format!("{count} name{s} a directory, path of {parts} part{t}: limits loader to descriptor and path");
+    if !wanted(&label) {
+        return;
+    }
+    const STAMP: u64 = 134_393_040_000_000_000;
+    const TIME: u64 = STAMP + 5;
+    const AGE: u64 = 10;
+    let mut root = even_folder(dice, count, parts - 1);
+    let paths: Vec<String> = root.paths().into_iter().filter(|path| path.split('/').count() == parts).collect();
+    let mut bytes = image(&mut root);
+    bytes[65_564..65_572].copy_from_slice(&STAMP.to_le_bytes());
+    let v = View { bytes: &bytes, first: 0 };
+    let t = theirs::read_descriptor(&bytes[65_536..]).expect("a volume").root;
+    let asked: Vec<&[u8]> = (0..PIECE).map(|_| paths[dice.below(paths.len())].as_bytes()).collect();
+    for path in &asked {
+        let Said::Found { entry, .. } = ours::path(v, t, path, TWO).0 else { panic!("{path:?} is not found") };
+        let file = Limits { number: 0, sector: entry.sector, size: entry.size, stamp: STAMP };
+        assert_eq!(ours::load_limits(v, path, TIME, AGE), file, "{path:?}");
+    }
+    let (mut cells, mut other) = (ours::Cells::before(), ours::Cells::before());
+    let (time, age, rule) = (black_box(TIME), black_box(AGE), black_box(TWO));
+    let mut one = |_| asked.iter().map(|path| ours::fast_limits(v, path, time, age, &mut cells)).sum();
+    let mut two = |_| asked.iter().map(|path| ours::fast_descriptor_and_path(v, path, rule, &mut other)).sum();
+    assert_eq!(one(0), two(0), "{label}");
+    race(&label, 4 * turns, 1, PIECE, &mut one, &mut two);
+}
+
 fn table(label: &str, turns: usize, list: &[String], order: &[String]) {
     let (bytes, size) = written(list, false).unwrap_or_else(|| panic!("the Rust refuses {label}"));
     let (v, t) = (View { bytes: &bytes, first: 33 }, Table { sector: 33, size });
@@ -266,6 +309,12 @@ fn main() {
         missing(&format!("1000 names of {label}"), turns, &list[..1_000], &list[1_000..]);
     }
     three_parts(turns, &mut other);
+    let mut third = Dice(9);
+    for parts in [1, 3] {
+        for count in [1, 10, 100, 1_000] {
+            limits(turns, &mut third, count, parts);
+        }
+    }
     for count in [100, 1_000, 8_000] {
         both_orders(&format!("{count} names of 4 to 8 bytes"), turns, &names(&mut dice, count, "", 4..=8));
     }
@@ -278,5 +327,9 @@ fn main() {
         planned(turns.div_ceil(5), &mut dice, count, entries);
     }
     let (whole, word, long) = (ours::Lent::new(1).bytes(), std::mem::size_of::<u32>(), std::mem::size_of::<u64>());
-    println!("\nLent for an entry, besides the caller's own list: {whole} bytes for a whole table, {} for a walk, {} for a strict check.", 2 * word, word + long);
+    println!(
+        "\nLent for an entry, besides the caller's own list: {whole} bytes for a whole table, {} for a walk, {} for a strict check.",
+        2 * word,
+        word + long
+    );
 }

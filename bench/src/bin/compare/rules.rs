@@ -43,18 +43,27 @@ pub fn each_listed(v: View, t: Table) -> Result<Found, String> {
     Ok(found)
 }
 
-/// The path of each entry that the Rust's walks list in an image that the Rust wrote, followed under both rules.
-fn each_path(v: View, root: Table) -> Result<Found, String> {
-    let mut found = Found::default();
+/// Each entry that the Rust's walks list in an image that the Rust wrote, with its path.
+pub fn entries_of(v: View, root: Table) -> Result<Vec<(Vec<u8>, Entry)>, String> {
+    let mut list = Vec::new();
     let mut tables = vec![(root, Vec::new())];
     while let Some((t, front)) = tables.pop() {
         for (entry, name) in theirs::walked(v, t).map_err(|said| format!("the Rust's walk of its own table: {said:?}"))? {
             let path = [&front[..], &name[..]].concat();
-            found.take(&path, entry, ours::path(v, root, &path, ONE).0, ours::path(v, root, &path, TWO).0)?;
             if entry.attributes & 16 != 0 {
                 tables.push((Table { sector: entry.sector, size: entry.size }, [&path[..], b"/"].concat()));
             }
+            list.push((path, entry));
         }
+    }
+    Ok(list)
+}
+
+/// Each of their paths followed under both rules.
+fn each_path(v: View, root: Table) -> Result<Found, String> {
+    let mut found = Found::default();
+    for (path, entry) in entries_of(v, root)? {
+        found.take(&path, entry, ours::path(v, root, &path, ONE).0, ours::path(v, root, &path, TWO).0)?;
     }
     Ok(found)
 }
@@ -152,6 +161,24 @@ fn high_bytes(tally: &mut Tally) {
     }
 }
 
+/// 70 to 129 names in the root and in each directory, of which each tenth of the root is one.
+pub fn large_folder(dice: &mut Dice) -> Folder {
+    let large = |dice: &mut Dice| {
+        let count = 70 + dice.below(60);
+        names(dice, count, "", 1..=6)
+    };
+    let mut root = Folder { files: vec![], folders: vec![] };
+    for (i, name) in large(dice).into_iter().enumerate() {
+        if i % 10 == 0 {
+            let files = large(dice).into_iter().map(|name| (name, dice.below(5000) as u64)).collect();
+            root.folders.push((name, Folder { files, folders: vec![] }));
+        } else {
+            root.files.push((name, dice.below(5000) as u64));
+        }
+    }
+    root
+}
+
 /// Tables and images of the Rust with so many names in a directory that an entry often stands at 1,020, with entries below it.
 fn beyond_1020(tally: &mut Tally, dice: &mut Dice, rounds: usize) {
     for round in 0..rounds {
@@ -162,20 +189,7 @@ fn beyond_1020(tally: &mut Tally, dice: &mut Dice, rounds: usize) {
         tally.listed_names("table of 60 to 459 names", View { bytes: &bytes, first: 33 }, Table { sector: 33, size });
     }
     for _ in 0..rounds / 20 {
-        let large = |dice: &mut Dice| {
-            let count = 70 + dice.below(60);
-            names(dice, count, "", 1..=6)
-        };
-        let mut root = Folder { files: vec![], folders: vec![] };
-        for (i, name) in large(dice).into_iter().enumerate() {
-            if i % 10 == 0 {
-                let files = large(dice).into_iter().map(|name| (name, dice.below(5000) as u64)).collect();
-                root.folders.push((name, Folder { files, folders: vec![] }));
-            } else {
-                root.files.push((name, dice.below(5000) as u64));
-            }
-        }
-        let bytes = image(&mut root);
+        let bytes = image(&mut large_folder(dice));
         let t = theirs::read_descriptor(&bytes[65_536..]).expect("a volume").root;
         tally.listed_paths("image of 70 to 129 names a directory", View { bytes: &bytes, first: 0 }, t);
     }

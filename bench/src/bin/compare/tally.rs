@@ -15,6 +15,12 @@ pub struct Tally {
     /// Entries that the Rust's walk lists in tables of its own, sought under both rules; and how many of them rule two alone finds.
     pub listed: u64,
     pub two_alone: u64,
+    /// Answers of the limits loader by their number, all held against the plain loader; how many of them the Rust's parts were asked for, how many are of entries that
+    /// the Rust's walk lists, and how many differ.
+    pub limits: BTreeMap<u32, u64>,
+    pub limits_asked: u64,
+    pub limits_listed: u64,
+    pub limits_wrong: u64,
     /// Tables that were written, or refused.
     pub tables: u64,
     pub plans: u64,
