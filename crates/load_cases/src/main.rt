@@ -51,15 +51,11 @@ fn show_dates() {
     show_date(b"one unit before, any age", b"dated", STAMP - 1, LAST);
     show_date(b"a day after, age a day", b"dated", STAMP + DAY, DAY);
     show_date(b"one unit more", b"dated", STAMP + DAY + 1, DAY);
-    show_date(b"age one unit less", b"dated", STAMP + DAY, DAY - 1);
-    show_date(b"the last time, any age", b"dated", LAST, LAST);
 }
 
 // No date, the first and the last.
 fn show_edges() {
     show_date(b"no date at time 0", b"no_date", 0, 0);
-    show_date(b"no date, any age", b"no_date", LAST, LAST);
-    show_date(b"stamp 1 at time 0", b"first_date", 0, LAST);
     show_date(b"stamp 1, age exact", b"first_date", LAST, LAST - 1);
     show_date(b"stamp 1, too old", b"first_date", LAST, LAST - 2);
     show_date(b"stamp 2^64-1, age 0", b"last_date", LAST, 0);
@@ -75,11 +71,6 @@ fn show_files() {
     show_path(b"upper case", b"///LIMITS/");
     show_now(b"root size rounded", b"rounded", b"limits");
     show_path(b"in a directory", b"axes/x.lim");
-    show_now(
-        b"in a directory, root size rounded",
-        b"rounded",
-        b"axes/x.lim",
-    );
     show_path(b"an empty file at sector 0", b"empty");
     show_path(b"all attributes but 0x10", b"axes/y.lim");
     show_now(b"behind a link of 255", b"sixty", b"file48");
@@ -89,10 +80,8 @@ fn show_paths() {
     show_path(b"directory", b"axes");
     show_path(b"directory with 0x20", b"/axes/z.lim/");
     show_path(b"missing", b"axes/limits");
-    show_path(b"left of a link of 65535", b"aaa");
     show_path(b"a part that is no directory", b"limits/x.lim");
     show_path(b"no part", b"");
-    show_path(b"slashes alone", b"//");
     show_path(b"byte above 127", b"limit\x80");
 }
 
@@ -116,18 +105,14 @@ fn show_beside_faults() {
 fn show_orders() {
     show_file(b"20 before 40", b"second_mark", b"", 0, 0);
     show_file(b"40 before 2", b"no_date", b"\xff", LAST, 0);
-    show_file(b"40 before 43", b"no_date", b"axes", LAST, LAST);
     show_file(b"41 before 28", b"dated", b"", 0, 0);
-    show_file(b"41 before 43", b"dated", b"axes", STAMP - 1, 0);
     show_file(b"42 before 22", b"dated", b"missing", LAST, 0);
-    show_file(b"42 before 21", b"size_zero", b"a", STAMP + 1, 0);
     show_file(b"42 before 43", b"dated", b"axes", STAMP + 1, 0);
 }
 
 // The same among a path's.
 fn show_path_orders() {
     show_now(b"2 before 21", b"size_zero", b"\xff");
-    show_now(b"2 before 27", b"dated", b"limits/\xff");
     show_now(b"28 before 21", b"size_zero", b"");
     show_now(b"27 before 22", b"dated", b"limits/missing");
 }
@@ -162,11 +147,8 @@ fn show_windows(w: &[u8]) {
     show_window(b"window from 33", rest(w, 67584), 33);
     show_window(b"from 31, said to be from 32", rest(w, 63488), 32);
     show_window(b"from 32, said to be from 31", rest(w, 65536), 31);
-    show_window(b"from 0, said to be the last", w, 4294967295);
     show_window(b"from 0, cut in the second mark", front(w, 67583), 0);
-    show_window(b"from 0, cut before sector 32", front(w, 65535), 0);
     show_window(b"no bytes, from 32", front(w, 0), 32);
-    show_window(b"no bytes, from 0", front(w, 0), 0);
 }
 
 // A window of n bytes from sector 32 on.
