@@ -8,7 +8,7 @@ use mathlib.Core.Option.{Option, some, none}
 use lib.Dec.{ltb}
 use lib.ListN.{length, take, drop, length-drop, drop-of-length-le}
 use lib.Seq.{take-all}
-use borrow.Author.Tests.{lt-ltb, le-ltb, lt-leb, le-leb}
+use borrow.Author.Tests.{lt-leb, le-leb}
 use Rattle.units.specs.Told.{Told, gives, refuses, numberOf, pick}
 use Rattle.units.specs.declared.Sector.{Sector}
 use Rattle.layout_node.specs.declared.Header.{Header}
@@ -25,7 +25,8 @@ use Rattle.layout_volume.proofs.Stamp.{no-date, a-date}
 use Rattle.read_path.specs.declared.PathFound.{PathFound}
 use Rattle.read_path.specs.Path.{told, pathOf}
 use Rattle.limits_rule.specs.declared.Limits.{Limits}
-use Rattle.limits_rule.specs.Limits.{volumeIn, allowedAt, fileOf, andThen, loadOf, refusedBy, answered, limitsOf}
+use Rattle.limits_rule.specs.Limits.{volumeIn, allowedAt, fileOf, andThen, refusedBy, answered, limitsOf}
+use Rattle.limits_rule.proofs.Steps as steps
 
 -- ---- the descriptor: the window starts past it, or ends before it, or has it at that place
 module _ (w : List ℕ) (first : Sector) where
@@ -51,32 +52,29 @@ module _ (w : List ℕ) (first : Sector) where
 
 -- ---- the date
 module _ (date : Date) (stamp time age : ℕ) (read : dateTold date ≡ dateOf stamp) where
+  number-by : (x : Option ℕ) (t : Told ℕ) → dateTold date ≡ x → allowedAt time age x ≡ t → numberOf t ≡ numberOf (allowedAt time age (dateOf stamp))
+  number-by x t e a = sym (ap (λ (y : Option ℕ). numberOf (allowedAt time age y)) (sym read ∙ e) ∙ ap numberOf a)
+
   pub missing : date ≡ Missing → 40 ≡ numberOf (allowedAt time age (dateOf stamp))
-  unfolding allowedAt
-  missing e = rw (← read, e)
+  missing e = number-by none _ (ap dateTold e) (steps.undated time age)
 
   module _ (s : ℕ) (e : date ≡ At s) where
     pub back : time < s → 41 ≡ numberOf (allowedAt time age (dateOf stamp))
-    unfolding allowedAt
-    back h = rw (← read, e, lt-ltb time s h)
+    back h = number-by (some s) _ (ap dateTold e) (steps.before time age s h)
 
     pub old : s ≤ time → age < time - s → 42 ≡ numberOf (allowedAt time age (dateOf stamp))
-    unfolding allowedAt
-    old h k = rw (← read, e, le-ltb time s h, lt-ltb age (time - s) k)
+    old h k = number-by (some s) _ (ap dateTold e) (steps.older time age s h k)
 
     pub good : s ≤ time → time - s ≤ age → 0 ≡ numberOf (allowedAt time age (dateOf stamp))
-    unfolding allowedAt
-    good h k = rw (← read, e, le-ltb time s h, le-ltb age (time - s) k)
+    good h k = number-by (some s) _ (ap dateTold e) (steps.allowed time age s h k)
 
 -- ---- the file
 module _ (stamp : ℕ) (h : Header) (b : Bool) (kind : b ≡ isDirectory h) where
   pub directory : (r : Limits) → r ≡ refusedBy 43 → b ≡ true → r ≡ answered (fileOf stamp h)
-  unfolding fileOf
-  directory r e k = rw (← kind, k) e
+  directory r e k = e ∙ sym (steps.directory stamp h (sym kind ∙ k))
 
   pub file : b ≡ false → record { number = 0; sector = h .sector; size = h .size; stamp = stamp } ≡ answered (fileOf stamp h)
-  unfolding fileOf
-  file k = rw (← kind, k)
+  file k = sym (steps.file stamp h (sym kind ∙ k))
 
 -- ---- what a path leads to, told as t
 pub of-entry : (stamp : ℕ) {t : Told Placed} {x : Placed} {r : Limits} → t ≡ gives x → r ≡ answered (fileOf stamp (x .header))
@@ -109,16 +107,18 @@ not-allowed-by (refuses k vs) next h = refl
 
 module _ (w : List ℕ) (first : Sector) (path : List ℕ) (time age : ℕ) (v : DescriptorRead) (read : readTold v ≡ volumeIn w first) where
   pub no-volume : v ≡ NoVolume → (r : Limits) → r ≡ refusedBy 20 → r ≡ limitsOf w first path time age
-  unfolding limitsOf loadOf
-  no-volume e r h = rw (← read, e) h
+  no-volume e r h = h ∙ sym (steps.without-volume w first path time age (sym read ∙ ap readTold e))
 
   module _ (d : Descriptor) (e : v ≡ Volume d) (n : ℕ) (number : n ≡ numberOf (allowedAt time age (dateOf (d .stamp)))) where
+    by-volume : limitsOf w first path time age ≡ answered (andThen (allowedAt time age (dateOf (d .stamp))) (steps.from-root w first path d))
+    by-volume = steps.by-volume w first path time age d (sym read ∙ ap readTold e)
+
     pub not-allowed : (n ≡ 0 → ⊥) → (r : Limits) → r ≡ refusedBy n → r ≡ limitsOf w first path time age
-    unfolding limitsOf loadOf
     not-allowed h r k =
-        rw (← read, e) (k ∙ ap refusedBy number ∙ not-allowed-by (allowedAt time age (dateOf (d .stamp))) _ (λ z. h (number ∙ z)))
+        k ∙ ap refusedBy number ∙ not-allowed-by (allowedAt time age (dateOf (d .stamp))) (steps.from-root w first path d) (λ z. h (number ∙ z)) ∙ sym by-volume
 
     pub goes-on : n ≡ 0 → (f : PathFound) → told f ≡ pathOf 2 w first (d .root) path
         → (r : Limits) → r ≡ answered (andThen (told f) (λ x. fileOf (d .stamp) (x .header))) → r ≡ limitsOf w first path time age
-    unfolding limitsOf loadOf
-    goes-on z f found r k = rw (← read, e, allowed time age (d .stamp) (sym number ∙ z), ← found) k
+    goes-on z f found r k =
+        k ∙ ap (λ (t : Told Placed). answered (andThen t (λ x. fileOf (d .stamp) (x .header)))) found
+        ∙ sym (by-volume ∙ ap (λ (t : Told ℕ). answered (andThen t (steps.from-root w first path d))) (allowed time age (d .stamp) (sym number ∙ z)))

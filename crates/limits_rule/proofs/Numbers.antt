@@ -4,7 +4,7 @@ use native.Mathlib.Omega.{arith}
 use mathlib.Core.Path.{_≡_, refl, sym, ap, subst, _∙_}
 use mathlib.Core.Bool.{true}
 use mathlib.Core.Logic.{inl, inr}
-use mathlib.Core.List.{List}
+use mathlib.Core.List.{List, [], _∷_}
 use Rattle.units.specs.Told.{refuses}
 use Rattle.units.specs.declared.Sector.{Sector}
 use Rattle.units.specs.declared.Region.{Region}
@@ -16,8 +16,12 @@ use Rattle.read_path.proofs.Rules.{path-by-rule}
 use Rattle.read_path.proofs.Numbers.{OfPath, path-refuses}
 use Rattle.limits_rule.specs.declared.Limits.{Limits}
 use Rattle.limits_rule.specs.Limits.{limitsOf}
-use Rattle.limits_rule.specs.Outcome.{loaded, Accepts, Outcome, accepted, no-volume, no-date, clock-back, too-old, by-path, not-a-file, numbers}
+use Rattle.limits_rule.specs.Outcome.{loaded, Accepts, Outcome, accepted, no-volume, no-date, clock-back, too-old, by-path, not-a-file}
 use Rattle.limits_rule.proofs.Outcomes.{outcome, outcome-one}
+
+-- 0, and the refusals in the order in which their causes are looked for
+abbrev pub numbers : List ℕ
+numbers = 0 ∷ 20 ∷ 40 ∷ 41 ∷ 42 ∷ 2 ∷ 28 ∷ 21 ∷ 22 ∷ 23 ∷ 24 ∷ 25 ∷ 27 ∷ 43 ∷ []
 
 -- a path's refusals under rule two
 two-refuses : (w : List ℕ) (first : Sector) (t : Region) (path : List ℕ) (k : ℕ) (vs : List ℕ) → pathOf 2 w first t path ≡ refuses k vs → OfPath k

@@ -4,10 +4,10 @@ use native.Mathlib.Omega.{arith}
 use mathlib.Core.Path.{_≡_, refl, sym, ap, subst, _∙_}
 use mathlib.Core.Bool.{Bool, true, false}
 use mathlib.Core.List.{List, []}
-use mathlib.Core.Option.{some, none}
+use mathlib.Core.Option.{Option, some, none}
 use lib.Dec.{ltb}
-use borrow.Author.Tests.{ltb-true, ltb-false, lt-ltb, le-ltb}
-use Rattle.units.specs.Told.{Told, gives, refuses, pick}
+use borrow.Author.Tests.{ltb-true, ltb-false}
+use Rattle.units.specs.Told.{Told, gives, refuses}
 use Rattle.units.specs.declared.Sector.{Sector}
 use Rattle.layout_node.specs.Header.{isDirectory}
 use Rattle.layout_volume.specs.declared.Descriptor.{Descriptor}
@@ -16,76 +16,36 @@ use Rattle.layout_volume.proofs.Stamp as stamps
 use Rattle.read_entry.specs.Entry.{Placed}
 use Rattle.read_path.specs.Path.{pathOf}
 use Rattle.limits_rule.specs.declared.Limits.{Limits}
-use Rattle.limits_rule.specs.Limits.{volumeIn, allowedAt, fileOf, andThen, loadOf, refusedBy, answered, limitsOf}
-use Rattle.limits_rule.specs.Outcome.{loaded, Allows, Accepts, Outcome, accepted, no-volume, no-date, clock-back, too-old, by-path, not-a-file}
+use Rattle.limits_rule.specs.Limits.{volumeIn, allowedAt, fileOf, andThen, answered, limitsOf}
+use Rattle.limits_rule.specs.Outcome.{Allows, Outcome, accepted, no-volume, no-date, clock-back, too-old, by-path, not-a-file}
+use Rattle.limits_rule.proofs.Steps.{undated, before, older, allowed, file, directory, from-root, without-volume, by-volume}
 use Rattle.limits_rule.proofs.Marks.{volume-20, unmarked-volume, refused-unmarked}
 
--- what comes after the descriptor, and after its date
-abbrev from-root : List ℕ → Sector → List ℕ → Descriptor → ℕ → Told Limits
-from-root w first path d stamp = andThen (pathOf 2 w first (d .root) path) (λ x. fileOf stamp (x .header))
-
--- the date's answer, by what the stamp is
-module _ (time age stamp : ℕ) where
-  pub undated : stamp ≡ 0 → allowedAt time age (dateOf stamp) ≡ refuses 40 []
-  unfolding allowedAt
-  undated e = rw (e, stamps.no-date)
-
-  -- a stamp that is not 0
-  module _ (dated : 0 < stamp) where
-    date : dateOf stamp ≡ some stamp
-    date = stamps.a-date stamp (λ e. omega arith)
-
-    pub before : time < stamp → allowedAt time age (dateOf stamp) ≡ refuses 41 []
-    unfolding allowedAt
-    before h = rw (date, lt-ltb time stamp h)
-
-    pub older : stamp ≤ time → age < time - stamp → allowedAt time age (dateOf stamp) ≡ refuses 42 []
-    unfolding allowedAt
-    older h k = rw (date, le-ltb time stamp h, lt-ltb age (time - stamp) k)
-
-    pub allowed : stamp ≤ time → time - stamp ≤ age → allowedAt time age (dateOf stamp) ≡ gives stamp
-    unfolding allowedAt
-    allowed h k = rw (date, le-ltb time stamp h, le-ltb age (time - stamp) k)
-
 module _ (w : List ℕ) (first : Sector) (path : List ℕ) (time age : ℕ) where
-  -- THE ANSWER OF A CAUSE, step by step: by the descriptor, by its date, by the path
-  by-volume : (d : Descriptor) → volumeIn w first ≡ gives d
-      → limitsOf w first path time age ≡ answered (andThen (allowedAt time age (dateOf (d .stamp))) (from-root w first path d))
-  unfolding limitsOf loadOf
-  by-volume d e = rw e
+  -- THE ANSWER OF A CAUSE: by the descriptor and its date, which is none or the stamp, and by the path
+  by-date : (d : Descriptor) (x : Option ℕ) (t : Told ℕ) → volumeIn w first ≡ gives d → dateOf (d .stamp) ≡ x → allowedAt time age x ≡ t
+      → limitsOf w first path time age ≡ answered (andThen t (from-root w first path d))
+  by-date d x t v e a =
+      by-volume w first path time age d v ∙ ap (λ (t : Told ℕ). answered (andThen t (from-root w first path d))) (ap (allowedAt time age) e ∙ a)
 
-  by-date : (d : Descriptor) (k : ℕ) → volumeIn w first ≡ gives d → allowedAt time age (dateOf (d .stamp)) ≡ refuses k []
-      → refusedBy k ≡ limitsOf w first path time age
-  by-date d k v e = sym (by-volume d v ∙ ap (λ (t : Told ℕ). answered (andThen t (from-root w first path d))) e)
+  date : (stamp : ℕ) → 0 < stamp → dateOf stamp ≡ some stamp
+  date stamp h = stamps.a-date stamp (λ e. omega arith)
 
-  pub by-found : (d : Descriptor) (a : Told Placed) → Allows w first path time age d → pathOf 2 w first (d .root) path ≡ a
+  by-found : (d : Descriptor) (a : Told Placed) → Allows w first path time age d → pathOf 2 w first (d .root) path ≡ a
       → limitsOf w first path time age ≡ answered (andThen a (λ x. fileOf (d .stamp) (x .header)))
   by-found d a h e =
-      by-volume d (h .volume)
-      ∙ ap (λ (t : Told ℕ). answered (andThen t (from-root w first path d))) (allowed time age (d .stamp) (h .dated) (h .begun) (h .fresh))
+      by-date d _ _ (h .volume) (date (d .stamp) (h .dated)) (allowed time age (d .stamp) (h .begun) (h .fresh))
       ∙ ap (λ (t : Told Placed). answered (andThen t (λ x. fileOf (d .stamp) (x .header)))) e
-
-  file-by : (d : Descriptor) (x : Placed) → isDirectory (x .header) ≡ false → answered (fileOf (d .stamp) (x .header)) ≡ loaded d x
-  unfolding fileOf
-  file-by d x e = rw e
-
-  directory-by : (d : Descriptor) (x : Placed) → isDirectory (x .header) ≡ true → answered (fileOf (d .stamp) (x .header)) ≡ refusedBy 43
-  unfolding fileOf
-  directory-by d x e = rw e
-
-  no-volume-by : volumeIn w first ≡ refuses 20 [] → refusedBy 20 ≡ limitsOf w first path time age
-  unfolding limitsOf loadOf
-  no-volume-by e = rw e
 
   -- a cause has one answer
   pub outcome-one : (r : Limits) → Outcome w first path time age r → r ≡ limitsOf w first path time age
-  outcome-one r (accepted d x a) = sym (by-found d (gives x) (a .allows) (a .found) ∙ file-by d x (a .file))
-  outcome-one r (no-volume h) = no-volume-by (unmarked-volume w first h)
-  outcome-one r (no-date d v e) = by-date d 40 v (undated time age (d .stamp) e)
-  outcome-one r (clock-back d v h k) = by-date d 41 v (before time age (d .stamp) h k)
-  outcome-one r (too-old d v h k l) = by-date d 42 v (older time age (d .stamp) h k l)
+  outcome-one r (accepted d x a) = sym (by-found d (gives x) (a .allows) (a .found) ∙ file (d .stamp) (x .header) (a .file))
+  outcome-one r (no-volume h) = sym (without-volume w first path time age (unmarked-volume w first h))
+  outcome-one r (no-date d v e) = sym (by-date d none _ v (ap dateOf e ∙ stamps.no-date) (undated time age))
+  outcome-one r (clock-back d v h k) = sym (by-date d _ _ v (date (d .stamp) h) (before time age (d .stamp) k))
+  outcome-one r (too-old d v h k l) = sym (by-date d _ _ v (date (d .stamp) h) (older time age (d .stamp) k l))
   outcome-one r (by-path d k vs h e) = sym (by-found d (refuses k vs) h e)
-  outcome-one r (not-a-file d x h e k) = sym (by-found d (gives x) h e ∙ directory-by d x k)
+  outcome-one r (not-a-file d x h e k) = sym (by-found d (gives x) h e ∙ directory (d .stamp) (x .header) k)
 
   -- EVERY OUTCOME HAS ITS CAUSE: which of them it is, step by step
   abbrev Here : Type 0

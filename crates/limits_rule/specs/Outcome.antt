@@ -3,7 +3,7 @@
 use Prim.Native.Nat.{ℕ, _+_, _-_, _*_, _≤_, _<_}
 use mathlib.Core.Path.{_≡_}
 use mathlib.Core.Bool.{true, false}
-use mathlib.Core.List.{List, [], _∷_}
+use mathlib.Core.List.{List}
 use lib.ListN.{take, drop}
 use Rattle.units.specs.Told.{gives, refuses}
 use Rattle.units.specs.declared.Sector.{Sector}
@@ -56,7 +56,3 @@ module _ (w : List ℕ) (first : Sector) (path : List ℕ) (time age : ℕ) wher
         → Outcome (refusedBy k)
     not-a-file : (d : Descriptor) (x : Placed) → Allows d → pathOf 2 w first (d .root) path ≡ gives x
         → isDirectory (x .header) ≡ true → Outcome (refusedBy 43)
-
--- the numbers that are answered: 0, and the refusals in the order in which their causes are looked for
-abbrev pub numbers : List ℕ
-numbers = 0 ∷ 20 ∷ 40 ∷ 41 ∷ 42 ∷ 2 ∷ 28 ∷ 21 ∷ 22 ∷ 23 ∷ 24 ∷ 25 ∷ 27 ∷ 43 ∷ []
