@@ -47,15 +47,15 @@ stands w first d s a b c =
     let at : s .place ≡ 2048 * (32 - first .0) = omega (arith, s .at-sector) in
     rw (le-leb (first .0) 32 (omega (arith, s .at-sector)), ← at, s .here) (read-written d (s .rest) a b c)
 
--- an answer gives one thing, and does not refuse
+-- an answer gives one thing
 one-given : {A : Type 0} {a : Told A} {x y : A} → a ≡ gives x → a ≡ gives y → x ≡ y
 one-given p q = cc
 
 module _ (R : Request) (places : ℕ) (tables sectors : List ℕ) (p : Plan) (w : List ℕ) (first : Sector) (I : Imaged R places tables sectors p w first) (d : Descriptor) (s : Described p w first d) where
   volume : volumeIn w first ≡ gives d
   volume =
-      let least : tableIn (p .sizes) 0 ≤ 16384 * 2320 = size-most R places tables sectors p (I .planned) 0 (some-directory R (rule-kept R places tables sectors p (I .planned))) in
-      stands w first d (s .stand) (omega (arith, s .root .at, root-planned R places tables sectors p (I .planned))) (omega (arith, least, s .root .sized .most)) (s .stamp)
+      let most : tableIn (p .sizes) 0 ≤ 16384 * 2320 = size-most R places tables sectors p (I .planned) 0 (some-directory R (rule-kept R places tables sectors p (I .planned))) in
+      stands w first d (s .stand) (omega (arith, s .root .at, root-planned R places tables sectors p (I .planned))) (omega (arith, most, s .root .sized .most)) (s .stamp)
 
   -- a path that leads to a file
   module _ (e j : ℕ) (cs : List (List ℕ)) (l : Leads R p 0 cs e j) (file : isDirectory (shareOf R e) j ≡ false) where
