@@ -1,36 +1,47 @@
 -- DEMAND 3: what is written is what is listed is what is found. Assumes nothing.
-use Prim.Native.Nat.{ℕ, zero, suc, _+_, _-_, _*_, _/_, _≤_, _<_, max}
-use mathlib.Core.Path.{_≡_, refl, ap}
+use Prim.Native.Nat.{ℕ, suc, _+_, _*_, _≤_}
+use mathlib.Core.Path.{_≡_, refl, sym, ap, subst, _∙_}
 use mathlib.Core.Bool.{true, false}
-use mathlib.Core.List.{List, [], _∷_, _++_, map}
+use mathlib.Core.Logic.{_⊎_, inl, inr}
+use mathlib.Core.List.{List, List·Memᴰ, Memᴰ·of-map}
+use mathlib.Core.Option.{some}
 use native.Mathlib.Omega.{arith}
 use native.Mathlib.Decide.{decLe}
-use lib.ListN.{length, getD}
-use borrow.Author.Tests.{ne-eqb}
-use Rattle.units.specs.Told.{Told, gives, refuses, pick}
+use lib.ListN.{length, length-map}
+use Rattle.units.specs.Told.{Told, gives}
 use Rattle.units.specs.declared.Sector.{Sector}
 use Rattle.units.specs.declared.Region.{Region}
-use Rattle.name_role.specs.Roles.{badSought}
+use Rattle.name_role.specs.Roles.{storedKeys, badSought}
+use Rattle.name_role.proofs.Roles.{sought-equal→}
+use Rattle.read_entry.specs.Entry.{Placed, readAt}
 use Rattle.read_entry.specs.Links.{isIn}
-use Rattle.read_lookup.specs.Lookup.{Leads, missing, Finding, stepAt, chainFrom, lookupBy}
+use Rattle.read_lookup.specs.Lookup.{Finding, lookupBy}
+use Rattle.read_lookup.proofs.Laws.{found-stands}
+use Rattle.lookup_way.proofs.Along.{one-read}
+use Rattle.read_walk.specs.Walk.{walkOf}
+use Rattle.strict_rule.specs.Strict.{nameIn}
+use Rattle.table_shape.specs.Shape.{preorder, Hangs}
+use Rattle.table_shape.specs.Found as shape
+use Rattle.table_shape.proofs.Walked.{walk-lists}
+use Rattle.table_shape.proofs.Reaches.{all-reached, Lands, on, off, lands}
+use Rattle.table_shape.proofs.Ways.{way-links}
 use Rattle.avl_model.specs.Tree.{Tree, leaf, node, ht}
-use Rattle.avl_model.specs.Laws.{Avl, All, size, least}
+use Rattle.avl_model.specs.Laws.{All, size, least}
 use Rattle.avl_model.proofs.Avl.{avl-size, least-20, least-mono}
-use Rattle.table_model.specs.Entry.{Entry, Item, lengthOf}
+use Rattle.table_model.specs.Entry.{Entry, Item}
 use Rattle.table_model.specs.Place.{stopOf, endOf, freeAfter, freeOf, items}
-use Rattle.table_model.specs.Table.{stop, sizeOf, tableBytes}
-use Rattle.table_model.specs.Said.{AllIn, Fits, LinkFits, Stands, Apart}
+use Rattle.table_model.specs.Table.{sizeOf}
+use Rattle.table_model.specs.Said.{AllIn, LinkFits}
 use Rattle.table_model.proofs.Places.{FitsAt, start-at}
-use Rattle.table_model.proofs.Geometry.{all-map, all-left, all-right, wider, inside, apart, sectors-apart, items-length}
+use Rattle.table_model.proofs.Geometry.{all-map, all-both, all-left, all-right, of-item, wider, inside, apart, sectors-apart}
 use Rattle.table_model.proofs.Placing.{links-fit}
-use Rattle.agree.specs.Written.{Writable, Stand, Written}
-use Rattle.agree.specs.Agreement.{offsets, mostHeaders, ReadBack, Reached, Sound, Agreement}
+use Rattle.agree.specs.Written.{Writable, Written}
+use Rattle.agree.specs.Agreement.{offsets, mostHeaders, placedAt, Same, ReadBack, Reached, Sound, Agreement}
 use Rattle.agree.specs.Agreement as sound
-use Rattle.agree.proofs.Sized.{empty-size}
+use Rattle.agree.proofs.Setting.{Setting}
 use Rattle.agree.proofs.Holds.{all-back, setting, ready}
-use Rattle.agree.proofs.Walks.{empty-read, walk-written}
-use Rattle.agree.proofs.Reaches.{all-reached, all-sound}
-use Rattle.agree.proofs.Unique.{way-unique}
+use Rattle.agree.proofs.Shapes.{all-mem, shapeOf, of-items, to-items, lists-offsets, depth-is, in-order, stops, written-hangs}
+use Rattle.agree.proofs.Unique.{differ, way-unique}
 
 -- how many entries there can be: an entry takes 16 bytes or more, and the last one starts below 262,144
 module _ (entry : ℕ → Entry) where
@@ -62,43 +73,68 @@ module _ (entry : ℕ → Entry) where
     | no k ↦ absurd (omega (arith, least-20, least-mono (suc mostHeaders) (ht x) (omega arith), avl-size x (g .balanced), few align s x g))
   ]
 
--- offsets of items that are apart differ
-later : (xs : List Item) (o : ℕ) → AllIn (λ y. o < y .offset) xs → (j : ℕ) → j < length (offsets xs) → o < getD (offsets xs) j 0
-later [] o a j h = absurd (omega arith)
-later (x ∷ xs) o a zero h = a .0
-later (x ∷ xs) o a (suc j) h = later xs o (a .1) j (omega arith)
+-- A WRITTEN TABLE, its items xs, and its tree
+module _ (entry : ℕ → Entry) (align s : ℕ) (x : Tree) (w : List ℕ) (first : Sector) (t : Region) (g : Written entry align s x w first t) where
+  abbrev xs : List Item
+  xs = items entry align 0 s x
 
-after : (x : Item) (xs : List Item) → AllIn (λ y. stop x ≤ y .offset) xs → AllIn (λ y. x .offset < y .offset) xs
-after x [] a = tt
-after x (y ∷ xs) a = (omega (arith, a .0), after x xs (a .1))
+  abbrev place : ℕ
+  place = g .stand .place
 
-differ : (xs : List Item) → Apart xs → (i j : ℕ) → i < length (offsets xs) → j < length (offsets xs) → getD (offsets xs) i 0 ≡ getD (offsets xs) j 0 → i ≡ j
-differ [] a i j h k e = absurd (omega arith)
-differ (x ∷ xs) a zero zero h k e = refl
-differ (x ∷ xs) a zero (suc j) h k e = absurd (omega (arith, later xs (x .offset) (after x xs (a .0)) j (omega arith)))
-differ (x ∷ xs) a (suc i) zero h k e = absurd (omega (arith, later xs (x .offset) (after x xs (a .0)) i (omega arith)))
-differ (x ∷ xs) a (suc i) (suc j) h k e = ap suc (differ xs (a .1) i j (omega arith) (omega arith) e)
+  abbrev F : Setting
+  F = setting entry align s x w first t g
 
--- an empty table: the first header read is no entry
--- (over a bound k that is a variable: at 65,535 the chain would be opened to its end)
-chain-missing : (f : ℕ → Leads) (k n o : ℕ) → f o ≡ missing → chainFrom f (suc k) n o ≡ refuses 22 ((n + 1) ∷ [])
-unfolding chainFrom
-chain-missing f k n o e = rw e
+  abbrev hangs : Hangs (readAt w first t) (some 0) (shapeOf F 0 s x)
+  hangs = written-hangs entry align s x w first t g .0
 
-module _ (absent : List ℕ) (entry : ℕ → Entry) (align s : ℕ) (w : List ℕ) (first : Sector) (t : Region)
-    (stand : Stand w first (t .sector) (tableBytes entry align s leaf)) (sized : t .size ≡ 2048) (name : List ℕ) (ascii : badSought name ≡ false) where
-  empty-step : stepAt absent w first t name 0 ≡ missing
-  unfolding stepAt
-  empty-step = rw (empty-read entry align s w first t stand sized)
+  backs : AllIn (ReadBack w first t place) xs
+  backs = all-back F x 0 s (ready entry align s x w first t g)
 
-  -- a lookup in it answers 22 after one header
-  pub empty-lookup : lookupBy absent w first t name ≡ refuses 22 (1 ∷ [])
-  unfolding lookupBy
-  empty-lookup = rw (ascii, ne-eqb (t .size) 0 (λ q. omega arith)) (chain-missing (stepAt absent w first t name) 65535 0 0 empty-step)
+  -- the walk lists the offsets of the items
+  walk-written : (room : ℕ) → length xs ≤ room → walkOf w first t room ≡ gives (offsets xs)
+  walk-written room h =
+      let q : preorder (shapeOf F 0 s x) ≡ offsets xs = lists-offsets F x 0 s in
+      walk-lists w first t hangs room (omega (arith, ap length q, length-map xs (λ (y : Item). y .offset))) ∙ ap gives q
 
-none-in : (entry : ℕ → Entry) (align s : ℕ) (P : Item → Type 0) → AllIn P (items entry align 0 s leaf)
-unfolding items
-none-in entry align s P = tt
+  -- each item is reached
+  reach : (y : Item) → shape.Reached w first t (y .offset) (placedAt place y) → ReadBack w first t place y → Reached w first t place xs y
+  reach y r b = record {
+    links = r .links;
+    way = r .way;
+    real = r .real;
+    written = way-links (readAt w first t) (λ k. (z : Item) × List·Memᴰ z xs × ((k ≡ z .left) ⊎ (k ≡ z .right))) hangs
+        (of-items F _ x 0 s (all-map _ _ xs (λ z m. ((z, m, inl refl), (z, m, inr refl))) (all-mem xs))) (y .offset) (r .links) (r .way) (r .real);
+    answers = λ absent name ascii q. r .answers absent name ascii (q ∙ ap storedKeys (sym (b .named)));
+  }
+
+  reached : AllIn (Reached w first t place xs) xs
+  reached =
+      all-both _ _ _ xs reach
+      (to-items F _ x 0 s (all-reached w first t hangs (in-order F x 0 s (ready entry align s x w first t g) (g .writable .ordered))
+      (omega (arith, depth-is F x 0 s, low entry align s x (g .writable)))))
+      backs
+
+  -- what is found is an item
+  module _ (absent name : List ℕ) where
+    sound-by : (a : Told Finding) → lookupBy absent w first t name ≡ a → Lands (shapeOf F 0 s x) mostHeaders a → Sound place xs mostHeaders name a
+    sound-by a e (off c k) = sound.missing c k
+    sound-by a e (on f i k) =
+        let stands = found-stands absent w first t name f e in
+        let m = Memᴰ·of-map (λ (z : Item). z .offset) xs (subst (List·Memᴰ (f .offset)) (lists-offsets F x 0 s) i) in
+        let y : Item = m .0 in
+        let b : ReadBack w first t place y = of-item (ReadBack w first t place) xs y backs (m .1) in
+        let same : placedAt place y ≡ f .entry = one-read (b .reads) (ap (readAt w first t) (m .2) ∙ stands .0) in
+        let named : Same name (y .entry .name) =
+        sought-equal→ name (nameIn w (f .entry)) (stands .1) ∙ ap (λ (z : Placed). storedKeys (nameIn w z)) (sym same) ∙ ap storedKeys (b .named) in
+        subst (λ (z : Finding). Sound place xs mostHeaders name (gives z)) (λ j. record { entry = same j; offset = m .2 j; headers = f .headers })
+        (sound.found y (f .headers) (m .1) named k)
+
+    sounds : isIn 0 absent ≡ true → badSought name ≡ false → Sound place xs mostHeaders name (lookupBy absent w first t name)
+    sounds zero-in ascii =
+        let few-headers = written-hangs entry align s x w first t g .1 in
+        sound-by (lookupBy absent w first t name) refl
+        (lands absent w first t name hangs (stops F absent zero-in x 0 s (ready entry align s x w first t g)) (omega (arith, low entry align s x (g .writable))) ascii
+        mostHeaders (omega (arith, low entry align s x (g .writable))))
 
 -- DEMAND 3, of every tree that can be written
 pub agreement : (entry : ℕ → Entry) (align s : ℕ) (x : Tree) (w : List ℕ) (first : Sector) (t : Region) (g : Written entry align s x w first t)
@@ -107,24 +143,10 @@ agreement entry align s x w first t g = record {
   inside = all-map _ _ (items entry align 0 s x) (wider 0 (sizeOf entry x) 0 (t .size) (omega arith) (g .sized .least)) (inside entry align x s (g .writable .fits));
   apart = apart entry align x s (g .writable .fits);
   sectors = sectors-apart entry align (g .writable .aligned) x 0 s;
-  listed = λ room h. walk-written entry align s x w first t g room (omega (arith, items-length entry align x 0 s));
+  listed = walk-written entry align s x w first t g;
   once = differ (items entry align 0 s x) (apart entry align x s (g .writable .fits));
-  read = all-back (setting entry align s x w first t g) x 0 s (ready entry align s x w first t g);
-  reached = reached x g;
+  read = backs entry align s x w first t g;
+  reached = reached entry align s x w first t g;
   one-way = way-unique entry align s x w first t g;
-  sound = λ absent none name a. sounds absent none x g name a;
+  sound = λ absent zero-in name ascii. sounds entry align s x w first t g absent name zero-in ascii;
 }
-  where
-    reached : (y : Tree) (h : Written entry align s y w first t) → AllIn (Reached w first t (h .stand .place) (items entry align 0 s y)) (items entry align 0 s y)
-    reached leaf h = none-in entry align s (Reached w first t (h .stand .place) (items entry align 0 s leaf))
-    reached (node l i r) h =
-        all-reached (setting entry align s (node l i r) w first t h) l i r s (ready entry align s (node l i r) w first t h)
-        (omega (arith, few entry align s (node l i r) (h .writable))) (h .writable .ordered)
-
-    sounds : (absent : List ℕ) → isIn 0 absent ≡ true → (y : Tree) (h : Written entry align s y w first t) (name : List ℕ) → badSought name ≡ false
-        → Sound (h .stand .place) (items entry align 0 s y) mostHeaders name (lookupBy absent w first t name)
-    sounds absent none leaf h name a =
-        rw (empty-lookup absent entry align s w first t (h .stand) (empty-size (t .size) (h .sized)) name a) (sound.missing 1 (omega arith))
-    sounds absent none (node l i r) h name a =
-        all-sound (setting entry align s (node l i r) w first t h) l i r s (ready entry align s (node l i r) w first t h)
-        (omega (arith, few entry align s (node l i r) (h .writable))) absent none mostHeaders (low entry align s (node l i r) (h .writable)) name a

@@ -2,8 +2,7 @@ pub mod Sized
 pub mod Setting
 pub mod Readback
 pub mod Holds
-pub mod Walks
-pub mod Reaches
+pub mod Shapes
 pub mod Unique
 pub mod Agrees
 pub mod Plain

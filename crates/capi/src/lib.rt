@@ -223,7 +223,8 @@ pub extern "C" fn xdvdfs_walk(
 }
 
 // Checks a table by the strict rule of `xdvdfs::check_table`, and lists it. 6, then 23, 24, 30, 26, 32, 31, all but 6
-// and 26 with the offset. A listed name may still not be found by lookup.
+// and 26 with the offset. In a table that is accepted a lookup under rule two finds each listed name that has no byte
+// above 127.
 #[no_mangle]
 pub extern "C" fn xdvdfs_check_table(
     w: &[u8],

@@ -1,14 +1,18 @@
 -- Demand 3 of the writers of tables: cited. Assumes nothing.
-use Prim.Native.Nat.{ℕ, _-_, _≤_}
+use Prim.Native.Nat.{ℕ, _+_, _-_, _≤_}
 use native.Mathlib.Omega.{arith}
 use mathlib.Core.Path.{_≡_, sym, ap, subst, _∙_}
+use mathlib.Core.Bool.{false}
 use mathlib.Core.List.{List, _++_}
 use lib.ListN.{length, take, replicate, length-map}
 use Rattle.units.specs.Told.{gives}
 use Rattle.units.specs.declared.Sector.{Sector}
 use Rattle.units.specs.declared.Region.{Region}
 use mathlib.Core.Option.{some}
+use Rattle.name_role.specs.Roles.{badSought}
+use Rattle.read_entry.specs.Entry.{Placed, readAt}
 use Rattle.read_entry.specs.Links.{oneAbsent, walkAbsent}
+use Rattle.read_lookup.specs.Lookup.{lookupBy}
 use Rattle.read_lookup.proofs.Rules.{lookup-by-rule}
 use Rattle.read_walk.specs.Walk as walking
 use Rattle.strict_rule.specs.Strict as checking
@@ -23,7 +27,7 @@ use Rattle.dirtab_arena.proofs.Passed.{held}
 use Rattle.dirtab.specs.Serialise as serialise
 use Rattle.dirtab_list.specs.Whole as whole
 use Rattle.dirtab_list.specs.Whole.{Listing, givenName, entryIn}
-use Rattle.agree.specs.Agreement.{offsets, placedAt, ReadBack, Reached, Sound, Agreement}
+use Rattle.agree.specs.Agreement.{Same, offsets, placedAt, ReadBack, Reached, Sound, Agreement}
 use Rattle.agree.specs.Given.{EachOnce}
 use Rattle.agree.proofs.FromList.{grown-size}
 use Rattle.agree.proofs.Plain.{found-listed-by, found-again-by}
@@ -32,29 +36,36 @@ use Rattle.agree_writers.specs.Wrote.{WroteList, WroteArena}
 use Rattle.agree_writers.proofs.OfList.{list-agrees, list-each, list-strict}
 use Rattle.agree_writers.proofs.OfArena.{arena-agrees, arena-each, arena-strict}
 use Rattle.agree_causes.specs.Lists.{treeFor, itemsFor}
-use Rattle.lookup_way.specs.Along.{Along, Real}
-use Rattle.lookup_way.proofs.Along.{along-clear, along-absent}
-use Rattle.lookup_way.proofs.Sets.{one-0, walk-0, rule-0, without-255, with-255, walk-clear}
+use Rattle.lookup_way.specs.Along.{Along, Real, answerAlong}
+use Rattle.lookup_way.proofs.Sets.{one-0, walk-0, rule-0, walk-clear}
+use Rattle.lookup_way.proofs.ByRule.{found-one, lost-one, found-two}
 use Rattle.agree_causes.proofs.Listed.{walk-lists, check-lists}
 use Rattle.agree_causes.proofs.Serialised.{serialised-arena}
 use Rattle.claims.specs.Found.{FoundByName, Kept, ListRead, ListKept, TurnRead, TurnKept, ArenaRead, ArenaKept}
 
+-- an entry to which links lead, where a lookup of its name answers along them
+pub found-by-name : (w : List ℕ) (first : Sector) (t : Region) (x : Placed) (o : ℕ) (stored : List ℕ) (most : ℕ) (links : List ℕ) → Along (readAt w first t) 0 o links → Real links
+    → ((ks : List ℕ) → Along (readAt w first t) 0 o ks → Real ks → ks ≡ links)
+    → ((absent name : List ℕ) → badSought name ≡ false → Same name stored → lookupBy absent w first t name ≡ answerAlong absent x o 1 links)
+    → ((name : List ℕ) → badSought name ≡ false → Same name stored → 1 + length links ≤ most)
+    → FoundByName w first t x o stored most
+found-by-name w first t x o stored most links way real one-way answers low = record {
+  links = links;
+  way = way;
+  real = real;
+  one-way = one-way;
+  found-one = λ none name good same. found-one w first t name x o links real (λ absent. answers absent name good same) none;
+  lost-one = λ some name good same. lost-one w first t name x o links real (λ absent. answers absent name good same) some;
+  found-two = λ name good same. (found-two w first t name x o links real (λ absent. answers absent name good same), low name good same);
+}
+
 module _ (w : List ℕ) (first : Sector) (t : Region) (place : ℕ) where
-  found-by-name : (xs : List Item) (y : Item) → Agreement w first t place xs → Reached w first t place xs y → FoundByName w first t place y
-  found-by-name xs y a r = record {
-    links = r .links;
-    way = r .way;
-    real = r .real;
-    one-way = λ ks k q. a .one-way (y .offset) ks (r .links) k q (r .way) (r .real);
-    found-one = λ none name low same.
-        lookup-by-rule w first t name .rule-one ∙ r .answers oneAbsent name low same ∙ along-clear oneAbsent (placedAt place y) (y .offset) 1 (r .links) (without-255 (r .links) (r .real) none);
-    lost-one = λ some name low same.
-        let b = along-absent oneAbsent (placedAt place y) (y .offset) 1 (r .links) (with-255 (r .links) some) in
-        (b .0, lookup-by-rule w first t name .rule-one ∙ r .answers oneAbsent name low same ∙ b .1);
-    found-two = λ name low same.
-        let f = r .answers walkAbsent name low same ∙ along-clear walkAbsent (placedAt place y) (y .offset) 1 (r .links) (walk-clear (r .links) (r .real)) in
-        (lookup-by-rule w first t name .rule-two ∙ f, found-listed-by w first t place xs a walkAbsent name low walk-0 _ f .headers);
-  }
+  item-found : (xs : List Item) (y : Item) → Agreement w first t place xs → Reached w first t place xs y → FoundByName w first t (placedAt place y) (y .offset) (y .entry .name) 19
+  item-found xs y a r = found-by-name w first t (placedAt place y) (y .offset) (y .entry .name) 19 (r .links) (r .way) (r .real)
+      (λ ks k q. a .one-way (y .offset) ks (r .links) k q (r .way) (r .real)) (r .answers)
+      (λ name good same. found-listed-by w first t place xs a walkAbsent name good walk-0 _
+      (sym (lookup-by-rule w first t name .rule-two)
+      ∙ found-two w first t name (placedAt place y) (y .offset) (r .links) (r .real) (λ absent. r .answers absent name good same)) .headers)
 
   -- what the agreement of a table, its entries and the strict check give
   pub kept : (n : ℕ) (entry : ℕ → Entry) (xs : List Item) → length xs ≡ n → Agreement w first t place xs → EachOnce entry n xs
@@ -71,7 +82,7 @@ module _ (w : List ℕ) (first : Sector) (t : Region) (place : ℕ) where
             × (walking.listAfter w first t list (length scratch) ≡ offsets xs ++ replicate (length list - k) 0)) same
             (walk-lists w first t list (length scratch) l (offsets xs) (a .listed (length list) (omega arith)));
         read = λ y m. of-item (ReadBack w first t place) xs y (a .read) m;
-        found = λ y m. found-by-name xs y a (of-item (Reached w first t place xs) xs y (a .reached) m);
+        found = λ y m. item-found xs y a (of-item (Reached w first t place xs) xs y (a .reached) m);
         only = λ rule absent e name low. subst (Sound place xs 19 name) (sym (lookup-by-rule w first t name .under rule absent e)) (a .sound absent (rule-0 rule absent e) name low);
         same = λ name x f. lookup-by-rule w first t name .rule-two ∙ found-again-by w first t place xs a oneAbsent walkAbsent one-0 walk-clear name x (sym (lookup-by-rule w first t name .rule-one) ∙ f);
         accepted = λ list scratch h l.

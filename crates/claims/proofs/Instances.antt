@@ -1,6 +1,6 @@
 -- WHAT THE STATEMENTS SUPPOSE CAN BE MET, computed: by a list of `a`, `b`, `c`, files of size 1, written from sector 34 on; by an arena that holds them; by an
 -- image with a directory `d` and a file `a` in its root, and a file `b` in `d`; by that image with its descriptor before it, in both forms of the root's size; by a chain that
--- reads an offset again; and by a descriptor with the greatest numbers that its fields hold, and the bytes of two that differ in the stamp alone. Assumes nothing.
+-- reads an offset again; by a table of three entries that the strict check accepts; and by a descriptor with the greatest numbers that its fields hold, and the bytes of two that differ in the stamp alone. Assumes nothing.
 use Prim.Native.Nat.{ℕ, zero, suc, _+_, _≤_, _<_}
 use native.Mathlib.Omega.{arith}
 use mathlib.Core.Path.{_≡_, refl, sym, ap, _∙_}
@@ -23,6 +23,10 @@ use Rattle.read_lookup.specs.Lookup as lookup
 use Rattle.read_lookup.specs.Lookup.{lookupOf}
 use Rattle.read_lookup.proofs.Cases.{file, first, of-size}
 use Rattle.read_lookup.proofs.Loops as loops
+use Rattle.read_walk.specs.Walk.{counted}
+use Rattle.strict_rule.specs.Strict as checking
+use Rattle.table_shape.proofs.Cases.{below-c}
+use Rattle.table_shape.proofs.Cases as filed-cases
 use Rattle.avl_model.specs.Tree.{bal}
 use Rattle.avl_model.specs.Names.{namesIn, nameAt, toName}
 use Rattle.avl_model.specs.Seek.{treeAt}
@@ -345,6 +349,16 @@ itself-bytes = all-bytes itself refl
 
 pub itself-looped : lookup.told looked.Looped ≡ lookupOf 1 itself first (of-size 32) (122 ∷ [])
 itself-looped = sym loops.itself-looped
+
+-- ---- a window of bytes with a table that the strict check accepts: the root m, its left child c, and c's right child g
+
+pub filed-bytes : (i : ℕ) → getD (below-c 103) i 0 < 256
+unfolding below
+filed-bytes = all-bytes (below-c 103) refl
+
+pub filed-accepted : checking.strictAnswer (below-c 103) first (of-size 48) 3 4 ≡ gives 3
+unfolding checking.strictAnswer
+filed-accepted = ap counted (filed-cases.cases .g-accepted)
 
 -- ---- a descriptor
 

@@ -10,7 +10,7 @@ use Rattle.units.specs.Told.{gives, refuses}
 use Rattle.units.specs.declared.Sector.{Sector}
 use Rattle.units.specs.declared.Region.{Region}
 use Rattle.name_role.specs.Roles.{badSought}
-use Rattle.read_entry.specs.Entry.{readAt}
+use Rattle.read_entry.specs.Entry.{Placed, readAt}
 use Rattle.read_entry.specs.Links.{absentUnder}
 use Rattle.read_lookup.specs.Lookup.{Finding, lookupOf}
 use Rattle.read_walk.specs.Walk as walking
@@ -31,28 +31,28 @@ use Rattle.agree.specs.Given.{EachOnce}
 use Rattle.agree_list.specs.InTurn.{addAll, emptyIn, thenAnswer, thenOutput, Wide}
 use Rattle.agree_causes.specs.Lists.{itemsFor}
 
--- a window, the number of its first sector, a table's region, and the place of the table's first byte in the window
-module _ (w : List ℕ) (first : Sector) (t : Region) (place : ℕ) where
-  -- what a lookup of an item's name, raised, answers, by the links on the way to it from the first entry, along
-  -- links that are read
-  pub record FoundByName (y : Item) : Type 0 where
+-- a window, the number of its first sector, and a table's region
+module _ (w : List ℕ) (first : Sector) (t : Region) where
+  -- what a lookup of the name of the entry x at offset o, which is stored as these bytes, answers, by the links on the
+  -- way to it from the first entry, along links that are read
+  pub record FoundByName (x : Placed) (o : ℕ) (stored : List ℕ) (most : ℕ) : Type 0 where
     pub links : List ℕ
-    pub way : Along (readAt w first t) 0 (y .offset) links
+    pub way : Along (readAt w first t) 0 o links
     -- the way is the only one along links of which none is 0 or 65,535
     pub real : Real links
-    pub one-way : (ks : List ℕ) → Along (readAt w first t) 0 (y .offset) ks → Real ks → ks ≡ links
-    -- under rule one the item is found, unless a link of 255 stands on the way; then the answer is 22
-    pub found-one : (List·Memᴰ 255 links → ⊥) → (name : List ℕ) → badSought name ≡ false → Same name (y .entry .name)
-        → lookupOf 1 w first t name
-        ≡ gives (record { entry = placedAt place y; offset = y .offset; headers = 1 + length links })
-    pub lost-one : List·Memᴰ 255 links → (name : List ℕ) → badSought name ≡ false → Same name (y .entry .name)
+    pub one-way : (ks : List ℕ) → Along (readAt w first t) 0 o ks → Real ks → ks ≡ links
+    -- under rule one the entry is found, unless a link of 255 stands on the way; then the answer is 22
+    pub found-one : (List·Memᴰ 255 links → ⊥) → (name : List ℕ) → badSought name ≡ false → Same name stored
+        → lookupOf 1 w first t name ≡ gives (record { entry = x; offset = o; headers = 1 + length links })
+    pub lost-one : List·Memᴰ 255 links → (name : List ℕ) → badSought name ≡ false → Same name stored
         → (c : ℕ) × (lookupOf 1 w first t name ≡ refuses 22 (c ∷ []))
-    -- under rule two it is found, whatever links stand on the way, and after at most 19 headers
-    pub found-two : (name : List ℕ) → badSought name ≡ false → Same name (y .entry .name)
-        → (lookupOf 2 w first t name
-        ≡ gives (record { entry = placedAt place y; offset = y .offset; headers = 1 + length links }))
-        × (1 + length links ≤ 19)
+    -- under rule two it is found, whatever links stand on the way, and after at most so many headers
+    pub found-two : (name : List ℕ) → badSought name ≡ false → Same name stored
+        → (lookupOf 2 w first t name ≡ gives (record { entry = x; offset = o; headers = 1 + length links }))
+        × (1 + length links ≤ most)
 
+-- and the place of the table's first byte in the window
+module _ (w : List ℕ) (first : Sector) (t : Region) (place : ℕ) where
   -- DEMAND 3, of n entries and the items xs of their table
   pub record Kept (n : ℕ) (entry : ℕ → Entry) (xs : List Item) : Type 0 where
     -- the items are the entries, each once
@@ -69,7 +69,7 @@ module _ (w : List ℕ) (first : Sector) (t : Region) (place : ℕ) where
     -- reading gives each back: name, size, kind, sector and links
     pub read : (y : Item) → List·Memᴰ y xs → ReadBack w first t place y
     -- a lookup of its name finds each: under rule one unless a link of 255 stands on the way, under rule two always
-    pub found : (y : Item) → List·Memᴰ y xs → FoundByName y
+    pub found : (y : Item) → List·Memᴰ y xs → FoundByName w first t (placedAt place y) (y .offset) (y .entry .name) 19
     -- nothing else is found under either rule: any other name is 22; and at most 19 headers are read
     pub only : (rule : ℕ) (absent : List ℕ) → absentUnder rule ≡ some absent → (name : List ℕ)
         → badSought name ≡ false → Sound place xs 19 name (lookupOf rule w first t name)

@@ -4,6 +4,7 @@ pub mod Rules
 pub mod Found
 pub mod Image
 pub mod Reading
+pub mod Accepted
 pub mod Dated
 pub mod Loaded
 pub mod Determined

@@ -4,7 +4,7 @@ use mathlib.Core.Path.{_≡_, refl, sym, ap, _∙_}
 use mathlib.Core.Bool.{Bool, true, false}
 use mathlib.Core.Logic.{_⊎_, inl, inr}
 use mathlib.Core.List.{List, [], _∷_, List·Memᴰ, List·Memᴰ·head, List·Memᴰ·tail, List·Memᴰ·not-nil, List·Memᴰ·cases-cons}
-use mathlib.Core.Option.{Option, some}
+use mathlib.Core.Option.{Option, some, none}
 use native.Mathlib.Omega.{arith}
 use native.Mathlib.Nat.{add-zero}
 use lib.ListN.{length}
@@ -50,6 +50,10 @@ clear-or-cut absent (j ∷ ks) = go (isIn j absent) refl (clear-or-cut absent ks
     go false e (inl f) = inl (λ k m. both e f k (List·Memᴰ·cases-cons m))
     go false e (inr t) = inr (record { link = t .link; among = List·Memᴰ·tail (t .among); taken = t .taken })
 
+-- what is read at an offset is one entry
+pub one-read : {a : Told (Option Placed)} {x y : Placed} → a ≡ gives (some x) → a ≡ gives (some y) → x ≡ y
+one-read p q = cc
+
 -- the first step of a way: it ends where it starts, or goes left, or right
 pub data First (f : ℕ → Told (Option Placed)) (o p : ℕ) (ks : List ℕ) : Type 0 where
   ended : o ≡ p → ks ≡ [] → First f o p ks
@@ -60,3 +64,12 @@ pub first-step : {f : ℕ → Told (Option Placed)} {o p : ℕ} {ks : List ℕ} 
 first-step there = ended refl refl
 first-step (left {x = x} {ks = js} e a) = leftward x js e a refl
 first-step (right {x = x} {ks = js} e a) = rightward x js e a refl
+
+-- from an offset at which no entry is read, a way ends at once
+pub no-step : {f : ℕ → Told (Option Placed)} {o p : ℕ} {ks : List ℕ} → f o ≡ gives none → Along f o p ks → (o ≡ p) × (ks ≡ [])
+no-step {f} {o} {p} {ks} e a = by (first-step a)
+  where
+    by : First f o p ks → (o ≡ p) × (ks ≡ [])
+    by (ended q n) = (q, n)
+    by (leftward x js q b n) = let z : _≡_ {A = ℕ} 0 1 = cc in absurd (omega arith)
+    by (rightward x js q b n) = let z : _≡_ {A = ℕ} 0 1 = cc in absurd (omega arith)

@@ -1,4 +1,6 @@
--- What a lookup answers along links, and which links the two rules take for absent.
+-- What a lookup answers, step by step and along links, which links the two rules take for absent, and what these answer.
+pub mod Steps
 pub mod Along
 pub mod Sets
+pub mod ByRule
 pub mod Cases

@@ -1,8 +1,9 @@
 -- Which links the two rules take for absent: of links that are neither 0 nor 65,535, rule one exactly 255, and the walk's set, rule two's, none. Assumes nothing.
 use Prim.Native.Nat.{ℕ}
-use mathlib.Core.Path.{_≡_, refl, sym, subst, _∙_}
+use mathlib.Core.Path.{_≡_, refl, sym, ap, subst, _∙_}
 use mathlib.Core.Bool.{Bool, true, false}
-use mathlib.Core.List.{List, List·Memᴰ}
+use mathlib.Core.Logic.{_⊎_, inl, inr}
+use mathlib.Core.List.{List, _∷_, List·Memᴰ, List·Memᴰ·head, List·Memᴰ·tail, List·Memᴰ·cases-cons}
 use mathlib.Core.Option.{some, none}
 use lib.Dec.{eqb}
 use native.Mathlib.Omega.{arith}
@@ -20,6 +21,10 @@ one-0 = refl
 pub walk-0 : isIn 0 walkAbsent ≡ true
 unfolding isIn
 walk-0 = refl
+
+walk-65535 : isIn 65535 walkAbsent ≡ true
+unfolding isIn
+walk-65535 = refl
 
 -- and so in the set of every rule
 rule-0-by : (a b : Bool) (absent : List ℕ) → pick a (some oneAbsent) (pick b (some walkAbsent) none) ≡ some absent → isIn 0 absent ≡ true
@@ -43,6 +48,16 @@ pub in-walk : (k : ℕ) → (k ≡ 0 → ⊥) → (k ≡ 65535 → ⊥) → isIn
 unfolding isIn
 in-walk k a b = rw (ne-eqb k 0 a, ne-eqb k 65535 b)
 
+-- and a link that the walk follows is neither
+pub followed : (k : ℕ) → isIn k walkAbsent ≡ false → (k ≡ 0 → ⊥) × (k ≡ 65535 → ⊥)
+followed k e = ((λ d. never 0 d walk-0), (λ d. never 65535 d walk-65535))
+  where
+    never : (j : ℕ) → k ≡ j → isIn j walkAbsent ≡ true → ⊥
+    never j d h =
+        let z : false ≡ true = sym e ∙ ap (λ (i : ℕ). isIn i walkAbsent) d ∙ h in
+        let y : _≡_ {A = ℕ} 0 1 = cc in
+        omega arith
+
 -- RULE ONE: links without 255 are clear, those with it are cut, and no others are
 pub without-255 : (ks : List ℕ) → Real ks → (List·Memᴰ 255 ks → ⊥) → Clear oneAbsent ks
 without-255 ks r f k m = in-one k (r k m .0) (λ u. f (subst (λ (j : ℕ). List·Memᴰ j ks) u m))
@@ -62,3 +77,17 @@ cut-by-255 ks r t = elim (ℕ-discrete (t .link) 255) [
 -- THE WALK, RULE TWO: all are clear
 pub walk-clear : (ks : List ℕ) → Real ks → Clear walkAbsent ks
 walk-clear ks r k m = in-walk k (r k m .0) (r k m .1)
+
+-- of such links, one more, and one less
+pub real-cons : (k : ℕ) (ks : List ℕ) → (k ≡ 0 → ⊥) → (k ≡ 65535 → ⊥) → Real ks → Real (k ∷ ks)
+real-cons k ks a b f j m = go (List·Memᴰ·cases-cons m)
+  where
+    go : (j ≡ k) ⊎ List·Memᴰ j ks → (j ≡ 0 → ⊥) × (j ≡ 65535 → ⊥)
+    go (inl e) = (λ z. a (omega arith), λ z. b (omega arith))
+    go (inr q) = f j q
+
+pub real-head : {k : ℕ} {ks : List ℕ} → Real (k ∷ ks) → (k ≡ 0 → ⊥) × (k ≡ 65535 → ⊥)
+real-head {k} u = u k (List·Memᴰ·head refl)
+
+pub real-tail : {k : ℕ} {ks : List ℕ} → Real (k ∷ ks) → Real ks
+real-tail u j m = u j (List·Memᴰ·tail m)

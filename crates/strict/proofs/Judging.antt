@@ -11,15 +11,17 @@ use lib.ListN.{length, getD}
 use Rattle.units.specs.Told.{Told}
 use Rattle.units.specs.declared.Link.{Link}
 use Rattle.units.specs.declared.Offset.{Offset}
+use Rattle.units.specs.declared.Region.{Region}
+use Rattle.units.specs.declared.Sector.{Sector}
 use Rattle.layout_node.specs.declared.Header.{Header}
 use Rattle.layout_node.specs.Header.{entryLength}
-use Rattle.read_entry.specs.Entry.{Placed, nameOf}
+use Rattle.read_entry.specs.Entry.{Placed, readAt, nameOf}
 use Rattle.read_entry.specs.Links.{isIn}
 use Rattle.strict_map.specs.inner.Map.{Tested, Marked}
 use Rattle.strict_rule.specs.declared.Checked.the-variants as checked
 use Rattle.strict.specs.declared.Verdict.the-variants as verdict
 use Rattle.strict_rule.specs.Strict.{endOf, apart, placed, ordered, judged, verdictAt}
-use Rattle.strict.specs.inner.Run.{visitOf, Mapped, Covers, Judged}
+use Rattle.strict.specs.inner.Run.{Begins, visitOf, Mapped, Covers, Judged}
 use Rattle.strict.proofs.Units.{tested-apart}
 
 -- an entry at link l, from o to o + len
@@ -62,8 +64,14 @@ module _ (l : Link) (from : Offset) (is-from : from .0 ≡ 4 * l .0) (o : ℕ) (
       subst (λ (t : ℕ). Marked m (l .0) t after) b (subst (λ (k : ℕ). Marked m k ((o + len) / 4) after) a d)
 
 -- an entry that is read at visit c, of link l
-module _ (w : List ℕ) (f : ℕ → Told (Option Placed)) (size : ℕ) (m : List ℕ) (left c : ℕ) (h : Header) (at : ℕ)
+module _ (w : List ℕ) (first : Sector) (t : Region) (begins : Begins first t (t .size)) (m : List ℕ) (left c : ℕ) (h : Header) (at : ℕ)
     (l : Link) (is-l : l .0 ≡ c % 65536) (o : Offset) (is-o : o .0 ≡ 4 * l .0) (a : Bool) (is-a : a ≡ eqb (getD m (c % 65536) 0) 1) (in-map : c % 65536 < length m) where
+  abbrev f : ℕ → Told (Option Placed)
+  f = readAt w first t
+
+  abbrev size : ℕ
+  size = t .size
+
   abbrev x : Placed
   x = record { header = h; place = at }
 
@@ -88,9 +96,10 @@ module _ (w : List ℕ) (f : ℕ → Told (Option Placed)) (size : ℕ) (m : Lis
       pub bad-place : p ≡ false → (seen : List ℕ) → Mapped f seen m → Judged (verdict.Bad (checked.BadPlace o)) (verdictAt w f size seen (eqb left 0) (visitOf c) x)
       bad-place e seen map = (32, o .0 ∷ [], by-tests seen a p _ (listed seen map) (is-p f seen map) refl ∙ rw (new, ne-eqb left 0 a-place, e), refl)
 
-      module _ (well : p ≡ true) (name : List ℕ) (is-name : name ≡ nameOf w at (h .«name_len»)) (q : Bool) (is-q : q ≡ ordered w f (visitOf c) name) where
+      module _ (well : p ≡ true) (name : List ℕ) (is-name : name ≡ nameOf w at (h .«name_len»)) (q : Bool)
+          (is-q : (first₂ : Sector) (t₂ : Region) → Begins first₂ t₂ size → q ≡ ordered w (readAt w first₂ t₂) (visitOf c) name) where
         in-order : q ≡ ordered w f (visitOf c) (nameOf w at (h .«name_len»))
-        in-order = is-q ∙ ap (ordered w f (visitOf c)) is-name
+        in-order = is-q first t begins ∙ ap (ordered w f (visitOf c)) is-name
 
         pub out-of-order : q ≡ false → (seen : List ℕ) → Mapped f seen m → Judged (verdict.Bad (checked.OutOfOrder o)) (verdictAt w f size seen (eqb left 0) (visitOf c) x)
         out-of-order e seen map = (31, o .0 ∷ [], by-tests seen a p q (listed seen map) (is-p f seen map) in-order ∙ rw (new, ne-eqb left 0 a-place, well, e), refl)

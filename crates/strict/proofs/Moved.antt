@@ -14,10 +14,11 @@ use Rattle.read_entry.specs.inner.Part.{partOf, placedOn, moved}
 use Rattle.read_entry.proofs.Moved.{read-moved, name-moved, read-nothing, Starts, inside, outside, starts}
 use Rattle.read_walk.specs.Walk.{before}
 use Rattle.strict_rule.specs.declared.Checked.{Checked}
-use Rattle.strict_rule.specs.Strict.{Visit, root, visitLeft, visitRight, push, endOf, endBy, nameBy, nameAt, apart, placed, ordered, verdictAt, ifGood, byRead, toEntry, strictFrom}
-use Rattle.strict.specs.inner.Run.{Runs}
+use Rattle.strict_rule.specs.Strict.{Visit, root, entered, endOf, endBy, nameBy, isUnder, isOver, every, apart, placed, ordered, verdictAt, ifGood, byRead, toEntry, strictFrom}
+use Rattle.strict_rule.specs.inner.Nearest.{enteredNearest}
+use Rattle.strict.specs.inner.Run.{runOf, Runs}
 use Rattle.strict_rule.proofs.Steps.{check-refused}
-use Rattle.strict.proofs.Turn.{checkOn}
+use Rattle.strict_rule.proofs.Nearest.{nearest-suffice}
 
 end-alike : (b : ℕ) (r : Told (Option Placed)) (o : ℕ) → endBy (moved b r) o ≡ endBy r o
 end-alike b (gives (some x)) o = refl
@@ -42,13 +43,19 @@ module _ (w : List ℕ) (b : ℕ) (held : b ≤ length w) (f g : ℕ → Told (O
   apart-alike o e [] = refl
   apart-alike o e (x ∷ xs) = rw (alike x, end-alike b (g x) x, apart-alike o e xs)
 
-  at-alike : (p : Option ℕ) → nameAt w f p ≡ nameAt (drop b w) g p
-  at-alike none = refl
-  at-alike (some o) = rw (alike o, name-alike w b held (g o))
+  under-alike : (name os : List ℕ) → every (isUnder w f name) os ≡ every (isUnder (drop b w) g name) os
+  unfolding every
+  under-alike name [] = refl
+  under-alike name (o ∷ os) = rw (alike o, name-alike w b held (g o), under-alike name os)
+
+  over-alike : (name os : List ℕ) → every (isOver w f name) os ≡ every (isOver (drop b w) g name) os
+  unfolding every
+  over-alike name [] = refl
+  over-alike name (o ∷ os) = rw (alike o, name-alike w b held (g o), over-alike name os)
 
   ordered-alike : (v : Visit) (name : List ℕ) → ordered w f v name ≡ ordered (drop b w) g v name
   unfolding ordered
-  ordered-alike v name = rw (at-alike (v .under), at-alike (v .over))
+  ordered-alike v name = rw (under-alike name (v .under), over-alike name (v .over))
 
   placed-alike : (size o e : ℕ) (seen : List ℕ) → placed f size o e seen ≡ placed g size o e seen
   unfolding placed
@@ -71,45 +78,35 @@ module _ (w : List ℕ) (b : ℕ) (held : b ≤ length w) (f g : ℕ → Told (O
       rw (alike (v .offset))
       (read-by b (g (v .offset)) (λ x. enter v x stack) (λ x. other v x stack) (toEntry f enter stack) (toEntry g other stack) (λ x. e v x stack) (to-entry enter other e stack))
 
-  check-alike : (size room : ℕ) (seen : List ℕ) (stack : List Visit) → strictFrom w f size room seen stack ≡ strictFrom (drop b w) g size room seen stack
+  check-alike : (size room : ℕ) (seen : List ℕ) (stack : List Visit) → strictFrom enteredNearest w f size room seen stack ≡ strictFrom enteredNearest (drop b w) g size room seen stack
   unfolding strictFrom
   check-alike size zero seen stack =
       to-entry (λ v x rest. ifGood (verdictAt w f size seen true v x) (refuses 26 [])) (λ v x rest. ifGood (verdictAt (drop b w) g size seen true v x) (refuses 26 []))
       (λ v x rest. ap (λ (z : Told (Unit {0})). ifGood z (refuses 26 [])) (verdict-alike size seen true v x)) stack
   check-alike size (suc room) seen stack =
       to-entry
+      (λ v x rest. ifGood (verdictAt w f size seen false v x) (before (v .offset ∷ []) (strictFrom enteredNearest w f size room (seen ++ (v .offset ∷ [])) (enteredNearest v x rest))))
+      (λ v x rest. ifGood (verdictAt (drop b w) g size seen false v x) (before (v .offset ∷ []) (strictFrom enteredNearest (drop b w) g size room (seen ++ (v .offset ∷ [])) (enteredNearest v x rest))))
       (λ v x rest.
-      ifGood (verdictAt w f size seen false v x)
-      (before (v .offset ∷ [])
-      (strictFrom w f size room (seen ++ (v .offset ∷ []))
-      (push (x .header .left .0) (visitLeft (x .header .left .0) v (v .offset)) (push (x .header .right .0) (visitRight (x .header .right .0) v (v .offset)) rest)))))
-      (λ v x rest.
-      ifGood (verdictAt (drop b w) g size seen false v x)
-      (before (v .offset ∷ [])
-      (strictFrom (drop b w) g size room (seen ++ (v .offset ∷ []))
-      (push (x .header .left .0) (visitLeft (x .header .left .0) v (v .offset)) (push (x .header .right .0) (visitRight (x .header .right .0) v (v .offset)) rest)))))
-      (λ v x rest.
-      ap₂ ifGood (verdict-alike size seen false v x)
-      (ap (before (v .offset ∷ []))
-      (check-alike size room (seen ++ (v .offset ∷ []))
-      (push (x .header .left .0) (visitLeft (x .header .left .0) v (v .offset)) (push (x .header .right .0) (visitRight (x .header .right .0) v (v .offset)) rest))))) stack
+      ap₂ ifGood (verdict-alike size seen false v x) (ap (before (v .offset ∷ [])) (check-alike size room (seen ++ (v .offset ∷ [])) (enteredNearest v x rest)))) stack
 
 -- f and s: the first sector, and the table's, for the part alone
 module _ (w : List ℕ) (first : Sector) (t : Region) (some-size : t .size ≡ 0 → ⊥) (f s : Sector) (f-is : f .0 ≡ 0) (s-is : s .0 ≡ 0) where
   abbrev u : Region
   u = record { sector = s; size = t .size }
 
-  check-by : (room : ℕ) (part : List ℕ) → Starts w first t part → checkOn part f u room [] (root ∷ []) ≡ checkOn w first t room [] (root ∷ [])
+  check-by : (room : ℕ) (part : List ℕ) → Starts w first t part → runOf part f u room ≡ runOf w first t room
   check-by room part (inside b begins held is base) =
       rw is (sym (check-alike w b held (readAt w first t) (readAt (drop b w) f u) (read-moved w first t f u f-is s-is refl b begins held) (t .size) room [] (root ∷ [])))
   check-by room part (outside is refused-there) =
       rw is
-      (check-refused [] (readAt [] f u) (t .size) [] root [] room 24 (0 ∷ []) (read-nothing w first t f u f-is s-is refl some-size)
-      ∙ sym (check-refused w (readAt w first t) (t .size) [] root [] room 24 (0 ∷ []) (refused-there some-size)))
+      (check-refused enteredNearest [] (readAt [] f u) (t .size) [] root [] room 24 (0 ∷ []) (read-nothing w first t f u f-is s-is refl some-size)
+      ∙ sym (check-refused enteredNearest w (readAt w first t) (t .size) [] root [] room 24 (0 ∷ []) (refused-there some-size)))
 
--- the loop over the part, as the code has it, is the loop over the window
+-- the loop over the part with nearest bounds, as the code has it, is the check of the window
 pub runs-moved : (w : List ℕ) (first : Sector) (t : Region) → (t .size ≡ 0 → ⊥) → (part : List ℕ) → part ≡ partOf w first t → (f s : Sector) → f .0 ≡ 0 → s .0 ≡ 0 →
     (room : ℕ) (r : Checked) (list : List ℕ) →
-    Runs (checkOn part f (record { sector = s; size = t .size }) room [] (root ∷ [])) r list → Runs (checkOn w first t room [] (root ∷ [])) r list
+    Runs (runOf part f (record { sector = s; size = t .size }) room) r list → Runs (strictFrom entered w (readAt w first t) (t .size) room [] (root ∷ [])) r list
 runs-moved w first t some-size part e f s f-is s-is room r list runs =
-    subst (λ (x : Told (List ℕ)). Runs x r list) (check-by w first t some-size f s f-is s-is room part (starts w first t part e)) runs
+    subst (λ (x : Told (List ℕ)). Runs x r list)
+    (check-by w first t some-size f s f-is s-is room part (starts w first t part e) ∙ nearest-suffice w (readAt w first t) (t .size) room) runs

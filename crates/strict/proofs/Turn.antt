@@ -34,14 +34,15 @@ use Rattle.strict_rule.specs.declared.Checked.{Checked}
 use Rattle.strict_rule.specs.declared.Checked.the-variants as checked
 use Rattle.strict.specs.declared.Verdict.{Verdict}
 use Rattle.strict.specs.declared.Verdict.the-variants as verdict
-use Rattle.strict_rule.specs.Strict.{Visit, root, visitLeft, visitRight, push, endOf, endBy, inSector, apart, placed, ordered, verdictAt, strictFrom, told}
-use Rattle.strict.specs.inner.Run.{visitOf, visitsOf, Entered, Mapped, Covers, Judged, keptOf, Runs}
+use Rattle.strict_rule.specs.Strict.{Visit, root, endOf, endBy, inSector, apart, placed, ordered, verdictAt, strictFrom, told}
+use Rattle.strict_rule.specs.inner.Nearest.{enteredNearest}
+use Rattle.strict.specs.inner.Run.{runOf, visitOf, visitsOf, Entered, Mapped, Covers, Judged, keptOf, Runs}
 use Rattle.strict_rule.proofs.Clear.{both-first, both-second}
 use Rattle.strict.proofs.Units.{marked-mapped, none-mapped}
 use Rattle.strict_rule.proofs.Steps.{NoFault, verdict-good, check-none, check-nothing, check-refused, check-bad, check-entry}
 
-abbrev pub checkOn : List ℕ → Sector → Region → ℕ → List ℕ → List Visit → Told (List ℕ)
-checkOn w first t = strictFrom w (readAt w first t) (t .size)
+abbrev checkOn : List ℕ → Sector → Region → ℕ → List ℕ → List Visit → Told (List ℕ)
+checkOn w first t = strictFrom enteredNearest w (readAt w first t) (t .size)
 
 -- the loop's invariant: x, the whole check, is what is listed and then the check of the stack; the map is that of what is listed
 pub record State (w : List ℕ) (first : Sector) (t : Region) (x : Told (List ℕ)) (room places : ℕ) (list scratch units : List ℕ) (top n : ℕ) : Type 0 where
@@ -101,7 +102,7 @@ module _ (w : List ℕ) (first : Sector) (t : Region) (x : Told (List ℕ)) (roo
   unfolding stackOf
   done h =
       let z : top ≡ 0 = omega arith in
-      let e : x ≡ gives (take n list) = s .to-do ∙ rw (z, check-none w (readAt w first t) (t .size) (take n list) (room - n), append-nil) in
+      let e : x ≡ gives (take n list) = s .to-do ∙ rw (z, check-none enteredNearest w (readAt w first t) (t .size) (take n list) (room - n), append-nil) in
       record {
         is = sym (ap counted e ∙ ap gives (length-take-le n list (omega (arith, s .room-left, s .list-kept))));
         listed = rw e;
@@ -124,7 +125,7 @@ module _ (w : List ℕ) (first : Sector) (t : Region) (x : Told (List ℕ)) (roo
       stops : (a : Checked) (k : ℕ) (vs : List ℕ) → entry-said.told r ≡ refuses k vs → told a ≡ refuses k vs → Runs x a list
       stops a k vs e ta =
           refused x a list k vs
-          (popped ∙ rw (check-refused w (readAt w first t) (t .size) (take n list) (visitOf c) (visitsOf scratch (top - 1)) (room - n) k vs (found ∙ e))) ta
+          (popped ∙ rw (check-refused enteredNearest w (readAt w first t) (t .size) (take n list) (visitOf c) (visitsOf scratch (top - 1)) (room - n) k vs (found ∙ e))) ta
 
       pub outside : (q : Offset) → r ≡ read.OutOfBounds q → Runs x (checked.OutOfBounds q) list
       outside q e = stops (checked.OutOfBounds q) 23 (q .0 ∷ []) (ap entry-said.told e) refl
@@ -134,7 +135,7 @@ module _ (w : List ℕ) (first : Sector) (t : Region) (x : Told (List ℕ)) (roo
 
       pub nothing : r ≡ read.Nothing → (u : ℕ) → u ≡ top - 1 → State w first t x room places list scratch units u n
       nothing e u d = record {
-        to-do = rw d (popped ∙ ap (before (take n list)) (check-nothing w (readAt w first t) (t .size) (take n list) (visitOf c) (visitsOf scratch (top - 1)) (room - n) (found ∙ ap entry-said.told e)));
+        to-do = rw d (popped ∙ ap (before (take n list)) (check-nothing enteredNearest w (readAt w first t) (t .size) (take n list) (visitOf c) (visitsOf scratch (top - 1)) (room - n) (found ∙ ap entry-said.told e)));
         mapped = s .mapped;
         covers = s .covers;
         room-left = s .room-left;
@@ -170,7 +171,7 @@ module _ (w : List ℕ) (first : Sector) (t : Region) (x : Told (List ℕ)) (roo
             let j : Judged (verdict.Bad a) (verdictAt w (readAt w first t) (t .size) (take n list) (eqb (room - n) 0) (visitOf c) e₀) =
             subst (λ (u : Verdict). Judged u (verdictAt w (readAt w first t) (t .size) (take n list) (eqb (room - n) 0) (visitOf c) e₀)) e verdict-here in
             refused x a list (j .0) (j .1)
-            (popped ∙ ap (before (take n list)) (check-bad w (readAt w first t) (t .size) (take n list) (visitOf c) (visitsOf scratch (top - 1)) e₀ entry-at (room - n) (j .0) (j .1) (j .2))) (j .3)
+            (popped ∙ ap (before (take n list)) (check-bad enteredNearest w (readAt w first t) (t .size) (take n list) (visitOf c) (visitsOf scratch (top - 1)) e₀ entry-at (room - n) (j .0) (j .1) (j .2))) (j .3)
 
         module _ (is-good : v ≡ verdict.Good) where
           good-here : verdictAt w (readAt w first t) (t .size) (take n list) (eqb (room - n) 0) (visitOf c) e₀ ≡ gives tt
@@ -210,15 +211,15 @@ module _ (w : List ℕ) (first : Sector) (t : Region) (x : Told (List ℕ)) (roo
           falls u is-u s₂ t₂ entered m d = let g : n < length list = has-place in omega (arith, s .list-kept, entered .height)
 
           after-one : x ≡ before (take (n + 1) (set list n (4 * (c % 65536)))) (checkOn w first t (room - (n + 1)) (take (n + 1) (set list n (4 * (c % 65536))))
-              (push (h .left .0) (visitLeft (h .left .0) (visitOf c) (4 * (c % 65536))) (push (h .right .0) (visitRight (h .right .0) (visitOf c) (4 * (c % 65536))) (visitsOf scratch (top - 1)))))
+              (enteredNearest (visitOf c) e₀ (visitsOf scratch (top - 1))))
           after-one =
               let o : ℕ = 4 * (c % 65536) in
-              let st : List Visit = push (h .left .0) (visitLeft (h .left .0) (visitOf c) o) (push (h .right .0) (visitRight (h .right .0) (visitOf c) o) (visitsOf scratch (top - 1))) in
+              let st : List Visit = enteredNearest (visitOf c) e₀ (visitsOf scratch (top - 1)) in
               let g : n < length list = has-place in
               let z : room - n ≡ suc (room - (n + 1)) = omega (arith, s .list-kept) in
               popped
               ∙ ap (λ (m : ℕ). before (take n list) (checkOn w first t m (take n list) (visitOf c ∷ visitsOf scratch (top - 1)))) z
-              ∙ ap (before (take n list)) (check-entry w (readAt w first t) (t .size) (take n list) (visitOf c) (visitsOf scratch (top - 1)) e₀ entry-at (room - (n + 1))
+              ∙ ap (before (take n list)) (check-entry enteredNearest w (readAt w first t) (t .size) (take n list) (visitOf c) (visitsOf scratch (top - 1)) e₀ entry-at (room - (n + 1))
               (ap (λ (b : Bool). verdictAt w (readAt w first t) (t .size) (take n list) b (visitOf c) e₀) (sym (fine .room)) ∙ good-here))
               ∙ before-before (take n list) (o ∷ []) (checkOn w first t (room - (n + 1)) (take n list ++ (o ∷ [])) st)
               ∙ ap (λ (ys : List ℕ). before ys (checkOn w first t (room - (n + 1)) ys st)) (sym (ap (λ (m : ℕ). take m (set list n o)) (add-one n) ∙ take-suc-set list n o g))
@@ -239,7 +240,7 @@ module _ (w : List ℕ) (first : Sector) (t : Region) (x : Told (List ℕ)) (roo
               ap (λ (y : ℕ). apart (readAt w first t) o y (take n list)) (omega arith) ∙ alone in
               record {
                 to-do = rw (d, same) (after-one ∙ ap (λ (st : List Visit). before (take (n + 1) (set list n o)) (checkOn w first t (room - (n + 1)) (take (n + 1) (set list n o)) st))
-                    (sym (entered .stack ∙ ap (λ (j : ℕ). push (h .left .0) (visitLeft (h .left .0) (visitOf c) o) (push (h .right .0) (visitRight (h .right .0) (visitOf c) o) (visitsOf scratch j))) is-u)));
+                    (sym (entered .stack ∙ ap (λ (j : ℕ). enteredNearest (visitOf c) e₀ (visitsOf scratch j)) is-u)));
                 mapped = rw list-now (marked-mapped (readAt w first t) (take n list) units (s .mapped) k (endOf h o / 4)
                     (subst (λ (j : ℕ). endOf h (4 * j) / 4 ≤ length units) l-is (marks .1)) (omega arith) ends alone-now units₂
                     (subst (λ (j : ℕ). Marked units j (endOf h (4 * j) / 4) units₂) l-is (marks .0)));
@@ -255,12 +256,12 @@ module _ (w : List ℕ) (first : Sector) (t : Region) (x : Told (List ℕ)) (roo
 -- where the loop begins: the root's number in the first place of the scratch s₀, and a map of zeros
 pub starts : (w : List ℕ) (first : Sector) (t : Region) (list s₀ : List ℕ) → length list < length s₀ → length s₀ * 8 < 2 ^ 63 → (v : ℕ) → visitOf v ≡ root
     → (units : List ℕ) → units ≡ replicate (length units) 0 → Covers (t .size) (length units) →
-    State w first t (checkOn w first t (length list) [] (root ∷ [])) (length list) (length (set s₀ 0 v)) list (set s₀ 0 v) units 1 0
+    State w first t (runOf w first t (length list)) (length list) (length (set s₀ 0 v)) list (set s₀ 0 v) units 1 0
 unfolding stackOf
 starts w first t list s₀ h small v is-root units e covers = record {
   to-do =
       rw (sub-zero, getD-set-same s₀ 0 v 0 (omega arith))
-      (sym (before-none (checkOn w first t (length list) [] (root ∷ []))) ∙ ap (λ (r : Visit). before [] (checkOn w first t (length list) [] (r ∷ []))) (sym is-root));
+      (sym (before-none (runOf w first t (length list))) ∙ ap (λ (r : Visit). before [] (checkOn w first t (length list) [] (r ∷ []))) (sym is-root));
   mapped = subst (λ (m : List ℕ). Mapped (readAt w first t) [] m) (sym e) (none-mapped (readAt w first t) (length units));
   covers = covers;
   room-left = omega arith;

@@ -1,7 +1,7 @@
 // The strict check: a walk that stops at the first fault. A map of units tells in one step whether an entry was
-// listed before, and in a few whether it stands on one that was. That a table passes does not say that lookup finds
-// every name that it lists: a link of 255, behind which rule one finds nothing, is no fault, and a name is compared
-// with its parent's alone.
+// listed before, and in a few whether it stands on one that was. A name is compared with two others: those of the
+// nearest entry above it in whose left subtree it stands, and of the nearest in whose right. The others above follow
+// (strict_rule/proofs/Nearest.antt).
 use layout_name::Order;
 use layout_node::Header;
 use read_entry::Read;
@@ -13,21 +13,23 @@ use units::Link;
 use units::Offset;
 use units::Region;
 use units::Sector;
+use widths::u8_as_usize;
 ghost use mathlib.Core.Path.{_≡_};
 ghost use mathlib.Core.List.{List, [], _∷_};
 ghost use mathlib.Core.Option.{Option};
-ghost use Prim.Native.Nat.{ℕ, _+_, _*_, _/_, _%_, _≤_, _<_};
+ghost use Prim.Native.Nat.{ℕ, _+_, _*_, _/_, _%_, _^_, _≤_, _<_};
 ghost use lib.Dec.{eqb};
 ghost use lib.ListN.{length, replicate};
 ghost use Rattle.units.specs.Told.{Told};
 ghost use Rattle.units.specs.Lent.{was, is};
 ghost use Rattle.name_role.specs.Roles.{storedOrder};
-ghost use Rattle.read_entry.specs.Entry.{Placed, readAt};
+ghost use Rattle.read_entry.specs.Entry.{Placed, readHere, readAt};
 ghost use Rattle.strict_map.specs.inner.Map.{Marked};
-ghost use Rattle.strict_rule.specs.Strict.{endOf, placed, isLess, lessThan, moreThan, nameAt, ordered};
-ghost use Rattle.strict_rule.specs.Strict.{verdictAt, root, strictFrom, told, strictAnswer, listAfter};
+ghost use Rattle.strict_rule.specs.Strict.{endOf, nameBy, placed, isLess, isUnder, isOver, every, ordered};
+ghost use Rattle.strict_rule.specs.Strict.{verdictAt, told, strictAnswer, listAfter};
 ghost use Rattle.strict_rule.specs.Strict.{scratchAfter};
-ghost use Rattle.strict.specs.inner.Run.{boundOf, visitOf, Pushed, Entered, Mapped, Covers, Judged, keptOf, Runs};
+ghost use Rattle.strict.specs.inner.Run.{boundOf, visitOf, Pushed, Entered, Mapped, Covers, Judged, keptOf};
+ghost use Rattle.strict.specs.inner.Run.{Begins, runOf, Runs};
 
 // No fault in an entry, or the answer that its fault is.
 enum Verdict {
@@ -46,36 +48,76 @@ fn is_less(a: &[u8], b: &[u8]) -> bool
     }
 }
 
+// The name of the entry at place p of the window, empty where there is none or it is cut. Of fourteen bytes that are
+// no entry, the last is 0 or 255. Where it is 0 there is no name either way, so that the others are looked at where it
+// is 255 alone.
+fn name_here(w: &[u8], p: usize) -> &[u8]
+    requires { ⌜ p < 2 ^ 45 ⌝ }
+    ensures { λ r. ⌜ ((o : ℕ) → now r ≡ nameBy (was w) (readHere (was w) p o)) ⌝ }
+{
+    if w.len() < p + 14 {
+        return &w[..0];
+    }
+    let from = p + 14;
+    let n = w[p + 13];
+    if n == 255 {
+        if layout_node::is_blank(&w[p..from]) {
+            return &w[..0];
+        }
+    }
+    let to = from + u8_as_usize(n);
+    if w.len() < to {
+        return &w[..0];
+    }
+    &w[from..to]
+}
+
+// The name of the entry at an offset of a table of that size, which starts where the window does; empty where there is
+// none.
+fn name_at(w: &[u8], size: u32, offset: Offset) -> &[u8]
+    ensures { λ r. ⌜ ((first : Sector) (t : Region) → Begins first t size →
+        now r ≡ nameBy (was w) (readAt (was w) first t (offset .0))) ⌝ }
+{
+    let o = offset.number();
+    if size <= o {
+        return &w[..0];
+    }
+    name_here(w, o as usize)
+}
+
 // The name is less than that of the entry at a link, if there is one.
-fn is_under(w: &[u8], first: Sector, table: Region, name: &[u8], l: Link) -> bool
-    ensures { λ r. ⌜ r ≡ lessThan (was name) (nameAt (was w) (readAt (was w) first table) (boundOf (l .0))) ⌝ }
+fn is_under(w: &[u8], size: u32, name: &[u8], l: Link) -> bool
+    ensures { λ r. ⌜ ((first : Sector) (t : Region) → Begins first t size →
+        r ≡ every (isUnder (was w) (readAt (was w) first t) (was name)) (boundOf (l .0))) ⌝ }
 {
     let n = l.number();
     if n == 0xffff {
         return true;
     }
-    is_less(name, read_place::name_at(w, first, table, l.offset()))
+    is_less(name, name_at(w, size, l.offset()))
 }
 
 // The name is greater than that of the entry at a link, if there is one.
-fn is_over(w: &[u8], first: Sector, table: Region, name: &[u8], l: Link) -> bool
-    ensures { λ r. ⌜ r ≡ moreThan (was name) (nameAt (was w) (readAt (was w) first table) (boundOf (l .0))) ⌝ }
+fn is_over(w: &[u8], size: u32, name: &[u8], l: Link) -> bool
+    ensures { λ r. ⌜ ((first : Sector) (t : Region) → Begins first t size →
+        r ≡ every (isOver (was w) (readAt (was w) first t) (was name)) (boundOf (l .0))) ⌝ }
 {
     let n = l.number();
     if n == 0xffff {
         return true;
     }
-    is_less(read_place::name_at(w, first, table, l.offset()), name)
+    is_less(name_at(w, size, l.offset()), name)
 }
 
-// The name stands to its parent's as the visit asks.
-fn is_ordered(w: &[u8], first: Sector, table: Region, c: u64, name: &[u8]) -> bool
-    ensures { λ r. ⌜ r ≡ ordered (was w) (readAt (was w) first table) (visitOf c) (was name) ⌝ }
+// The name stands to those of the visit's bounds as the visit asks.
+fn is_ordered(w: &[u8], size: u32, c: u64, name: &[u8]) -> bool
+    ensures { λ r. ⌜ ((first : Sector) (t : Region) → Begins first t size →
+        r ≡ ordered (was w) (readAt (was w) first t) (visitOf c) (was name)) ⌝ }
 {
     let under = Link::new((c / 65536 % 65536) as u16);
     let over = Link::new((c / 4294967296 % 65536) as u16);
-    if is_under(w, first, table, name, under) {
-        is_over(w, first, table, name, over)
+    if is_under(w, size, name, under) {
+        is_over(w, size, name, over)
     } else {
         false
     }
@@ -123,6 +165,7 @@ fn judge(
     h: Header,
     at: usize,
 ) -> Verdict
+    requires { ⌜ Begins first table (table .size) ⌝ }
     requires { ⌜ Covers (table .size) (length (now map)) × (c % 65536 < length (now map)) ⌝ }
     ensures { λ r. ⌜ ((seen : List ℕ) → Mapped (readAt (was w) first table) seen (was map) →
         Judged r (verdictAt (was w) (readAt (was w) first table) (table .size) seen (eqb left 0) (visitOf c)
@@ -137,7 +180,7 @@ fn judge(
         return Verdict::Bad(Checked::WalkFull);
     }
     if is_placed(table, map, l, h) {
-        if is_ordered(w, first, table, c, read_entry::name_of(w, at, h.name_len)) {
+        if is_ordered(w, table.size, c, read_entry::name_of(w, at, h.name_len)) {
             return Verdict::Good;
         }
         return Verdict::Bad(Checked::OutOfOrder(o));
@@ -162,16 +205,18 @@ fn push_link(scratch: &mut [u64], top: usize, l: Link, rest: u64) -> usize
 }
 
 // The children of the entry at a visit on the stack, the left one on top: its name must be less than the entry's,
-// the right one's greater.
+// the right one's greater, and on the other side each has the bound that the entry has.
 fn push_links(scratch: &mut [u64], top: usize, c: u64, h: Header) -> usize
     requires { ⌜ (top + 1 < length (now scratch)) × (c % 65536 < 65535) ⌝ }
     ensures { λ r. ⌜ Entered (visitOf c) h (was scratch) top (is scratch) r ⌝ }
 {
     let k = c % 65536;
+    let under = c / 65536 % 65536;
+    let over = c / 4294967296 % 65536;
     let right = h.right;
     let left = h.left;
-    let t = push_link(scratch, top, right, 65535 + 65536 * k);
-    push_link(scratch, t, left, k + 4294901760)
+    let t = push_link(scratch, top, right, under + 65536 * k);
+    push_link(scratch, t, left, k + 65536 * over)
 }
 
 // The check itself, with a map of zeros that is long enough for the table. What it leaves in the list past its
@@ -184,10 +229,9 @@ fn run(
     scratch: &mut [u64],
     map: &mut [u8],
 ) -> Checked
-    requires { ⌜ length (now list) < length (now scratch) ⌝ }
+    requires { ⌜ Begins first table (table .size) × (length (now list) < length (now scratch)) ⌝ }
     requires { ⌜ Covers (table .size) (length (now map)) × (now map ≡ replicate (length (now map)) 0) ⌝ }
-    ensures { λ r. ⌜ Runs (strictFrom (was w) (readAt (was w) first table) (table .size) (length (was list)) []
-        (root ∷ [])) r (is list) ⌝ }
+    ensures { λ r. ⌜ Runs (runOf (was w) first table (length (was list))) r (is list) ⌝ }
 {
     // The root: link 0, and 0xffff twice.
     scratch[0] = 281474976645120;
@@ -224,9 +268,9 @@ fn run_small(
     list: &mut [u32],
     scratch: &mut [u64],
 ) -> Checked
-    requires { ⌜ (length (now list) < length (now scratch)) × (table .size ≤ 8192) ⌝ }
-    ensures { λ r. ⌜ Runs (strictFrom (was w) (readAt (was w) first table) (table .size) (length (was list)) []
-        (root ∷ [])) r (is list) ⌝ }
+    requires { ⌜ Begins first table (table .size) × (length (now list) < length (now scratch)) ⌝ }
+    requires { ⌜ table .size ≤ 8192 ⌝ }
+    ensures { λ r. ⌜ Runs (runOf (was w) first table (length (was list))) r (is list) ⌝ }
 {
     let mut map = [0u8; 2048];
     run(w, first, table, list, scratch, &mut map)
@@ -240,9 +284,9 @@ fn run_middle(
     list: &mut [u32],
     scratch: &mut [u64],
 ) -> Checked
-    requires { ⌜ (length (now list) < length (now scratch)) × (table .size ≤ 65536) ⌝ }
-    ensures { λ r. ⌜ Runs (strictFrom (was w) (readAt (was w) first table) (table .size) (length (was list)) []
-        (root ∷ [])) r (is list) ⌝ }
+    requires { ⌜ Begins first table (table .size) × (length (now list) < length (now scratch)) ⌝ }
+    requires { ⌜ table .size ≤ 65536 ⌝ }
+    ensures { λ r. ⌜ Runs (runOf (was w) first table (length (was list))) r (is list) ⌝ }
 {
     let mut map = [0u8; 16384];
     run(w, first, table, list, scratch, &mut map)
@@ -256,9 +300,8 @@ fn run_large(
     list: &mut [u32],
     scratch: &mut [u64],
 ) -> Checked
-    requires { ⌜ length (now list) < length (now scratch) ⌝ }
-    ensures { λ r. ⌜ Runs (strictFrom (was w) (readAt (was w) first table) (table .size) (length (was list)) []
-        (root ∷ [])) r (is list) ⌝ }
+    requires { ⌜ Begins first table (table .size) × (length (now list) < length (now scratch)) ⌝ }
+    ensures { λ r. ⌜ Runs (runOf (was w) first table (length (was list))) r (is list) ⌝ }
 {
     let mut map = [0u8; 65604];
     run(w, first, table, list, scratch, &mut map)
@@ -272,9 +315,8 @@ fn run_sized(
     list: &mut [u32],
     scratch: &mut [u64],
 ) -> Checked
-    requires { ⌜ length (now list) < length (now scratch) ⌝ }
-    ensures { λ r. ⌜ Runs (strictFrom (was w) (readAt (was w) first table) (table .size) (length (was list)) []
-        (root ∷ [])) r (is list) ⌝ }
+    requires { ⌜ Begins first table (table .size) × (length (now list) < length (now scratch)) ⌝ }
+    ensures { λ r. ⌜ Runs (runOf (was w) first table (length (was list))) r (is list) ⌝ }
 {
     let size = table.size;
     if size <= 8192 {

@@ -13,19 +13,19 @@ use lib.ListN.{length, getD}
 use Rattle.units.specs.Told.{Told, gives, pick}
 use Rattle.units.specs.declared.Sector.{Sector}
 use Rattle.units.specs.declared.Region.{Region}
-use Rattle.layout_name.specs.declared.Order.{Order}
-use Rattle.layout_name.specs.declared.Order.the-variants.{Less, Equal, Greater}
+use Rattle.layout_name.specs.declared.Order.the-variants.{Less, Greater}
 use Rattle.layout_name.specs.inner.Order.{opposite}
 use Rattle.name_role.specs.Roles.{storedOrder}
 use Rattle.name_role.proofs.Roles.{stored-opposite}
 use Rattle.read_entry.specs.Entry.{Placed, readAt}
 use Rattle.read_entry.specs.Links.{isIn, walkAbsent}
 use Rattle.read_walk.specs.Walk.{walkOf}
-use Rattle.strict_rule.specs.Strict.{Visit, root, visitLeft, visitRight, push, endOf, endBy, inSector, clear, apart, placed, isLess, lessThan, moreThan, nameAt, ordered, strictOf}
-use Rattle.strict_rule.specs.Accepts.{Accepts}
+use Rattle.strict_rule.specs.Strict.{Visit, root, visitLeft, visitRight, push, endOf, endBy, inSector, clear, apart, placed, nameIn, ordered, strictOf}
+use Rattle.strict_rule.specs.Accepts.{Reach, here, by-left, by-right, Accepts}
 use Rattle.strict_rule.proofs.Clear.{both-first, both-second, true-not-false, clear-says, is-in-last, is-in-other}
+use Rattle.strict_rule.proofs.Bounds.{under-says, over-says, left-says, right-says, Asked}
 use Rattle.strict_rule.proofs.Way.{of-way}
-use Rattle.strict_rule.proofs.Course.{nameFrom, Course, over, skipped, taken, course-of, course-way}
+use Rattle.strict_rule.proofs.Course.{Course, over, skipped, taken, course-of, course-way}
 
 -- members of a list and its places
 pub at-mem : (xs : List ℕ) (i : ℕ) → i < length xs → List·Memᴰ (getD xs i 0) xs
@@ -46,12 +46,6 @@ pub push-there : (k : ℕ) (v : Visit) (stack : List Visit) → isIn k walkAbsen
 unfolding push
 push-there k v stack e = rw e (List·Memᴰ·head refl)
 
--- an order that is less
-is-less-says : (o : Order) → isLess o ≡ true → o ≡ Less
-is-less-says Less e = refl
-is-less-says Equal e = let z : _≡_ {A = ℕ} 0 1 = cc in absurd (omega arith)
-is-less-says Greater e = let z : _≡_ {A = ℕ} 0 1 = cc in absurd (omega arith)
-
 module _ (w : List ℕ) (f : ℕ → Told (Option Placed)) (size : ℕ) where
   -- two entries read at one offset are the same
   same-entry : (o p : ℕ) (x y : Placed) → o ≡ p → f o ≡ gives (some x) → f p ≡ gives (some y) → x ≡ y
@@ -63,44 +57,63 @@ module _ (w : List ℕ) (f : ℕ → Told (Option Placed)) (size : ℕ) where
       let y : _≡_ {A = Told (Option Placed)} (gives none) (gives (some x)) = sym e ∙ ap f d ∙ g in
       let z : _≡_ {A = ℕ} 0 1 = cc in omega arith
 
-  -- every entry at a visit of the stack is in the order that the visit asks
-  on-stack : {seen : List ℕ} {stack : List Visit} {xs : List ℕ} → Course w f size seen stack xs → (v : Visit) → List·Memᴰ v stack →
-      (y : Placed) → f (v .offset) ≡ gives (some y) → ordered w f v (nameFrom w y) ≡ true
-  on-stack (over seen) v m y e = absurd (List·Memᴰ·not-nil m)
-  on-stack (skipped seen u stack xs none-there c) v m y e = ⊎-elim
-      (λ (d : v ≡ u). absurd (not-both (u .offset) (v .offset) y (ap (λ (a : Visit). a .offset) (sym d)) none-there e))
-      (λ (n : List·Memᴰ v stack). on-stack c v n y e) (List·Memᴰ·cases-cons m)
-  on-stack (taken seen u stack xs x there sound c) v m y e = ⊎-elim
-      (λ (d : v ≡ u). subst (λ (a : Visit). ordered w f a (nameFrom w y) ≡ true) (sym d)
-      (ap (λ (b : Placed). ordered w f u (nameFrom w b)) (sym (same-entry (u .offset) (v .offset) x y (ap (λ (a : Visit). a .offset) (sym d)) there e)) ∙ sound .in-order))
-      (λ (n : List·Memᴰ v stack). on-stack c v (push-stays _ v _ _ (push-stays _ v _ stack n)) y e) (List·Memᴰ·cases-cons m)
+  -- nothing is reached from an offset without an entry
+  no-way : {o p : ℕ} (y : Placed) → f o ≡ gives none → Reach f o p → f p ≡ gives (some y) → ⊥
+  no-way {o} y e here g = not-both o o y refl e g
+  no-way {o} y e (by-left {x = x} h a r) g = not-both o o x refl e h
+  no-way {o} y e (by-right {x = x} h a r) g = not-both o o x refl e h
 
-  -- the children of an entry, as its visits ask
-  left-less : (p : ℕ) (x y : Placed) → f p ≡ gives (some x) → (v : Visit) → ordered w f (visitLeft (x .header .left .0) v p) (nameFrom w y) ≡ true → storedOrder (nameFrom w y) (nameFrom w x) ≡ Less
-  unfolding ordered
-  left-less p x y e v h = is-less-says _ (rw e at (both-first (lessThan (nameFrom w y) (nameAt w f (some p))) true h))
+  -- the names below an entry x: each is as the child's visit asks, which asks all that the entry's asks
+  asked-here : (u : Visit) (x : Placed) → f (u .offset) ≡ gives (some x) → ordered w f u (nameIn w x) ≡ true
+      → (isIn (x .header .left .0) walkAbsent ≡ false → Asked w f (visitLeft (x .header .left .0) u) (4 * x .header .left .0))
+      → (isIn (x .header .right .0) walkAbsent ≡ false → Asked w f (visitRight (x .header .right .0) u) (4 * x .header .right .0))
+      → {o p : ℕ} → o ≡ u .offset → (y : Placed) → Reach f o p → f p ≡ gives (some y) → ordered w f u (nameIn w y) ≡ true
+  asked-here u x there h l r {o} d y here g =
+      ap (λ (b : Placed). ordered w f u (nameIn w b)) (sym (same-entry (u .offset) o x y (sym d) there g)) ∙ h
+  asked-here u x there h l r {o} {p} d y (by-left {x = z} e a way) g =
+      let s : z ≡ x = same-entry o (u .offset) z x d e there in
+      left-says w f (x .header .left .0) u (nameIn w y)
+      (l (subst (λ (b : Placed). isIn (b .header .left .0) walkAbsent ≡ false) s a) p y (subst (λ (b : Placed). Reach f (4 * b .header .left .0) p) s way) g) .1
+  asked-here u x there h l r {o} {p} d y (by-right {x = z} e a way) g =
+      let s : z ≡ x = same-entry o (u .offset) z x d e there in
+      right-says w f (x .header .right .0) u (nameIn w y)
+      (r (subst (λ (b : Placed). isIn (b .header .right .0) walkAbsent ≡ false) s a) p y (subst (λ (b : Placed). Reach f (4 * b .header .right .0) p) s way) g) .1
 
-  right-greater : (p : ℕ) (x y : Placed) → f p ≡ gives (some x) → (v : Visit) → ordered w f (visitRight (x .header .right .0) v p) (nameFrom w y) ≡ true → storedOrder (nameFrom w y) (nameFrom w x) ≡ Greater
-  unfolding ordered
-  right-greater p x y e v h =
-      stored-opposite (nameFrom w x) (nameFrom w y) ∙ ap opposite
-      (is-less-says (storedOrder (nameFrom w x) (nameFrom w y)) (rw e at (both-second true (moreThan (nameFrom w y) (nameAt w f (some p))) h)))
+  on-stack : {seen : List ℕ} {stack : List Visit} {xs : List ℕ} → Course w f size seen stack xs → (v : Visit) → List·Memᴰ v stack → Asked w f v (v .offset)
+  on-stack (over seen) v m p y way e = absurd (List·Memᴰ·not-nil m)
+  on-stack (skipped seen u stack xs none-there c) v m p y way e = ⊎-elim
+      (λ (d : v ≡ u). absurd (no-way y none-there (subst (λ (a : Visit). Reach f (a .offset) p) d way) e))
+      (λ (n : List·Memᴰ v stack). on-stack c v n p y way e) (List·Memᴰ·cases-cons m)
+  on-stack (taken seen u stack xs x there sound c) v m p y way e = ⊎-elim
+      (λ (d : v ≡ u). subst (λ (a : Visit). ordered w f a (nameIn w y) ≡ true) (sym d)
+      (asked-here u x there (sound .in-order)
+      (λ a q z r g. on-stack c (visitLeft (x .header .left .0) u) (push-there _ _ _ a) q z r g)
+      (λ a q z r g. on-stack c (visitRight (x .header .right .0) u) (push-stays _ _ _ _ (push-there _ _ _ a)) q z r g)
+      (ap (λ (a : Visit). a .offset) d) y way e))
+      (λ (n : List·Memᴰ v stack). on-stack c v (push-stays _ v _ _ (push-stays _ v _ stack n)) p y way e) (List·Memᴰ·cases-cons m)
 
-  -- the names of an entry's children
-  abbrev Children : Placed → Type 0
-  Children x =
-      ((y : Placed) → isIn (x .header .left .0) walkAbsent ≡ false → f (4 * x .header .left .0) ≡ gives (some y) → storedOrder (nameFrom w y) (nameFrom w x) ≡ Less)
-      × ((y : Placed) → isIn (x .header .right .0) walkAbsent ≡ false → f (4 * x .header .right .0) ≡ gives (some y) → storedOrder (nameFrom w y) (nameFrom w x) ≡ Greater)
+  -- the names in the subtrees of an entry
+  abbrev Subtrees : Placed → Type 0
+  Subtrees x =
+      ((p : ℕ) (y : Placed) → isIn (x .header .left .0) walkAbsent ≡ false → Reach f (4 * x .header .left .0) p → f p ≡ gives (some y) → storedOrder (nameIn w y) (nameIn w x) ≡ Less)
+      × ((p : ℕ) (y : Placed) → isIn (x .header .right .0) walkAbsent ≡ false → Reach f (4 * x .header .right .0) p → f p ≡ gives (some y) → storedOrder (nameIn w y) (nameIn w x) ≡ Greater)
 
-  children : {seen : List ℕ} {stack : List Visit} {xs : List ℕ} → Course w f size seen stack xs → (o : ℕ) (x : Placed) → List·Memᴰ o xs → f o ≡ gives (some x) → Children x
-  children (over seen) o x m e = absurd (List·Memᴰ·not-nil m)
-  children (skipped seen u stack xs none-there c) o x m e = children c o x m e
-  children (taken seen u stack xs z there sound c) o x m e = ⊎-elim
-      (λ (d : o ≡ u .offset). subst Children (same-entry (u .offset) o z x (sym d) there e) (
-        (λ y a g. left-less (u .offset) z y there u (on-stack c (visitLeft (z .header .left .0) u (u .offset)) (push-there _ _ _ a) y g)),
-        (λ y a g. right-greater (u .offset) z y there u (on-stack c (visitRight (z .header .right .0) u (u .offset)) (push-stays _ _ _ _ (push-there _ _ _ a)) y g)),
+  left-less : (u : Visit) (k : ℕ) (x y : Placed) → f (u .offset) ≡ gives (some x) → ordered w f (visitLeft k u) (nameIn w y) ≡ true → storedOrder (nameIn w y) (nameIn w x) ≡ Less
+  left-less u k x y there h = under-says w f (u .offset) x there (nameIn w y) (left-says w f k u (nameIn w y) h .0)
+
+  right-greater : (u : Visit) (k : ℕ) (x y : Placed) → f (u .offset) ≡ gives (some x) → ordered w f (visitRight k u) (nameIn w y) ≡ true → storedOrder (nameIn w y) (nameIn w x) ≡ Greater
+  right-greater u k x y there h =
+      stored-opposite (nameIn w x) (nameIn w y) ∙ ap opposite (over-says w f (u .offset) x there (nameIn w y) (right-says w f k u (nameIn w y) h .0))
+
+  subtrees : {seen : List ℕ} {stack : List Visit} {xs : List ℕ} → Course w f size seen stack xs → (o : ℕ) (x : Placed) → List·Memᴰ o xs → f o ≡ gives (some x) → Subtrees x
+  subtrees (over seen) o x m e = absurd (List·Memᴰ·not-nil m)
+  subtrees (skipped seen u stack xs none-there c) o x m e = subtrees c o x m e
+  subtrees (taken seen u stack xs z there sound c) o x m e = ⊎-elim
+      (λ (d : o ≡ u .offset). subst Subtrees (same-entry (u .offset) o z x (sym d) there e) (
+        (λ p y a r g. left-less u (z .header .left .0) z y there (on-stack c (visitLeft (z .header .left .0) u) (push-there _ _ _ a) p y r g)),
+        (λ p y a r g. right-greater u (z .header .right .0) z y there (on-stack c (visitRight (z .header .right .0) u) (push-stays _ _ _ _ (push-there _ _ _ a)) p y r g)),
       ))
-      (λ (n : List·Memᴰ o xs). children c o x n e) (List·Memᴰ·cases-cons m)
+      (λ (n : List·Memᴰ o xs). subtrees c o x n e) (List·Memᴰ·cases-cons m)
 
   -- none is among those seen before
   earlier : (o p : ℕ) (seen : List ℕ) → isIn o (seen ++ (p ∷ [])) ≡ false → (o ≡ p → ⊥) × (isIn o seen ≡ false)
@@ -200,7 +213,7 @@ module _ (w : List ℕ) (first : Sector) (t : Region) where
     once = once w (readAt w first t) (t .size) c;
     in-place = λ o x m e. let p = in-place w (readAt w first t) (t .size) c o x m e in record { inside = p .0; uncrossed = p .1 };
     disjoint = disjoint w (readAt w first t) (t .size) c;
-    in-order = λ o x m e. let p = children w (readAt w first t) (t .size) c o x m e in record { left = p .0; right = p .1 };
+    in-order = λ o x m e. let p = subtrees w (readAt w first t) (t .size) c o x m e in record { left = p .0; right = p .1 };
   }
 
   -- a table of size 0 has no entries

@@ -19,11 +19,12 @@ use Rattle.name_role.proofs.Roles.{stored-opposite}
 use Rattle.read_entry.specs.Entry.{Placed, readAt}
 use Rattle.read_entry.specs.Links.{isIn, walkAbsent}
 use Rattle.read_walk.specs.Walk.{walkOf}
-use Rattle.strict_rule.specs.Strict.{Visit, root, visitLeft, visitRight, push, endOf, endBy, clear, apart, placed, isLess, ordered, strictOf}
-use Rattle.strict_rule.specs.Accepts.{InPlace, Accepts}
+use Rattle.strict_rule.specs.Strict.{Visit, root, visitLeft, visitRight, push, entered, endOf, endBy, nameIn, clear, apart, placed, every, ordered, strictOf}
+use Rattle.strict_rule.specs.Accepts.{here, by-left, by-right, InPlace, Accepts}
 use Rattle.strict_rule.proofs.Clear.{not-true-is-false, true-not-false, is-clear}
+use Rattle.strict_rule.proofs.Bounds.{is-under, is-over, is-left, is-right, Asked}
 use Rattle.strict_rule.proofs.Way.{Way, ended, passed, listed, way-of}
-use Rattle.strict_rule.proofs.Course.{nameFrom, entered, Course, over, skipped, taken, of-course, offsets, same-stack}
+use Rattle.strict_rule.proofs.Course.{Course, over, skipped, taken, of-course, offsets, same-stack}
 
 -- a place of what is in a list
 place-by : (o y : ℕ) (ys : List ℕ) (b : Bool) → eqb o y ≡ b → (isIn o ys ≡ true → (i : ℕ) × (i < length ys) × (getD ys i 0 ≡ o)) → pick b true (isIn o ys) ≡ true →
@@ -61,15 +62,18 @@ module _ (w : List ℕ) (first : Sector) (t : Region) (all : List ℕ) (rule : A
   abbrev f : ℕ → Told (Option Placed)
   f = readAt w first t
 
-  -- every entry at a visit of the stack is in the order that the visit asks
+  -- every name that is reached from a visit of the stack is as the visit asks
   abbrev Ordered : List Visit → Type 0
-  Ordered stack = (v : Visit) → List·Memᴰ v stack → (y : Placed) → f (v .offset) ≡ gives (some y) → ordered w f v (nameFrom w y) ≡ true
+  Ordered stack = (v : Visit) → List·Memᴰ v stack → Asked w f v (v .offset)
 
   abbrev Entries : List ℕ → Type 0
   Entries seen = (p : ℕ) → List·Memᴰ p seen → (y : Placed) × (f p ≡ gives (some y))
 
-  -- at the entry x that the walk lists at o after those seen, before xs
-  module _ (seen xs : List ℕ) (o : ℕ) (x : Placed) (there : f o ≡ gives (some x)) (whole : all ≡ seen ++ (o ∷ xs)) where
+  -- at the entry x that the walk lists at a visit after those seen, before xs
+  module _ (seen xs : List ℕ) (v : Visit) (x : Placed) (there : f (v .offset) ≡ gives (some x)) (whole : all ≡ seen ++ (v .offset ∷ xs)) where
+    abbrev o : ℕ
+    o = v .offset
+
     here-in : List·Memᴰ o all
     here-in = subst (List·Memᴰ o) (sym whole) (Memᴰ·append-right seen (List·Memᴰ·head refl))
 
@@ -103,29 +107,27 @@ module _ (w : List ℕ) (first : Sector) (t : Region) (all : List ℕ) (rule : A
         (λ (a : endOf (e .0 .header) q ≤ o). inr (let d : endBy (f q) q ≡ endOf (e .0 .header) q = ap (λ (r : Told (Option Placed)). endBy r q) (e .1) in omega arith))
         (rule .disjoint o q x (e .0) here-in (seen-in q m) there (e .1) (λ d. true-not-false (mem-in q seen m) (ap (λ (a : ℕ). isIn a seen) (sym d) ∙ is-new))))))
 
-    -- the children's visits
-    left-ordered : (v : Visit) → isIn (x .header .left .0) walkAbsent ≡ false → (y : Placed) → f (4 * x .header .left .0) ≡ gives (some y) →
-        ordered w f (visitLeft (x .header .left .0) v o) (nameFrom w y) ≡ true
-    unfolding ordered
-    left-ordered v a y e = rw there (ap₂ _&&_ (ap isLess (rule .in-order o x here-in there .left y a e)) refl)
+    -- what is reached from a child is as the rule has it, and is reached from the entry: so it is as the child's visit asks
+    left-ordered : Asked w f v o → isIn (x .header .left .0) walkAbsent ≡ false → Asked w f (visitLeft (x .header .left .0) v) (4 * x .header .left .0)
+    left-ordered good a p y r e = is-left w f (x .header .left .0) v (nameIn w y)
+        (is-under w f o x there (nameIn w y) (rule .in-order o x here-in there .left p y a r e)) (good p y (by-left there a r) e)
 
-    right-ordered : (v : Visit) → isIn (x .header .right .0) walkAbsent ≡ false → (y : Placed) → f (4 * x .header .right .0) ≡ gives (some y) →
-        ordered w f (visitRight (x .header .right .0) v o) (nameFrom w y) ≡ true
-    unfolding ordered
-    right-ordered v a y e = rw there (ap isLess (stored-opposite (nameFrom w y) (nameFrom w x) ∙ ap opposite (rule .in-order o x here-in there .right y a e)))
+    right-ordered : Asked w f v o → isIn (x .header .right .0) walkAbsent ≡ false → Asked w f (visitRight (x .header .right .0) v) (4 * x .header .right .0)
+    right-ordered good a p y r e = is-right w f (x .header .right .0) v (nameIn w y)
+        (is-over w f o x there (nameIn w y) (stored-opposite (nameIn w y) (nameIn w x) ∙ ap opposite (rule .in-order o x here-in there .right p y a r e)))
+        (good p y (by-right there a r) e)
 
-  still-ordered : (seen xs : List ℕ) (v : Visit) (x : Placed) → f (v .offset) ≡ gives (some x) → all ≡ seen ++ (v .offset ∷ xs) → (stack : List Visit) → Ordered stack → Ordered (entered v x stack)
-  still-ordered seen xs v x there whole stack good u m y e = ⊎-elim
-      (λ (a : (isIn (x .header .left .0) walkAbsent ≡ false) × (u ≡ visitLeft (x .header .left .0) v (v .offset))).
-      subst (λ (q : Visit). ordered w f q (nameFrom w y) ≡ true) (sym (a .1))
-      (left-ordered seen xs (v .offset) x there whole v (a .0) y (ap (λ (q : Visit). f (q .offset)) (sym (a .1)) ∙ e)))
-      (λ (b : List·Memᴰ u (push (x .header .right .0) (visitRight (x .header .right .0) v (v .offset)) stack)). ⊎-elim
-      (λ (a : (isIn (x .header .right .0) walkAbsent ≡ false) × (u ≡ visitRight (x .header .right .0) v (v .offset))).
-      subst (λ (q : Visit). ordered w f q (nameFrom w y) ≡ true) (sym (a .1))
-      (right-ordered seen xs (v .offset) x there whole v (a .0) y (ap (λ (q : Visit). f (q .offset)) (sym (a .1)) ∙ e)))
-      (λ (d : List·Memᴰ u stack). good u d y e)
-      (on-pushed (x .header .right .0) u (visitRight (x .header .right .0) v (v .offset)) stack b))
-      (on-pushed (x .header .left .0) u (visitLeft (x .header .left .0) v (v .offset)) (push (x .header .right .0) (visitRight (x .header .right .0) v (v .offset)) stack) m)
+    still-ordered : (stack : List Visit) → Ordered (v ∷ stack) → Ordered (entered v x stack)
+    still-ordered stack good u m =
+        let l : ℕ = x .header .left .0 in
+        let r : ℕ = x .header .right .0 in
+        let asked : Asked w f v o = good v (List·Memᴰ·head refl) in
+        ⊎-elim
+        (λ (a : (isIn l walkAbsent ≡ false) × (u ≡ visitLeft l v)). subst (λ (q : Visit). Asked w f q (q .offset)) (sym (a .1)) (left-ordered asked (a .0)))
+        (λ (b : List·Memᴰ u (push r (visitRight r v) stack)). ⊎-elim
+        (λ (a : (isIn r walkAbsent ≡ false) × (u ≡ visitRight r v)). subst (λ (q : Visit). Asked w f q (q .offset)) (sym (a .1)) (right-ordered asked (a .0)))
+        (λ (d : List·Memᴰ u stack). good u (List·Memᴰ·tail d)) (on-pushed r u (visitRight r v) stack b))
+        (on-pushed l u (visitLeft l v) (push r (visitRight r v) stack) m)
 
   still-entries : (seen : List ℕ) (o : ℕ) (x : Placed) → f o ≡ gives (some x) → Entries seen → Entries (seen ++ (o ∷ []))
   still-entries seen o x there entries p m = ⊎-elim
@@ -151,18 +153,18 @@ module _ (w : List ℕ) (first : Sector) (t : Region) (all : List ℕ) (rule : A
       subst (λ (q : ℕ). Course w f (t .size) seen (v ∷ stack) (q ∷ xs)) (sym a)
       (taken seen v stack xs x there
       (record {
-        new = is-new seen xs (v .offset) x there all-now;
+        new = is-new seen xs v x there all-now;
         room = refl;
-        in-place = is-placed seen xs (v .offset) x there all-now entries;
-        in-order = good v (List·Memᴰ·head refl) x there;
+        in-place = is-placed seen xs v x there all-now entries;
+        in-order = good v (List·Memᴰ·head refl) (v .offset) x here there;
       })
       (follow way (seen ++ (v .offset ∷ [])) (entered v x stack) (rw b (sym (same-stack w f (t .size) v x stack)))
       (all-now ∙ sym (append-assoc seen (v .offset ∷ []) xs)) (still-entries seen (v .offset) x there entries)
-      (still-ordered seen xs v x there all-now stack (λ u m. good u (List·Memᴰ·tail m)))))
+      (still-ordered seen xs v x there all-now stack good)))
 
   root-ordered : Ordered (root ∷ [])
-  unfolding ordered
-  root-ordered v m y e = rw (List·Memᴰ·eq-of-singleton m)
+  unfolding ordered every
+  root-ordered v m p y r e = rw (List·Memᴰ·eq-of-singleton m)
 
   accepts-by : (room : ℕ) → length all ≤ room → Dec (0 < t .size) → strictOf w first t room ≡ gives all
   unfolding strictOf walkOf

@@ -23,14 +23,18 @@ use Rattle.strict_rule.specs.declared.Checked.the-variants as checked
 abbrev pub endOf : Header → ℕ → ℕ
 endOf h o = o + entryLength (h .«name_len»)
 
--- the same of what is read at an offset; where that is no entry, it has no length and no name
+-- the name of an entry in a window
+abbrev pub nameIn : List ℕ → Placed → List ℕ
+nameIn w x = nameOf w (x .place) (x .header .«name_len»)
+
+-- both of what is read at an offset; where that is no entry, it has no length and no name
 abbrev pub endBy : Told (Option Placed) → ℕ → ℕ
 endBy (gives (some x)) o = endOf (x .header) o
 endBy (gives none) o = o
 endBy (refuses k vs) o = o
 
 abbrev pub nameBy : List ℕ → Told (Option Placed) → List ℕ
-nameBy w (gives (some x)) = nameOf w (x .place) (x .header .«name_len»)
+nameBy w (gives (some x)) = nameIn w x
 nameBy w (gives none) = []
 nameBy w (refuses k vs) = []
 
@@ -50,40 +54,40 @@ apart f o e (x ∷ xs) = clear f o e x && apart f o e xs
 unfoldable pub placed : (ℕ → Told (Option Placed)) → ℕ → ℕ → ℕ → List ℕ → Bool
 placed f size o e seen = inSector size o e && apart f o e seen
 
--- a place to visit: its offset, and the offsets of the entries, if any, than whose names its own must be less and
--- greater
+-- a place to visit: its offset, and the offsets of the entries above it, the nearest first: those in whose left subtree
+-- it stands, than whose names its own must be less, and those in whose right subtree, than whose names greater
 pub record Visit : Type 0 where
   pub offset : ℕ
-  pub under : Option ℕ
-  pub over : Option ℕ
+  pub under : List ℕ
+  pub over : List ℕ
 
--- THE ORDER RULE: a left child's name is less than its parent's, a right child's greater (`visitLeft` and
--- `visitRight` say which bounds a child gets). It does not give that a name in a left subtree is less than the
--- subtree's parent: the root m, its left child c and c's right child z pass, and no lookup finds z
-abbrev pub lessThan : List ℕ → Option (List ℕ) → Bool
-lessThan name none = true
-lessThan name (some other) = isLess (storedOrder name other)
+-- a name is less than that of the entry at an offset; and greater
+abbrev pub isUnder : List ℕ → (ℕ → Told (Option Placed)) → List ℕ → ℕ → Bool
+isUnder w f name o = isLess (storedOrder name (nameBy w (f o)))
 
-abbrev pub moreThan : List ℕ → Option (List ℕ) → Bool
-moreThan name none = true
-moreThan name (some other) = isLess (storedOrder other name)
+abbrev pub isOver : List ℕ → (ℕ → Told (Option Placed)) → List ℕ → ℕ → Bool
+isOver w f name o = isLess (storedOrder (nameBy w (f o)) name)
 
-abbrev pub nameAt : List ℕ → (ℕ → Told (Option Placed)) → Option ℕ → Option (List ℕ)
-nameAt w f none = none
-nameAt w f (some o) = some (nameBy w (f o))
+-- a test holds at every offset
+unfoldable pub every : (ℕ → Bool) → List ℕ → Bool
+every test [] = true
+every test (o ∷ os) = test o && every test os
 
+-- THE ORDER RULE: a name in the left subtree of an entry is less than the entry's, a name in the right one greater,
+-- whichever entry above it that is
 unfoldable pub ordered : List ℕ → (ℕ → Told (Option Placed)) → Visit → List ℕ → Bool
-ordered w f v name = lessThan name (nameAt w f (v .under)) && moreThan name (nameAt w f (v .over))
+ordered w f v name = every (isUnder w f name) (v .under) && every (isOver w f name) (v .over)
 
-abbrev pub visitLeft : ℕ → Visit → ℕ → Visit
-visitLeft k parent p = record { offset = 4 * k; under = some p; over = none }
+-- the left and the right child of the entry at a visit: it is one more entry above them
+abbrev pub visitLeft : ℕ → Visit → Visit
+visitLeft k v = record { offset = 4 * k; under = v .offset ∷ v .under; over = v .over }
 
-abbrev pub visitRight : ℕ → Visit → ℕ → Visit
-visitRight k parent p = record { offset = 4 * k; under = none; over = some p }
+abbrev pub visitRight : ℕ → Visit → Visit
+visitRight k v = record { offset = 4 * k; under = v .under; over = v .offset ∷ v .over }
 
--- the root has no bounds
+-- the root has no entry above it
 abbrev pub root : Visit
-root = record { offset = 0; under = none; over = none }
+root = record { offset = 0; under = []; over = [] }
 
 -- at one offset: 30, then 26, then 32, then 31
 abbrev pub judged : Bool → Bool → Bool → Bool → ℕ → Told (Unit {0})
@@ -96,7 +100,7 @@ judged shared full well right o =
 unfoldable pub verdictAt : List ℕ → (ℕ → Told (Option Placed)) → ℕ → List ℕ → Bool → Visit → Placed → Told (Unit {0})
 verdictAt w f size seen full v x =
     judged (isIn (v .offset) seen) full (placed f size (v .offset) (endOf (x .header) (v .offset)) seen)
-    (ordered w f v (nameOf w (x .place) (x .header .«name_len»))) (v .offset)
+    (ordered w f v (nameIn w x)) (v .offset)
 
 -- go on after a verdict
 abbrev pub ifGood : Told (Unit {0}) → Told (List ℕ) → Told (List ℕ)
@@ -106,6 +110,12 @@ ifGood (refuses k vs) x = refuses k vs
 -- a child put on the stack, unless its link is absent
 unfoldable pub push : ℕ → Visit → List Visit → List Visit
 push k v stack = pick (isIn k walkAbsent) stack (v ∷ stack)
+
+-- the children of an entry x, read at a visit, on the stack: the left one on top
+abbrev pub entered : Visit → Placed → List Visit → List Visit
+entered v x stack =
+    push (x .header .left .0) (visitLeft (x .header .left .0) v)
+    (push (x .header .right .0) (visitRight (x .header .right .0) v) stack)
 
 abbrev pub byRead : Told (Option Placed) → (Placed → Told (List ℕ)) → Told (List ℕ) → Told (List ℕ)
 byRead (gives (some x)) enter rest = enter x
@@ -119,22 +129,20 @@ toEntry f enter [] = gives []
 toEntry f enter (v ∷ stack) = byRead (f (v .offset)) (λ x. enter v x stack) (toEntry f enter stack)
 
 -- the check of a stack of visits, with `room` places left in the list, after those listed. `f o` is what is read at
--- offset o
-unfoldable pub strictFrom : List ℕ → (ℕ → Told (Option Placed)) → ℕ → ℕ → List ℕ → List Visit → Told (List ℕ)
-strictFrom w f size zero seen stack =
+-- offset o; `below v x stack` is the stack with the children of an entry x, read at a visit v, on it
+unfoldable pub strictFrom : (Visit → Placed → List Visit → List Visit) → List ℕ → (ℕ → Told (Option Placed)) → ℕ → ℕ
+    → List ℕ → List Visit → Told (List ℕ)
+strictFrom below w f size zero seen stack =
     toEntry f (λ v x rest. ifGood (verdictAt w f size seen true v x) (refuses 26 [])) stack
-strictFrom w f size (suc room) seen stack =
+strictFrom below w f size (suc room) seen stack =
     toEntry f (λ v x rest.
     ifGood (verdictAt w f size seen false v x)
-    (before (v .offset ∷ [])
-    (strictFrom w f size room (seen ++ (v .offset ∷ []))
-    (push (x .header .left .0) (visitLeft (x .header .left .0) v (v .offset))
-    (push (x .header .right .0) (visitRight (x .header .right .0) v (v .offset)) rest))))) stack
+    (before (v .offset ∷ []) (strictFrom below w f size room (seen ++ (v .offset ∷ [])) (below v x rest)))) stack
 
 -- the strict check of a table from offset 0, into a list of `room` places: a table of size 0 lists nothing
 unfoldable pub strictOf : List ℕ → Sector → Region → ℕ → Told (List ℕ)
 strictOf w first t room =
-    pick (eqb (t .size) 0) (gives []) (strictFrom w (readAt w first t) (t .size) room [] (root ∷ []))
+    pick (eqb (t .size) 0) (gives []) (strictFrom entered w (readAt w first t) (t .size) room [] (root ∷ []))
 
 -- THE ANSWER AND THE LIST AFTERWARDS, as the walk has them: 6 where the scratch is not longer than the list, and then
 -- all is unchanged; THE SCRATCH AFTERWARDS is the walk's `scratchAfter`

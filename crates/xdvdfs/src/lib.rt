@@ -59,7 +59,7 @@ ghost use Rattle.strict_rule.specs.Strict as checking;
 //
 // A name that the walk lists may not be found. Under rule one an entry at offset 1,020, which a link of 255 names, and
 // every entry below it, is listed and answered 22; rule two finds it. Under either rule an entry that stands on the
-// wrong side of one above it is not found. The strict check finds neither a link of 255 nor every such fault of order.
+// wrong side of one above it is not found: that is a fault to the strict check, and a link of 255 is none.
 
 // Reads the volume descriptor that the bytes start with: where the root table stands, and the stamp, of which
 // `Descriptor::read_date` says whether it is a date. 20 where a mark differs or is cut.
@@ -116,10 +116,10 @@ pub fn walk(w: &[u8], first: Sector, table: Region, list: &mut [u32], scratch: &
 }
 
 // Checks a table by a strict rule, and lists it: the walk ends, no entry is reached twice, none overlaps another,
-// crosses a sector line or leaves the table, and a left child's name is less than its parent's, a right child's
-// greater. 6, then the first fault in walk order: 23, 24, 30, 26, 32, 31. A listed name may still not be found by
-// lookup: a link of 255, behind which rule one finds nothing, is no fault, and names are compared with the parent's
-// alone (the root m, its left child c and c's right child z pass, and no lookup finds z under either rule).
+// crosses a sector line or leaves the table, and every name in the left subtree of an entry is less than the entry's,
+// every name in its right subtree greater. 6, then the first fault in walk order: 23, 24, 30, 26, 32, 31. In a table
+// that is accepted each listed entry is found by its name under rule two, and under rule one unless a link of 255
+// stands on the way; but a name with a byte above 127 cannot be sought (2).
 pub fn check_table(
     w: &[u8],
     first: Sector,

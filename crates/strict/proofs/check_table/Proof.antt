@@ -8,12 +8,13 @@ use lib.ListN.{length, take, replicate}
 use Rattle.units.specs.declared.Sector.{Sector}
 use Rattle.units.specs.Told.{Told, gives, refuses}
 use Rattle.units.specs.declared.Region.{Region}
+use Rattle.read_entry.specs.Entry.{readAt}
 use Rattle.read_walk.specs.Walk.{listed}
 use Rattle.strict_rule.specs.declared.Checked.{Checked}
 use Rattle.strict_rule.specs.declared.Checked.the-variants as checked
-use Rattle.strict_rule.specs.Strict.{root, strictOf, told, strictAnswer, listAfter, scratchAfter}
+use Rattle.strict_rule.specs.Strict.{root, entered, strictFrom, strictOf, told, strictAnswer, listAfter, scratchAfter}
 use Rattle.strict.specs.inner.Run.{keptOf, Runs}
-use Rattle.strict.proofs.Turn.{checkOn, countOf, kept-told}
+use Rattle.strict.proofs.Turn.{countOf, kept-told}
 use Rattle.strict.proofs.Moved.{runs-moved}
 use borrow.Author.Needs.{needs}
 use Rattle.strict.proofs.check_table.Statement.{statement}
@@ -23,6 +24,10 @@ use Rattle.strict.proofs.check_table.Tie as tie
 cleared-list : (x : Told (List ℕ)) (r : Checked) (l : List ℕ) → Runs x r l → take (keptOf r) l ++ replicate (length l - keptOf r) 0 ≡ listed x (length l)
 cleared-list (gives xs) r l s = ap₂ _++_ (s .listed) (rw (kept-told r ∙ ap countOf (s .is)))
 cleared-list (refuses k vs) r l s = rw (kept-told r ∙ ap countOf (s .is), sub-zero)
+
+-- the check of a table that has some size
+abbrev checkOf : List ℕ → Sector → Region → ℕ → Told (List ℕ)
+checkOf w first t room = strictFrom entered w (readAt w first t) (t .size) room [] (root ∷ [])
 
 -- the answer, the list and the scratch, as the contract has them
 abbrev Checks : List ℕ → Sector → Region → List ℕ → List ℕ → Checked → List ℕ → List ℕ → Type 0
@@ -43,13 +48,13 @@ module _ (w : List ℕ) (first : Sector) (t : Region) (list scratch : List ℕ) 
       (a ∙ rw (lt-leb _ _ room, eq-eqb _ _ z, sub-zero), b ∙ rw (lt-leb _ _ room)),
     )
 
-    ran : (t .size ≡ 0 → ⊥) → (r : Checked) (l s : List ℕ) → Runs (checkOn w first t (length list) [] (root ∷ [])) r l → (n : ℕ) → n ≡ keptOf r →
+    ran : (t .size ≡ 0 → ⊥) → (r : Checked) (l s : List ℕ) → Runs (checkOf w first t (length list)) r l → (n : ℕ) → n ≡ keptOf r →
         length l ≡ length list → length s ≡ length scratch → (l₂ s₂ : List ℕ) →
         l₂ ≡ take n l ++ replicate (length l - n) 0 → s₂ ≡ replicate (length s) 0 → Checks w first t list scratch r l₂ s₂
     unfolding strictAnswer listAfter scratchAfter strictOf
     ran z r l s runs n k p q l₂ s₂ a b = (
       rw (lt-leb _ _ room, ne-eqb _ _ z) (runs .is),
-      ((rw k at a) ∙ cleared-list (checkOn w first t (length list) [] (root ∷ [])) r l runs ∙ rw (p, lt-leb _ _ room, ne-eqb _ _ z), b ∙ rw (lt-leb _ _ room, q)),
+      ((rw k at a) ∙ cleared-list (checkOf w first t (length list)) r l runs ∙ rw (p, lt-leb _ _ room, ne-eqb _ _ z), b ∙ rw (lt-leb _ _ room, q)),
     )
 
 within : (x : Told (List ℕ)) (r : Checked) (l : List ℕ) → Runs x r l → (n : ℕ) → n ≡ keptOf r → n ≤ length l

@@ -6,4 +6,4 @@ use Rattle.strict.proofs.push_links.Tie as tie
 
 pub push-links-spec : {M : Type 1} → statement M
 push-links-spec = tie.close (tie.spec (λ c. search needs) (λ c. search needs) (λ c κs. search needs) (λ c. search needs)
-    (λ c κs. search needs) (λ c. search needs) (λ c. search children))
+    (λ c. search needs) (λ c κs. search needs) (λ c. search needs) (λ c. search children))

@@ -3,16 +3,15 @@
 -- Assumes nothing.
 use Prim.Native.Nat.{_+_, _-_, _*_}
 use mathlib.Core.Path.{_≡_, refl, _∙_}
-use mathlib.Core.List.{[], _∷_}
 use borrow.Author.Needs.{needs}
 use lib.ListN.{length}
-use Rattle.strict_rule.specs.Strict.{root}
-use Rattle.strict.proofs.Turn.{checkOn, State, starts, same-scratch, done, faulty, outside, truncated, nothing, judgeable, has-place, on-units, can-push, falls, entry-done}
+use Rattle.strict.specs.inner.Run.{runOf}
+use Rattle.strict.proofs.Turn.{State, starts, same-scratch, done, faulty, outside, truncated, nothing, judgeable, has-place, on-units, can-push, falls, entry-done}
 use Rattle.strict.proofs.run.Statement.{statement}
 use Rattle.strict.proofs.run.Tie as tie
 
 abbrev Inv-loop : tie.InvT-loop
-Inv-loop w first table list₀ scratch₀ map₀ top₀ n₀ list scratch map top n = State w first table (checkOn w first table (length list₀) [] (root ∷ [])) (length list₀) (length scratch₀) list scratch map top n
+Inv-loop w first table list₀ scratch₀ map₀ top₀ n₀ list scratch map top n = State w first table (runOf w first table (length list₀)) (length list₀) (length scratch₀) list scratch map top n
     × (length map ≡ length map₀)
 
 abbrev μ-loop : tie.MeasureT-loop
@@ -27,7 +26,7 @@ judge-requires c κs =
     let read = entry .before .before in
     let link = read .before .before in
     let turn = link .before .before .before in
-    judgeable _ _ _ _ _ _ _ _ _ _ _ (turn .loop .inv .0) (search needs) _ (link .new .ensures) _ (read .before .offset .ensures) _ (read .read-at .ensures) _ _ (entry .h .given .1)
+    (turn .before .before .before .before .before .pre .0 .0, judgeable _ _ _ _ _ _ _ _ _ _ _ (turn .loop .inv .0) (search needs) _ (link .new .ensures) _ (read .before .offset .ensures) _ (read .read-at .ensures) _ _ (entry .h .given .1))
 
 mark-entry-requires : tie.Need-mark-entry-requires Inv-loop μ-loop
 mark-entry-requires c κs =

@@ -1,13 +1,15 @@
 -- What the loop of the check keeps and leaves, for the contracts inside the crate. Assumes nothing.
 use Prim.Native.Nat.{ℕ, _+_, _*_, _/_, _%_, _≤_, _<_}
 use mathlib.Core.Path.{_≡_}
-use mathlib.Core.List.{List, map, List·Memᴰ}
-use mathlib.Core.Option.{Option, some, none}
+use mathlib.Core.List.{List, [], _∷_, map, List·Memᴰ}
+use mathlib.Core.Option.{Option}
 use lib.Dec.{eqb}
 use lib.ListN.{length, getD, take}
 use Rattle.units.specs.Told.{Told, gives, refuses, pick}
+use Rattle.units.specs.declared.Sector.{Sector}
+use Rattle.units.specs.declared.Region.{Region}
 use Rattle.layout_node.specs.declared.Header.{Header}
-use Rattle.read_entry.specs.Entry.{Placed}
+use Rattle.read_entry.specs.Entry.{Placed, readAt}
 use Rattle.read_entry.specs.Links.{isIn}
 use Rattle.read_walk.specs.Walk.{counted}
 use Rattle.read_walk.specs.inner.Run.{stackOf, listedOf}
@@ -15,14 +17,25 @@ use Rattle.strict_rule.specs.declared.Checked.{Checked}
 use Rattle.strict_rule.specs.declared.Checked.the-variants as checked
 use Rattle.strict.specs.declared.Verdict.{Verdict}
 use Rattle.strict.specs.declared.Verdict.the-variants as verdict
-use Rattle.strict_rule.specs.Strict.{Visit, visitLeft, visitRight, push, apart, endBy, told}
+use Rattle.strict_rule.specs.Strict.{Visit, root, visitLeft, visitRight, push, apart, endBy, strictFrom, told}
+use Rattle.strict_rule.specs.inner.Nearest.{nearest, enteredNearest}
+
+-- a table of that size, which starts where the window does: both at sector 0
+pub record Begins (first : Sector) (t : Region) (size : ℕ) : Type 0 where
+  pub window : first .0 ≡ 0
+  pub table : t .sector .0 ≡ 0
+  pub sized : t .size ≡ size
+
+-- the check of a table that has some size, by the nearest bounds
+abbrev pub runOf : List ℕ → Sector → Region → ℕ → Told (List ℕ)
+runOf w first t room = strictFrom enteredNearest w (readAt w first t) (t .size) room [] (root ∷ [])
 
 -- the entry that a link of the scratch says to compare with: 65535 is none
-abbrev pub boundOf : ℕ → Option ℕ
-boundOf k = pick (eqb k 65535) none (some (4 * k))
+abbrev pub boundOf : ℕ → List ℕ
+boundOf k = pick (eqb k 65535) [] (4 * k ∷ [])
 
--- a place to visit as a number of the scratch: its link, 65536 times the link of `under`, and 65536 × 65536 times
--- the link of `over`
+-- a place to visit as a number of the scratch: its link, 65536 times the link of its nearest bound `under`, and
+-- 65536 × 65536 times that of its nearest bound `over`
 abbrev pub visitOf : ℕ → Visit
 visitOf c = record {
   offset = 4 * (c % 65536);
@@ -44,8 +57,8 @@ pub record Pushed (k rest : ℕ) (s : List ℕ) (top : ℕ) (after : List ℕ) (
 -- the two children of the entry v put on the stack, the left one on top
 pub record Entered (v : Visit) (h : Header) (s : List ℕ) (top : ℕ) (after : List ℕ) (height-after : ℕ) : Type 0 where
   pub stack : visitsOf after height-after
-      ≡ push (h .left .0) (visitLeft (h .left .0) v (v .offset))
-      (push (h .right .0) (visitRight (h .right .0) v (v .offset)) (visitsOf s top))
+      ≡ push (h .left .0) (nearest (visitLeft (h .left .0) v))
+      (push (h .right .0) (nearest (visitRight (h .right .0) v)) (visitsOf s top))
   pub height : height-after ≤ top + 2
   pub kept : length after ≡ length s
 
