@@ -10,7 +10,8 @@
  * The C has memory of its own and leaves it as it is; the library is lent its memory and clears it, as its contract says.
  *
  * Before a race the answers are compared: sizes, bytes and next free sector of the tables; number, fields, place, offset and headers of the lookup of every name and of
- * a missing one beside each, under rule one, rule two and no rule; the lists of the walk and of the strict check. A difference ends the program with 1.
+ * a missing one beside each, under rule one, rule two and no rule; the lists of the walk and of the strict check, and what the check answers where names are exchanged. A
+ * difference ends the program with 1.
  * Lookups are raced under rule one.
  * Time is the process's clock; turns alternate, and each has the least of its turns. A task of few entries is repeated within a turn, on the same input.
  *
@@ -118,7 +119,8 @@ CALLED static uint32_t c_walk(const uint8_t *w, size_t wl, uint32_t first, uint3
     return 0;
 }
 
-/* the strict check: a bit for each four-byte unit, all units of an entry tested and set by words; a bit for each start */
+/* the strict check: a bit for each four-byte unit, all units of an entry tested and set by words; a bit for each start. A place on the stack has its unit, and those of the
+   nearest entries above it than whose names its own is to be less and greater: what is within these is within all. */
 CALLED static uint32_t c_check(const uint8_t *w, size_t wl, uint32_t first, uint32_t sector, uint32_t size,
                                uint32_t *list, size_t ll, uint64_t *st, size_t sl, size_t *count, uint32_t *offset) {
     if (sl <= ll) return 6;
@@ -153,8 +155,8 @@ CALLED static uint32_t c_check(const uint8_t *w, size_t wl, uint32_t first, uint
         used[i] |= lo; used[i + 1] |= hi; starts[i] |= 1ull << s;
         list[n++] = o;
         uint16_t a = get16(e), b = get16(e + 2);
-        if (b != 0 && b != 65535) st[top++] = b | 0xffff0000ull | (uint64_t)u << 32;
-        if (a != 0 && a != 65535) st[top++] = a | (uint64_t)u << 16 | 0xffff00000000ull;
+        if (b != 0 && b != 65535) st[top++] = b | (uint64_t)under << 16 | (uint64_t)u << 32;
+        if (a != 0 && a != 65535) st[top++] = a | (uint64_t)u << 16 | (uint64_t)over << 32;
     }
     memset(st, 0, 8 * sl);
     if (r) {
@@ -442,6 +444,10 @@ static uint32_t ours_table(uint32_t n, uint8_t *to, size_t to_len, uint32_t *ts,
 
 #define LEAST(best, t) do { double t_ = (t); if (t_ < (best)) (best) = t_; } while (0)
 
+static void swap_names(uint8_t *a, uint8_t *b, size_t n) {
+    for (size_t i = 0; i < n; i++) { uint8_t t = a[i]; a[i] = b[i]; b[i] = t; }
+}
+
 static void check_answers(const char *what, uint32_t n, const struct list *s, uint32_t *ts, size_t *wl) {
     uint32_t nf = 0, e = 0, ts2 = 0, nf2 = 0, ts3 = 0, nf3 = 0;
     memset(out, 7, sizeof out); memset(out2, 7, sizeof out2); memset(out3, 7, sizeof out3);
@@ -472,6 +478,15 @@ static void check_answers(const char *what, uint32_t n, const struct list *s, ui
     if (xdvdfs_check_table(out, *wl, 33, 33, *ts, list, n, sc8, n + 1, &c, &o) || c != n || memcmp(list, list2, sizeof list)) fail(what, "the strict check differs");
     memset(list, 7, sizeof list); c = 0;
     if (c_check(out, *wl, 33, 33, *ts, list, n, sc8, n + 1, &c, &o) || c != n || memcmp(list, list2, sizeof list)) fail(what, "the strict check in C differs");
+    for (uint32_t i = 0; i < 100; i++) { /* two names of one length exchanged: mostly 31 */
+        uint32_t x = list2[i * 7919u % n], y = list2[i * 104729u % n], o1 = 1, o2 = 1;
+        size_t counted = 1, counted_c = 1;
+        if (out[x + 13] != out[y + 13]) continue;
+        swap_names(out + x + 14, out + y + 14, out[x + 13]);
+        uint32_t a = xdvdfs_check_table(out, *wl, 33, 33, *ts, list, n, sc8, n + 1, &counted, &o1), b = c_check(out, *wl, 33, 33, *ts, list, n, sc8, n + 1, &counted_c, &o2);
+        if (a != b || o1 != o2 || counted != counted_c) fail(what, "the strict checks of a table out of order differ");
+        swap_names(out + x + 14, out + y + 14, out[x + 13]);
+    }
 }
 
 /* ns an entry: [task][who], who being ours, the plain C, the fast C; tasks: whole table, lookup, walk, strict check */

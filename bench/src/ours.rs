@@ -196,6 +196,15 @@ pub fn check(v: View, t: Table, places: usize) -> Said {
     listed(t, a, count, list, scratch.iter().all(|&x| x == 0))
 }
 
+/// The number of a strict check whose scratch is not longer than its list. All that is lent has to be as it was.
+pub fn check_without_room(v: View, t: Table, places: usize) -> u32 {
+    let (mut list, mut scratch) = (vec![7; places], vec![7; places]);
+    let (a, count) = call_check(v, t, &mut list, &mut scratch);
+    assert!(a.kept(false, false, false) && count == BEFORE as usize, "cells after {}", a.number);
+    assert!(list.iter().all(|&x| x == 7) && scratch.iter().all(|&x| x == 7), "lent memory after {}", a.number);
+    a.number
+}
+
 pub fn read_descriptor(bytes: &[u8]) -> Option<Descriptor> {
     let mut d = BEFORE_DESCRIPTOR;
     let (sector, size) = (&mut d.root.sector, &mut d.root.size);

@@ -1,10 +1,12 @@
 //! The readers once more, written from docs/SCOPE.md with no thought of speed: they tell beforehand where the Rust would never return, and are compared too.
 mod limits;
 mod plan;
+mod strict;
 mod write;
 
 pub use limits::load_limits;
 pub use plan::{plan, refused_twice};
+pub use strict::{check, Checked, Listed};
 pub use write::{add_in_turn, sectors_for, stored, whole, MOST};
 
 use crate::{Entry, Said, Table, View};

@@ -110,14 +110,20 @@ fn near(dice: &mut Dice, list: &[String], most: usize) -> Vec<String> {
     sought
 }
 
+/// The names of a table for the Rust to write: each fiftieth time thousands.
+pub fn list_to_write(dice: &mut Dice, round: usize) -> Vec<String> {
+    let count = if round % 50 == 49 { 2000 + dice.below(4000) } else { round % 50 * (1 + dice.below(4)) };
+    let (front, lens) = [("", 1..=3), ("", 4..=8), ("a common front, and then ", 1..=9), ("", 1..=60)][dice.below(4)].clone();
+    let mut list = names(dice, count.min(if lens == (1..=3) { 2000 } else { 6000 }), front, lens);
+    if round % 2 == 0 {
+        list.sort();
+    }
+    list
+}
+
 fn written_tables(tally: &mut Tally, dice: &mut Dice, rounds: usize) {
     for round in 0..rounds {
-        let count = if round % 50 == 49 { 2000 + dice.below(4000) } else { round % 50 * (1 + dice.below(4)) };
-        let (front, lens) = [("", 1..=3), ("", 4..=8), ("a common front, and then ", 1..=9), ("", 1..=60)][dice.below(4)].clone();
-        let mut list = names(dice, count.min(if lens == (1..=3) { 2000 } else { 6000 }), front, lens);
-        if round % 2 == 0 {
-            list.sort();
-        }
+        let list = list_to_write(dice, round);
         let Some((bytes, size)) = written(&list, true) else { continue };
         let v = View { bytes: &bytes, first: 33 };
         let t = Table { sector: 33, size };
@@ -182,22 +188,29 @@ fn random_windows(tally: &mut Tally, dice: &mut Dice, rounds: usize) {
     }
 }
 
-/// Three entries of sixteen bytes with every choice of links and of names out of a few.
-fn small_tables(tally: &mut Tally) {
+/// How many tables of three there are: with every choice of six links, each out of six, and of three names out of three.
+pub const SMALL_TABLES: usize = 6usize.pow(6) * 27;
+
+/// One of them: three entries of sixteen bytes.
+pub fn small_table(choice: usize) -> ([u8; 48], Table) {
     const LINKS: [u16; 6] = [0, 4, 8, 12, 255, 65535];
-    for choice in 0..6usize.pow(6) * 27 {
-        let (mut links, mut letters) = (choice % 6usize.pow(6), choice / 6usize.pow(6));
-        let mut bytes = [0u8; 48];
-        for at in [0, 16, 32] {
-            for side in [0, 2] {
-                bytes[at + side..at + side + 2].copy_from_slice(&LINKS[links % 6].to_le_bytes());
-                links /= 6;
-            }
-            bytes[at + 12..at + 15].copy_from_slice(&[32, 1, b"bDf"[letters % 3]]);
-            letters /= 3;
+    let (mut links, mut letters) = (choice % 6usize.pow(6), choice / 6usize.pow(6));
+    let mut bytes = [0u8; 48];
+    for at in [0, 16, 32] {
+        for side in [0, 2] {
+            bytes[at + side..at + side + 2].copy_from_slice(&LINKS[links % 6].to_le_bytes());
+            links /= 6;
         }
+        bytes[at + 12..at + 15].copy_from_slice(&[32, 1, b"bDf"[letters % 3]]);
+        letters /= 3;
+    }
+    (bytes, Table { sector: 0, size: 48 + 4 * (choice % 2) as u32 })
+}
+
+fn small_tables(tally: &mut Tally) {
+    for choice in 0..SMALL_TABLES {
+        let (bytes, t) = small_table(choice);
         let v = View { bytes: &bytes, first: 0 };
-        let t = Table { sector: 0, size: 48 + 4 * (choice % 2) as u32 };
         for sought in ["a", "B", "c", "d", "e"] {
             tally.look_up("small table, lookup", v, t, sought);
         }

@@ -1,4 +1,5 @@
 //! What was seen: how many answers of each kind, and the differences.
+use crate::strict::Strict;
 use bench::{Table, View};
 use std::collections::BTreeMap;
 
@@ -21,6 +22,7 @@ pub struct Tally {
     pub limits_asked: u64,
     pub limits_listed: u64,
     pub limits_wrong: u64,
+    pub strict: Strict,
     /// Tables that were written, or refused.
     pub tables: u64,
     pub plans: u64,
