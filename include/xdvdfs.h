@@ -34,7 +34,8 @@
  *
  * RULES. xdvdfs_look_up and xdvdfs_find_path take the number of a rule, which says what links they take for absent:
  *   - XDVDFS_RULE_TWO: 0 and 65,535, as xdvdfs_walk does. A new loader takes this one: in a table that this library
- *     wrote it finds every entry by its name, and in an image that this library planned every file by its path;
+ *     wrote it finds every entry by its name, and in an image that this library planned every file by its path; in a
+ *     table that xdvdfs_check_table accepts, every entry whose name can be sought;
  *   - XDVDFS_RULE_ONE: 0 and 255, as the boards in the field do, and the tool that this library agrees with. It is for
  *     what has to answer as they do, and does not find what stands below a link of 255.
  * What rule one finds in a table that this library wrote, rule two finds too, at the same offset and after as many
@@ -47,10 +48,12 @@
  * of 255 is followed. The second cause is there under both rules: a lookup goes left or right by each name that it
  * meets, so an entry that stands on the wrong side of one above it, or below one of the same name, is not found; only a
  * table that was not written in order has such an entry. (Nor is a stored name that has a byte above 127: it cannot be
- * sought, XDVDFS_BAD_BYTE.) xdvdfs_check_table finds neither a link of 255 nor every fault of order. Who must not take
- * "does not exist" for an answer about a file that is there takes rule two, and of a table that this library did not
- * write lists the entries and compares the names. (The other way round: under rule one a lookup follows a link of
- * 65,535, which neither rule two nor a walk does. No table that this library writes has one.)
+ * sought, XDVDFS_BAD_BYTE.) xdvdfs_check_table refuses every table of the second kind, and a link of 255 is no fault to
+ * it. So in a table that it accepts every entry whose name can be sought is found by its name under rule two, and under
+ * rule one unless a link of 255 stands on the way to it. Who must not take "does not exist" for an answer about a file
+ * that is there takes rule two, and has a table that this library did not write checked first. (The other way round:
+ * under rule one a lookup follows a link of 65,535, which neither rule two nor a walk does. No table that this library
+ * writes has one.)
  *
  * STACK. xdvdfs_check_table takes 65 KiB of stack, xdvdfs_add and xdvdfs_serialise at most 10 KiB, every other call
  * less than 2 KiB. (Read off the object code and measured; no theorem speaks of the stack.)
@@ -67,11 +70,13 @@ extern "C" {
 
 /* The version of this interface: as text, and as 10,000 for the first of its numbers, 100 for the second, 1 for the
  * third. Where one of the first two is another, functions may have other parameters under the same names: a program is
- * compiled with the header of the library that it is linked with. From 0.3.0 to 0.4.0 none has: xdvdfs_load_limits, the
- * numbers 40 to 43 and XDVDFS_STAMP_DAY were added, and a program that was compiled with the header of 0.3.0 links with
- * this library and runs as it did. */
-#define XDVDFS_VERSION "0.4.0"
-#define XDVDFS_VERSION_NUMBER 400
+ * compiled with the header of the library that it is linked with. From 0.3.0 to 0.5.0 none has: with 0.4.0
+ * xdvdfs_load_limits, the numbers 40 to 43 and XDVDFS_STAMP_DAY were added, with 0.5.0 xdvdfs_check_table compares a
+ * name with those of all entries above it, and no longer with its parent's alone. A program that was compiled with the
+ * header of 0.3.0 or 0.4.0 links with this library and runs as it did, but where such a table is now
+ * XDVDFS_OUT_OF_ORDER. */
+#define XDVDFS_VERSION "0.5.0"
+#define XDVDFS_VERSION_NUMBER 500
 
 /* What a call returns. */
 enum xdvdfs_number {
@@ -107,8 +112,8 @@ enum xdvdfs_number {
     XDVDFS_BAD_RULE = 29,                  /* the rule of a lookup or of a path is neither 1 nor 2 */
     /* the strict check */
     XDVDFS_SHARED = 30,                    /* an entry is reached twice */
-    XDVDFS_OUT_OF_ORDER = 31,              /* a left child's name is not less than its parent's, or a right child's not
-                                              greater */
+    XDVDFS_OUT_OF_ORDER = 31,              /* a name in the left subtree of an entry is not less than the entry's, or
+                                              one in its right subtree not greater */
     XDVDFS_BAD_PLACE = 32,                 /* an entry overlaps another, crosses a sector line or leaves the table */
     /* loading limits */
     XDVDFS_UNDATED = 40,                   /* NoDate in docs/SCOPE.md: the volume's stamp is 0. (XDVDFS_NO_DATE, below,
@@ -175,7 +180,8 @@ static inline const char *xdvdfs_text(uint32_t number)
     case XDVDFS_SHARED:
         return "an entry is reached twice";
     case XDVDFS_OUT_OF_ORDER:
-        return "a left child's name is not less than its parent's, or a right child's not greater";
+        return "a name in the left subtree of an entry is not less than the entry's, "
+               "or one in its right subtree is not greater";
     case XDVDFS_BAD_PLACE:
         return "an entry overlaps another, crosses a sector line or leaves the table";
     case XDVDFS_UNDATED:
@@ -383,7 +389,8 @@ void xdvdfs_entry_name(
  *
  * XDVDFS_DOES_NOT_EXIST does not say that no entry has the name: it says that the lookup came to a link that the rule
  * takes for absent, or to no entry. Under rule one a link of 255 is such a link; xdvdfs_walk lists what stands below
- * it, and rule two follows it. See A NAME THAT IS LISTED MAY NOT BE FOUND, above.
+ * it, and rule two follows it. See A NAME THAT IS LISTED MAY NOT BE FOUND, above. Under rule two, in a table that
+ * xdvdfs_check_table accepts, it does say that no entry that is listed has the name.
  */
 uint32_t xdvdfs_look_up(
     const uint8_t *w, size_t w_len, uint32_t first,
@@ -436,15 +443,19 @@ uint32_t xdvdfs_walk(
 
 /*
  * Checks a table by a strict rule, and lists it as xdvdfs_walk does. The rule: the walk ends; no entry is reached
- * twice; no entry overlaps another, crosses a sector line or leaves the table; a left child's name is less than its
- * parent's, a right child's greater. A blank header that a link reaches is no entry and no fault.
+ * twice; no entry overlaps another, crosses a sector line or leaves the table; every name in the left subtree of an
+ * entry is less than the entry's, every name in its right subtree greater. A subtree is all that the walk lists from a
+ * link on. A blank header that a link reaches is no entry and no fault, and bounds no name.
  * As xdvdfs_walk, and further XDVDFS_SHARED, XDVDFS_BAD_PLACE, XDVDFS_OUT_OF_ORDER: *offset is that of the entry at
  * fault, and list is all zero. A ring is XDVDFS_SHARED, unless another fault or the end of the list comes before the
- * second visit.
+ * second visit. XDVDFS_OUT_OF_ORDER is told of the first entry in walk order whose name is on the wrong side of that of
+ * any entry above it, or equal to it: of the root m, its left child c and c's right child z, it is told of z.
  *
- * The strict rule does not say that every listed name is found: links of 255 are no fault, and hide names under rule
- * one of a lookup; and names are compared with the parent's alone (the root m, its left child c and c's right child z
- * are accepted, and no lookup finds z, under either rule).
+ * In a table that is accepted every entry that is listed is found by its name: always under rule two of xdvdfs_look_up,
+ * and under rule one unless a link of 255 stands on the way to it from the first entry. Names that have a byte above
+ * 127 are the exception: they cannot be sought (XDVDFS_BAD_BYTE). A sought name that no listed entry has is
+ * XDVDFS_DOES_NOT_EXIST under rule two (in a table of size 0 XDVDFS_DIRECTORY_EMPTY), and no lookup under rule two is
+ * XDVDFS_OUT_OF_BOUNDS, XDVDFS_TRUNCATED or XDVDFS_LOOPED there.
  */
 uint32_t xdvdfs_check_table(
     const uint8_t *w, size_t w_len, uint32_t first,

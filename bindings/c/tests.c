@@ -1,6 +1,7 @@
 /*
- * tests: what include/xdvdfs.h says of empty slices, of names that are listed and not found under the two rules, of numbers that are no rule's, of rings, of shares that
- * overlap, of a kind that is neither 0 nor 1, of the bytes of a descriptor, of dates, of the limits loader and of the numbers' texts.
+ * tests: what include/xdvdfs.h says of empty slices, of the order that the strict check asks for and of what it gives, of names that are listed and not found under the two
+ * rules, of numbers that are no rule's, of rings, of shares that overlap, of a kind that is neither 0 nor 1, of the bytes of a descriptor, of dates, of the limits loader and
+ * of the numbers' texts.
  * For every slice of every function a call is made in which that slice is NULL with length 0 and the others are there, and one in which all are; each number, each [out] cell and all
  * lent memory are compared with what the header says. bin/test-bindings builds and runs it. It prints each difference; its last line counts.
  */
@@ -431,7 +432,82 @@ static void no_rule(void)
     }
 }
 
-/* Names that are listed and not found, in tables that the strict check accepts: under either rule what is misfiled, under rule one what stands below a link of 255 */
+/* An entry of sixteen bytes: its links and its name of one byte; without a name fourteen bytes that are no entry */
+struct laid {
+    uint8_t left, right, name;
+};
+
+/* Tables of up to five such entries, one after the other, and what the strict check answers: how many it lists, or a number and an offset */
+static const struct {
+    const char *what;
+    struct laid entry[5];
+    uint32_t listed, number, at;
+} ORDERS[] = {
+    {"m c z", {{4, 0, 'm'}, {0, 8, 'c'}, {0, 0, 'z'}}, 0, XDVDFS_OUT_OF_ORDER, 32},
+    {"m x a", {{0, 4, 'm'}, {8, 0, 'x'}, {0, 0, 'a'}}, 0, XDVDFS_OUT_OF_ORDER, 32},
+    {"m c d", {{4, 0, 'm'}, {0, 8, 'c'}, {0, 0, 'd'}}, 3, XDVDFS_DONE, 0},
+    {"m x t", {{0, 4, 'm'}, {8, 0, 'x'}, {0, 0, 't'}}, 3, XDVDFS_DONE, 0},
+    {"m, z on its left", {{4, 0, 'm'}, {0, 0, 'z'}}, 0, XDVDFS_OUT_OF_ORDER, 16},
+    {"m, c on its right", {{0, 4, 'm'}, {0, 0, 'c'}}, 0, XDVDFS_OUT_OF_ORDER, 16},
+    {"m c e z: three up", {{4, 0, 'm'}, {0, 8, 'c'}, {0, 12, 'e'}, {0, 0, 'z'}}, 0, XDVDFS_OUT_OF_ORDER, 48},
+    {"m x t a: three up", {{0, 4, 'm'}, {8, 0, 'x'}, {12, 0, 't'}, {0, 0, 'a'}}, 0, XDVDFS_OUT_OF_ORDER, 48},
+    {"m c e b: less than c", {{4, 0, 'm'}, {0, 8, 'c'}, {12, 0, 'e'}, {0, 0, 'b'}}, 0, XDVDFS_OUT_OF_ORDER, 48},
+    {"m x t y: greater than x", {{0, 4, 'm'}, {8, 0, 'x'}, {0, 12, 't'}, {0, 0, 'y'}}, 0, XDVDFS_OUT_OF_ORDER, 48},
+    {"m c e d", {{4, 0, 'm'}, {0, 8, 'c'}, {12, 0, 'e'}, {0, 0, 'd'}}, 4, XDVDFS_DONE, 0},
+    {"m x t u", {{0, 4, 'm'}, {8, 0, 'x'}, {0, 12, 't'}, {0, 0, 'u'}}, 4, XDVDFS_DONE, 0},
+    {"m c M: equal, two up", {{4, 0, 'm'}, {0, 8, 'c'}, {0, 0, 'M'}}, 0, XDVDFS_OUT_OF_ORDER, 32},
+    {"m x M: equal, two up", {{0, 4, 'm'}, {8, 0, 'x'}, {0, 0, 'M'}}, 0, XDVDFS_OUT_OF_ORDER, 32},
+    {"m c e M: equal, three up", {{4, 0, 'm'}, {0, 8, 'c'}, {0, 12, 'e'}, {0, 0, 'M'}}, 0, XDVDFS_OUT_OF_ORDER, 48},
+    {"m c z, a blank header before z", {{4, 0, 'm'}, {12, 8, 'c'}, {0, 0, 'z'}, {0, 0, 0}}, 0, XDVDFS_OUT_OF_ORDER, 32},
+    {"m x a, a blank header before x", {{4, 8, 'm'}, {0, 0, 0}, {12, 0, 'x'}, {0, 0, 'a'}}, 0, XDVDFS_OUT_OF_ORDER, 48},
+    {"m x, blank headers beside them", {{4, 8, 'm'}, {0, 0, 0}, {4, 12, 'x'}, {0, 0, 0}}, 2, XDVDFS_DONE, 0},
+    {"m c z and x a: the first in walk order", {{4, 12, 'm'}, {0, 8, 'c'}, {0, 0, 'z'}, {16, 0, 'x'}, {0, 0, 'a'}}, 0, XDVDFS_OUT_OF_ORDER, 32},
+    {"m c d and x a", {{4, 12, 'm'}, {0, 8, 'c'}, {0, 0, 'd'}, {16, 0, 'x'}, {0, 0, 'a'}}, 0, XDVDFS_OUT_OF_ORDER, 64},
+    {"m c c: reached twice", {{4, 4, 'm'}, {0, 0, 'c'}}, 0, XDVDFS_SHARED, 16},
+    {"m c z, z's link out of bounds", {{4, 0, 'm'}, {0, 8, 'c'}, {99, 0, 'z'}}, 0, XDVDFS_OUT_OF_ORDER, 32},
+    {"m c z, m's other link out of bounds", {{4, 99, 'm'}, {0, 8, 'c'}, {0, 0, 'z'}}, 0, XDVDFS_OUT_OF_ORDER, 32},
+    {"m c z, c's other link out of bounds", {{4, 0, 'm'}, {99, 8, 'c'}, {0, 0, 'z'}}, 0, XDVDFS_OUT_OF_BOUNDS, 396},
+    {"m, and a byte above 127 on its right", {{0, 4, 'm'}, {0, 0, 0x80}}, 2, XDVDFS_DONE, 0},
+    {"m c, and a byte above 127 on c's right", {{4, 0, 'm'}, {0, 8, 'c'}, {0, 0, 0x80}}, 0, XDVDFS_OUT_OF_ORDER, 32},
+};
+
+/* The strict check compares a name with those of all entries above it; in a table that it accepts each listed name is found where it can be sought */
+static void ordered(void)
+{
+    uint8_t table[80];
+    uint32_t list[8], offset, at, headers, rule;
+    uint64_t wide[9];
+    size_t i, k, count, place;
+    struct xdvdfs_fields fields;
+    for (i = 0; i < sizeof ORDERS / sizeof *ORDERS; i++) {
+        const char *what = ORDERS[i].what;
+        int missing = NONE, is_accepted = ORDERS[i].number == XDVDFS_DONE;
+        memset(table, 0xff, sizeof table);
+        for (k = 0; k < 5; k++) {
+            const struct laid *e = &ORDERS[i].entry[k];
+            const uint8_t bytes[16] = {e->left, 0, e->right, 0, 34, 0, 0, 0, 1, 0, 0, 0, 32, 1, e->name, 255};
+            if (e->name != 0)
+                memcpy(table + 16 * k, bytes, 16);
+        }
+        FILL(list);
+        count = offset = UNTOUCHED;
+        EXPECT(what, xdvdfs_check_table(table, 80, 0, 0, 80, list, 8, wide, 9, &count, &offset), ORDERS[i].number);
+        EXPECT(what, offset, is_accepted ? UNTOUCHED : ORDERS[i].at);
+        EXPECT(what, count, is_accepted ? ORDERS[i].listed : UNTOUCHED);
+        EXPECT(what, same_bytes(list + ORDERS[i].listed, 4 * (8 - ORDERS[i].listed), 0), 1);
+        for (k = 0; k < ORDERS[i].listed; k++)
+            for (rule = XDVDFS_RULE_ONE; rule <= XDVDFS_RULE_TWO; rule++) {
+                const uint8_t *name = table + list[k] + 14;
+                uint32_t number = *name > 127 ? XDVDFS_BAD_BYTE : XDVDFS_DONE;
+                at = UNTOUCHED;
+                EXPECT(what, xdvdfs_look_up(table, 80, 0, 0, 80, name, 1, rule, &fields, &place, &at, &headers), number);
+                EXPECT(what, at, number == XDVDFS_DONE ? list[k] : UNTOUCHED);
+            }
+    }
+}
+
+/* Names that are listed and not found: under either rule what is misfiled, in a table that the strict check refuses; under rule one what stands below a link of 255, in one
+ * that it accepts */
 static void hidden(void)
 {
     /* m, its left child c, and c's right child z */
@@ -455,8 +531,12 @@ static void hidden(void)
     memcpy(farthest_child, far_child, 16);
     memcpy(farthest_child + 262140, mcz + 32, 16);
     farthest_child[3] = 255;
-    EXPECT("check m c z", xdvdfs_check_table(mcz, 48, 0, 0, 48, list, 4, wide, 5, &count, &offset), XDVDFS_DONE);
-    EXPECT("check m c z: count", count, 3);
+    EXPECT("walk m c z", xdvdfs_walk(mcz, 48, 0, 0, 48, list, 4, scratch, 5, &count, &offset), XDVDFS_DONE);
+    EXPECT("walk m c z: count", count, 3);
+    EXPECT("check m c z", xdvdfs_check_table(mcz, 48, 0, 0, 48, list, 4, wide, 5, &count, &offset), XDVDFS_OUT_OF_ORDER);
+    EXPECT("check m c z: offset", offset, 32);
+    EXPECT("check m c z with two places", xdvdfs_check_table(mcz, 48, 0, 0, 48, list, 2, wide, 3, &count, &offset), XDVDFS_WALK_FULL);
+    EXPECT("check m c z, z past the table's end", xdvdfs_check_table(mcz, 48, 0, 0, 44, list, 4, wide, 5, &count, &offset), XDVDFS_BAD_PLACE);
     sought(__LINE__, mcz, 48, "z", XDVDFS_RULE_ONE, XDVDFS_DOES_NOT_EXIST, 0, 1);
     sought(__LINE__, mcz, 48, "z", XDVDFS_RULE_TWO, XDVDFS_DOES_NOT_EXIST, 0, 1);
     EXPECT("check m z", xdvdfs_check_table(far_child, 1036, 0, 0, 1036, list, 4, wide, 5, &count, &offset), XDVDFS_DONE);
@@ -1039,6 +1119,7 @@ int main(void)
     planning();
     shares();
     no_rule();
+    ordered();
     hidden();
     ringed();
     descriptors();

@@ -156,15 +156,17 @@ pub struct FindArguments {
 const CHECK: &str = "\
 Two things are checked of a table. The strict check: no entry is reached twice,
 none overlaps another, crosses a sector line or leaves the table, and each name
-is on the right side of its parent's; the first fault is told. And of each name
-that is listed, whether a lookup of it finds that same entry: a table may list a
-file that no lookup finds. A name that has a byte above 127, or a slash, cannot
-be asked for, and counts as hidden.
+is on the right side of those of all entries above it; the first fault is told.
+And of each name that is listed, whether a lookup of it finds that same entry: a
+table may list a file that no lookup finds. A name that has a byte above 127, or
+a slash, cannot be asked for, and counts as hidden.
 
 Under rule one, that of the boards in the field, names below a link of 255 are
 hidden, and tables that are sound may have some. Under rule two, that of newer
-loaders, they are not: a name is hidden where it is on the wrong side of some
-entry above it, or below one of the same name, or cannot be asked for.
+loaders, they are not: in a table without a fault no name is hidden then, but
+one that cannot be asked for. In a table with a fault a name is hidden under
+both where it is on the wrong side of some entry above it, or below one of the
+same name.
 
 With --all every directory is gone through, each table once; a directory inside
 of itself is a fault. So is what is too much to go through: directories more

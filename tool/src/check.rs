@@ -228,9 +228,16 @@ impl<'a, 'b> Checker<'a, 'b> {
                 message += &format!("; the entry is {}", shown(name));
             }
             self.headers = self.headers.saturating_add(MOST_IN_TABLE);
-            if let Some(parent) = linked_from(self.window, table, offset) {
-                let its = if name.is_some() { "its parent is" } else { "the link is that of" };
-                message += &format!("; {its} {} at offset {}", shown(parent.entry.name), parent.offset);
+            let way = way_to(self.window, table, offset);
+            let told = match (error, name) {
+                (Error::OutOfOrder { .. }, Some(name)) => {
+                    way.iter().find(|above| above.is_misplaced(name)).map(|above| (above, above.subtree()))
+                }
+                (_, Some(_)) => way.first().map(|parent| (parent, "its parent is")),
+                (_, None) => way.first().map(|parent| (parent, "the link is that of")),
+            };
+            if let Some((above, its)) = told {
+                message += &format!("; {its} {} at offset {}", shown(above.at.entry.name), above.at.offset);
             }
             at = Some((offset, name));
         }
@@ -348,28 +355,56 @@ fn behind_unfollowed<'a>(entries: &[Listed<'a>]) -> HashMap<u32, Listed<'a>> {
     behind
 }
 
-/// The entry of a table whose link leads to an offset, as the walk follows links; the first that the walk meets.
-fn linked_from<'a>(window: Window<'a>, table: Table, offset: u32) -> Option<Listed<'a>> {
-    let mut seen = HashSet::new();
-    let mut waiting = vec![0];
-    while let Some(here) = waiting.pop() {
-        if !seen.insert(here) {
+/// An entry on the way to another, and whether that one is in its left subtree or in its right.
+#[derive(Clone, Copy)]
+struct Above<'a> {
+    at: Listed<'a>,
+    is_left: bool,
+}
+
+impl Above<'_> {
+    /// A name in that subtree that is on the wrong side of this entry's, or equal to it.
+    fn is_misplaced(&self, name: &[u8]) -> bool {
+        let (name, bound) = (name.to_ascii_uppercase(), self.at.entry.name.to_ascii_uppercase());
+        if self.is_left {
+            name >= bound
+        } else {
+            name <= bound
+        }
+    }
+
+    fn subtree(&self) -> &'static str {
+        if self.is_left {
+            "it stands in the left subtree of"
+        } else {
+            "it stands in the right subtree of"
+        }
+    }
+}
+
+/// The entries of a table on the way to an offset, the nearest first, by the links by which the walk first comes to it.
+fn way_to<'a>(window: Window<'a>, table: Table, offset: u32) -> Vec<Above<'a>> {
+    let mut met: HashMap<u32, Option<Above>> = HashMap::new();
+    let mut waiting = vec![(0, None)];
+    while let Some((here, above)) = waiting.pop() {
+        if met.contains_key(&here) {
             continue;
+        }
+        met.insert(here, above);
+        if here == offset {
+            break;
         }
         let Ok(Some(entry)) = window.read_entry(table, here) else {
             continue;
         };
-        for link in [entry.header.right, entry.header.left] {
+        for (link, is_left) in [(entry.header.right, false), (entry.header.left, true)] {
             if link != 0 && link != u16::MAX {
-                let there = 4 * u32::from(link);
-                if there == offset {
-                    return Some(Listed { offset: here, entry });
-                }
-                waiting.push(there);
+                waiting.push((4 * u32::from(link), Some(Above { at: Listed { offset: here, entry }, is_left })));
             }
         }
     }
-    None
+    let above = |offset: u32| met.get(&offset).copied().flatten();
+    std::iter::successors(above(offset), |nearer| above(nearer.at.offset)).collect()
 }
 
 /// Tells on a terminal how far it is, once that takes more than a second.

@@ -263,21 +263,48 @@ fn a_link_of_65535() {
     xdvdfs(&["check", "--rule", "2", &image]).done();
 }
 
-/// A name on the wrong side of an entry that is not its parent: no lookup finds it, under either rule.
+/// A name on the wrong side of an entry above it that is not its parent: the strict check refuses it, and no lookup finds it, under either rule.
 #[test]
-fn a_misfiled_name_is_hidden() {
+fn a_misfiled_name() {
     let folder = Folder::new();
-    let table = vec![entry(4, 0, 34, 1, 0x20, b"m"), entry(0, 8, 35, 1, 0x20, b"c"), entry(0, 0, 36, 1, 0x20, b"z")];
-    let image = folder.file("game.iso", &image_by_hand(&[(33, table)]));
-    for (number, rule) in [("1", "one"), ("2", "two")] {
-        let ran = xdvdfs(&["check", "--rule", number, &image]);
-        let hidden = format!(
-            "hidden: /: z at offset 32 is listed, but a lookup under rule {rule} does not find it: {}\n\
-             1 table, 3 entries: 0 faults, 1 hidden name under rule {rule}\n",
-            words(Error::DoesNotExist { headers: Some(1) })
-        );
-        assert_eq!((ran.status, ran.out.as_str()), (1, hidden.as_str()));
+    let tables: [(&[_], &str, u32, &str, u32); 4] = [
+        (&[(4, 0, b"m"), (0, 8, b"c"), (0, 0, b"z")], "z", 1, "left subtree of m at offset 0", 32),
+        (&[(0, 4, b"m"), (8, 0, b"x"), (0, 0, b"a")], "a", 1, "right subtree of m at offset 0", 32),
+        (&[(4, 0, b"m"), (0, 8, b"c"), (12, 0, b"e"), (0, 0, b"b")], "b", 2, "right subtree of c at offset 16", 48),
+        (&[(4, 0, b"m"), (0, 8, b"c"), (0, 12, b"e"), (0, 0, b"z")], "z", 1, "left subtree of m at offset 0", 48),
+    ];
+    for (entries, name, headers, subtree, offset) in tables {
+        let table = entries.iter().map(|(left, right, name)| entry(*left, *right, 34, 1, 0x20, *name)).collect();
+        let image = folder.file("game.iso", &image_by_hand(&[(33, table)]));
+        let strict = words(Error::OutOfOrder { offset });
+        let missing = words(Error::DoesNotExist { headers: Some(headers) });
+        for (number, rule) in [("1", "one"), ("2", "two")] {
+            let ran = xdvdfs(&["check", "--rule", number, &image]);
+            let told = format!(
+                "strict: /: {strict}; the entry is {name}; it stands in the {subtree}\n\
+                 hidden: /: {name} at offset {offset} is listed, but a lookup under rule {rule} does not find it: {missing}\n\
+                 1 table, {} entries: 1 fault, 1 hidden name under rule {rule}\n",
+                entries.len()
+            );
+            assert_eq!((ran.status, ran.out), (1, told));
+        }
     }
+}
+
+/// Below an entry of the same name, which is not its parent, a name is out of order: a lookup finds the other entry.
+#[test]
+fn an_equal_name_below_another() {
+    let folder = Folder::new();
+    let table = vec![entry(4, 0, 34, 1, 0x20, b"m"), entry(0, 8, 35, 1, 0x20, b"c"), entry(0, 0, 36, 1, 0x20, b"M")];
+    let image = folder.file("game.iso", &image_by_hand(&[(33, table)]));
+    let ran = xdvdfs(&["check", "--rule", "2", &image]);
+    let told = format!(
+        "strict: /: {}; the entry is M; it stands in the left subtree of m at offset 0\n\
+         hidden: /: M at offset 32 is listed, but a lookup under rule two finds the entry at offset 0\n\
+         1 table, 3 entries: 1 fault, 1 hidden name under rule two\n",
+        words(Error::OutOfOrder { offset: 32 })
+    );
+    assert_eq!((ran.status, ran.out), (1, told));
 }
 
 #[test]
@@ -303,7 +330,7 @@ fn two_entries_of_one_name() {
     assert_eq!(
         ran.out,
         format!(
-            "strict: /: {strict}; the entry is B; its parent is b at offset 0\n\
+            "strict: /: {strict}; the entry is B; it stands in the left subtree of b at offset 0\n\
              hidden: /: B at offset 16 is listed, but a lookup under rule one finds the entry at offset 0\n\
              hidden: /: c/d at offset 32 is listed, but no path leads to it, for its name has a slash\n\
              1 table, 3 entries: 1 fault, 2 hidden names under rule one\n"

@@ -47,7 +47,8 @@ pub enum Error {
     NoVolume,
     DirectoryEmpty,
     /// The lookup came to a link that its rule takes for absent, or to no entry. This does not say that no entry has the name: under [`Rule::One`](crate::Rule::One) what
-    /// stands below a link of 255 is not found, though [`Window::walk`](crate::Window::walk) lists it. With the number of entry headers read, where a single name was looked up.
+    /// stands below a link of 255 is not found, though [`Window::walk`](crate::Window::walk) lists it. Under [`Rule::Two`](crate::Rule::Two), in a table that
+    /// [`Window::check_table`](crate::Window::check_table) accepts, it does say so. With the number of entry headers read, where a single name was looked up.
     DoesNotExist {
         headers: Option<u32>,
     },
@@ -69,6 +70,8 @@ pub enum Error {
     Shared {
         offset: u32,
     },
+    /// A name in the left subtree of an entry is not less than the entry's, or one in its right subtree not greater. With the offset of the first entry in walk order that
+    /// stands so to any entry above it.
     OutOfOrder {
         offset: u32,
     },
@@ -269,8 +272,8 @@ impl fmt::Display for Error {
             Error::BadRule => write!(f, "the rule is neither 1 nor 2"),
             Error::Shared { offset } => write!(f, "the entry at offset {offset} is reached twice"),
             Error::OutOfOrder { offset } => {
-                write!(f, "the entry at offset {offset} is a left child whose name is not less than its parent's, ")?;
-                write!(f, "or a right child whose name is not greater")
+                write!(f, "the name of the entry at offset {offset} is not less than that of an entry in whose left subtree it stands, ")?;
+                write!(f, "or not greater than that of one in whose right subtree")
             }
             Error::BadPlace { offset } => {
                 write!(f, "the entry at offset {offset} overlaps another, crosses a sector line or leaves the table")

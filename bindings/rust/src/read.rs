@@ -77,7 +77,8 @@ pub enum Rule {
     /// 0 and 255, as the boards in the field do, and the Rust tool: for what has to answer as they do. What stands below a link of 255 is not found, though [`Window::walk`]
     /// lists it; tables that this library writes can have such a link.
     One,
-    /// 0 and 65,535, as [`Window::walk`] does. In a table that this library wrote every entry is found by its name, and in an image that it planned every file by its path.
+    /// 0 and 65,535, as [`Window::walk`] does. In a table that this library wrote every entry is found by its name, and in an image that it planned every file by its path; in
+    /// a table that [`Window::check_table`] accepts every entry whose name can be sought.
     Two,
 }
 
@@ -96,8 +97,9 @@ impl Rule {
 /// A name that [`Window::walk`] lists may not be found by [`Window::look_up`] and [`Window::find_path`]. Under [`Rule::One`] an entry at offset 1,020, which a link of 255
 /// names, and every entry below it, is listed and is [`Error::DoesNotExist`]; tables that this library writes can have such an entry. Under [`Rule::Two`] that link is followed.
 /// Under both an entry is not found that stands on the wrong side of one above it, or below one of the same name, in a table that was not written in order; nor is a name that
-/// has a byte above 127 ([`Error::BadByteSought`]). Who must not take "does not exist" for an answer about a file that is there takes rule two, and of a table that this library
-/// did not write lists the entries and compares the names.
+/// has a byte above 127 ([`Error::BadByteSought`]). [`Window::check_table`] refuses every table that is out of order so, and a link of 255 is no fault to it: in a table that it
+/// accepts every entry whose name can be sought is found by its name under rule two, and under rule one unless a link of 255 stands on the way to it. Who must not take "does
+/// not exist" for an answer about a file that is there takes rule two, and has a table that this library did not write checked first.
 #[derive(Clone, Copy, Debug)]
 pub struct Window<'a> {
     pub bytes: &'a [u8],
@@ -149,7 +151,7 @@ impl<'a> Window<'a> {
     }
 
     /// Looks a name up in a table under a rule; a to z count as A to Z. [`Error::DoesNotExist`] does not say that no entry has the name: under [`Rule::One`] what stands below a
-    /// link of 255 is not found, though [`Window::walk`] lists it.
+    /// link of 255 is not found, though [`Window::walk`] lists it. Under [`Rule::Two`], in a table that [`Window::check_table`] accepts, it does say so.
     pub fn look_up(&self, table: Table, name: &[u8], rule: Rule) -> Result<Found<'a>, Error> {
         let (mut fields, mut place, mut offset, mut headers) = ([0; 6], 0, 0, 0);
         let n = unsafe {
@@ -227,9 +229,14 @@ impl<'a> Window<'a> {
     }
 
     /// Checks a table by a strict rule, and lists it as [`Window::walk`] does: the walk ends, no entry is reached twice, none overlaps another, crosses a sector line or leaves
-    /// the table, and a left child's name is less than its parent's, a right child's greater. A listed name may still not be found by [`Window::look_up`]: a link of 255, which
-    /// [`Rule::One`] does not follow, is no fault, and names are compared with the parent's alone (the root m, its left child c and c's right child z pass, and no lookup finds
-    /// z, under either rule).
+    /// the table, and every name in the left subtree of an entry is less than the entry's, every name in its right subtree greater. [`Error::OutOfOrder`] is told of the first
+    /// entry in walk order whose name is on the wrong side of that of any entry above it, or equal to it: of the root m, its left child c and c's right child z, it is told of
+    /// z. A blank header that a link reaches is no fault, and bounds no name.
+    ///
+    /// In a table that is accepted every listed entry is found by its name: always under [`Rule::Two`] of [`Window::look_up`], and under [`Rule::One`] unless a link of 255
+    /// stands on the way to it from the first entry. Names that have a byte above 127 are the exception: they cannot be sought ([`Error::BadByteSought`]). A sought name that no
+    /// listed entry has is [`Error::DoesNotExist`] under rule two (in a table of size 0 [`Error::DirectoryEmpty`]), and no lookup under rule two is [`Error::OutOfBounds`],
+    /// [`Error::Truncated`] or [`Error::Looped`] there.
     pub fn check_table(&self, table: Table, list: &mut [u32], scratch: &mut [u64]) -> Result<usize, Error> {
         let (mut count, mut offset) = (0, 0);
         let n = unsafe {

@@ -134,6 +134,77 @@ fn strict_faults() {
     assert_eq!(check(&bytes), Err(Error::BadPlace { offset: 32 }));
 }
 
+/// A table of entries of sixteen bytes: the links and the name of each; blank headers follow them.
+fn laid(entries: &[(u16, u16, u8)]) -> Vec<u8> {
+    let mut bytes = vec![0xff; 2048];
+    for (at, (left, right, name)) in entries.iter().enumerate() {
+        let header = [&left.to_le_bytes()[..], &right.to_le_bytes(), &[0; 8], &[32, 1, *name]].concat();
+        bytes[16 * at..16 * at + 15].copy_from_slice(&header);
+    }
+    bytes
+}
+
+/// The strict check compares a name with those of all entries above it, and tells of the first entry in walk order that is on the wrong side of one.
+#[test]
+fn names_in_order_of_all_above_them() {
+    let check = |entries: &[(u16, u16, u8)], places: usize| {
+        let table = Table { sector: 0, size: 128 };
+        Window { bytes: &laid(entries), first: 0 }.check_table(table, &mut vec![7; places], &mut vec![7; places + 1])
+    };
+    let told = |entries: &[(u16, u16, u8)]| check(entries, 8);
+    let at = |offset| Err(Error::OutOfOrder { offset });
+    // two up, on either side: out of order, equal, and in order
+    for (name, answer) in [(b'z', at(32)), (b'M', at(32)), (b'd', Ok(3)), (b'B', at(32))] {
+        assert_eq!(told(&[(4, 0, b'm'), (0, 8, b'c'), (0, 0, name)]), answer);
+    }
+    for (name, answer) in [(b'a', at(32)), (b'M', at(32)), (b't', Ok(3)), (b'Y', at(32))] {
+        assert_eq!(told(&[(0, 4, b'm'), (8, 0, b'x'), (0, 0, name)]), answer);
+    }
+    // three up
+    for (name, answer) in [(b'z', at(48)), (b'M', at(48)), (b'f', Ok(4))] {
+        assert_eq!(told(&[(4, 0, b'm'), (0, 8, b'c'), (0, 12, b'e'), (0, 0, name)]), answer);
+    }
+    for (name, answer) in [(b'a', at(48)), (b'M', at(48)), (b's', Ok(4))] {
+        assert_eq!(told(&[(0, 4, b'm'), (8, 0, b'x'), (12, 0, b't'), (0, 0, name)]), answer);
+    }
+    // a blank header between
+    assert_eq!(told(&[(4, 0, b'm'), (20, 8, b'c'), (0, 0, b'z')]), at(32));
+    assert_eq!(told(&[(20, 4, b'm'), (20, 20, b'x')]), Ok(2));
+    // other faults at the same offset come first, later ones do not
+    let mcz = [(4, 0, b'm'), (0, 8, b'c'), (0, 0, b'z')];
+    assert_eq!([0, 2, 3].map(|places| check(&mcz, places)), [Err(Error::WalkFull), Err(Error::WalkFull), at(32)]);
+    assert_eq!(told(&[(4, 4, b'm'), (0, 0, b'c')]), Err(Error::Shared { offset: 16 }));
+    assert_eq!(told(&[(4, 99, b'm'), (0, 8, b'c'), (99, 0, b'z')]), at(32));
+    assert_eq!(told(&[(4, 12, b'm'), (0, 8, b'c'), (0, 0, b'z'), (16, 0, b'x'), (0, 0, b'a')]), at(32));
+    let words = Error::OutOfOrder { offset: 32 }.to_string();
+    assert_eq!(words, "the name of the entry at offset 32 is not less than that of an entry in whose left subtree it stands, or not greater than that of one in whose right subtree");
+}
+
+/// Four entries with every choice of links among them: where the strict check accepts them each listed name is found, and some that it refuses hide one from both rules.
+#[test]
+fn what_the_strict_check_accepts_is_found() {
+    const LINKS: [u16; 4] = [0, 4, 8, 12];
+    let (table, mut accepted, mut hidden) = (Table { sector: 0, size: 64 }, 0, 0);
+    for choice in 0..4usize.pow(8) * 2 {
+        let link = |i: usize| LINKS[choice / 2 / 4usize.pow(i as u32) % 4];
+        let names = [b"cabd", b"dbac"][choice % 2];
+        let bytes = laid(&[0, 1, 2, 3].map(|i| (link(2 * i), link(2 * i + 1), names[i])));
+        let window = Window { bytes: &bytes, first: 0 };
+        let Ok(listed) = window.list(table, 4) else { continue };
+        let found = |entry: &Entry, rule| window.look_up(table, entry.name, rule).is_ok_and(|f| f.offset as usize == entry.place);
+        let all = |rule| listed.iter().all(|entry| found(entry, rule));
+        match window.check_table(table, &mut [0; 4], &mut [0; 5]) {
+            Ok(count) => {
+                assert_eq!(count, listed.len());
+                assert!(all(Rule::One) && all(Rule::Two), "{listed:?}");
+                accepted += 1;
+            }
+            Err(_) => hidden += !(all(Rule::One) || all(Rule::Two)) as u32,
+        }
+    }
+    assert!(accepted > 20 && hidden > 20, "{accepted} accepted, {hidden} hide a name");
+}
+
 /// Five names with which `f` is the root's right child and stands at 1,020, so that its link is 255.
 fn names_with_f_at_1020() -> [String; 5] {
     let long = |first: char, n: usize| format!("{first}{}", "x".repeat(n));
