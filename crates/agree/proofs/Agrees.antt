@@ -21,7 +21,7 @@ use Rattle.lookup_way.proofs.Along.{one-read}
 use Rattle.read_walk.specs.Walk.{walkOf}
 use Rattle.strict_rule.specs.Strict.{nameIn}
 use Rattle.table_shape.specs.Shape.{preorder, Hangs}
-use Rattle.table_shape.specs.Found as shape
+use Rattle.table_shape.proofs.Reaches as shape
 use Rattle.table_shape.proofs.Walked.{walk-lists}
 use Rattle.table_shape.proofs.Reaches.{all-reached, Lands, on, off, lands}
 use Rattle.table_shape.proofs.Ways.{way-links}

@@ -24,8 +24,8 @@ use Rattle.read_entry.proofs.Located.{read-by-tests}
 use Rattle.lookup_way.proofs.Sets.{in-walk}
 use Rattle.strict_rule.specs.Strict.{nameIn}
 use Rattle.table_shape.specs.Shape as shape
-use Rattle.table_shape.specs.Shape.{Shape, preorder, depth, Every, placeBy, Hangs}
-use Rattle.table_shape.proofs.Trees.{EveryLink, headers, Solid, headers-solid}
+use Rattle.table_shape.specs.Shape.{Shape, preorder, Every, placeBy, Hangs}
+use Rattle.table_shape.proofs.Trees.{depth, EveryLink, headers, Solid, headers-solid}
 use Rattle.table_shape.proofs.Reaches.{Stops}
 use Rattle.avl_model.specs.Tree.{Tree, leaf, node, ht}
 use Rattle.avl_model.specs.Laws.{All, Ordered}

@@ -1,8 +1,8 @@
 -- The name of the entry at a place of the window, without its header: what `nameBy` says of what is read there. Assumes nothing.
-use Prim.Native.Nat.{ℕ, zero, suc, _+_, _-_, _*_, _^_, _≤_, _<_}
-use mathlib.Core.Path.{_≡_, refl, sym, ap, _∙_}
+use Prim.Native.Nat.{ℕ, _+_, _-_, _*_, _≤_, _<_}
+use mathlib.Core.Path.{_≡_, refl, sym, _∙_}
 use mathlib.Core.Bool.{Bool, true, false}
-use mathlib.Core.Logic.{_⊎_, inl, inr, ⊎-elim}
+use mathlib.Core.Logic.{_⊎_, inl, inr}
 use mathlib.Core.List.{List, []}
 use native.Mathlib.Nat.{add-sub-cancel-left}
 use native.Mathlib.Decide.{ℕ-discrete}
@@ -67,17 +67,25 @@ module _ (w : List ℕ) (p : ℕ) where
     name-cut (inl entry) short o = rw (le-ltb _ _ held, entry, named, lt-ltb _ _ short)
     name-cut (inr z) short o = absurd (omega arith)
 
-    pub name-whole : Tells → p + 14 + n ≤ length w → Here (take (p + 14 + n - (p + 14)) (drop (p + 14) w))
-    unfolding readHere nameOf
-    name-whole (inl entry) whole o = rw (le-ltb _ _ held, entry, named, le-ltb _ _ whole, add-sub-cancel-left (p + 14) n)
-    name-whole (inr z) whole o = by (isBlank h) refl
-      where
-        none : take (p + 14 + n - (p + 14)) (drop (p + 14) w) ≡ []
-        none = rw (add-sub-cancel-left (p + 14) n, z)
+    -- a name that is whole: of an entry, and of what is no entry or has none
+    abbrev bytes : List ℕ
+    bytes = take (p + 14 + n - (p + 14)) (drop (p + 14) w)
 
-        by : (b : Bool) → isBlank h ≡ b → take (p + 14 + n - (p + 14)) (drop (p + 14) w) ≡ nameBy w (readHere w p o)
-        by true e = none ∙ sym (rw (le-ltb _ _ held, e))
-        by false e = rw (le-ltb _ _ held, e, named, le-ltb _ _ whole, add-sub-cancel-left (p + 14) n)
+    of-entry : p + 14 + n ≤ length w → isBlank h ≡ false → Here bytes
+    unfolding readHere nameOf
+    of-entry whole entry o = rw (le-ltb _ _ held, entry, named, le-ltb _ _ whole, add-sub-cancel-left (p + 14) n)
+
+    of-none : n ≡ 0 → isBlank h ≡ true → Here bytes
+    unfolding readHere
+    of-none z blank o = rw (le-ltb _ _ held, blank, add-sub-cancel-left (p + 14) n, z)
+
+    pub name-whole : Tells → p + 14 + n ≤ length w → Here bytes
+    name-whole (inl entry) whole = of-entry whole entry
+    name-whole (inr z) whole = by (isBlank h) refl
+      where
+        by : (b : Bool) → isBlank h ≡ b → Here bytes
+        by true e = of-none z e
+        by false e = of-entry whole e
 
 -- at an offset of a table that starts where the window does, n its number
 module _ (w : List ℕ) (size : ℕ) (o : Offset) (n : ℕ) (is-n : n ≡ o .0) where

@@ -1,20 +1,21 @@
 -- The strict check of a table in its own part of a window, as a table of sector 0 in a window that starts with sector 0, is the check in the window.
 -- Assumes nothing.
-use Prim.Native.Nat.{ℕ, zero, suc, _+_, _*_, _≤_}
+use Prim.Native.Nat.{ℕ, zero, suc, _+_, _≤_}
 use mathlib.Core.Path.{_≡_, refl, sym, ap, ap₂, subst, _∙_}
-use mathlib.Core.Bool.{Bool, true, false}
+use mathlib.Core.Bool.{Bool, true, false, _&&_}
 use mathlib.Core.List.{List, [], _∷_, _++_}
 use mathlib.Core.Option.{Option, some, none}
 use lib.ListN.{length, drop}
 use Rattle.units.specs.Told.{Told, gives, refuses}
 use Rattle.units.specs.declared.Sector.{Sector}
 use Rattle.units.specs.declared.Region.{Region}
+use Rattle.name_role.specs.Roles.{storedOrder}
 use Rattle.read_entry.specs.Entry.{Placed, readAt, nameOf}
 use Rattle.read_entry.specs.inner.Part.{partOf, placedOn, moved}
 use Rattle.read_entry.proofs.Moved.{read-moved, name-moved, read-nothing, Starts, inside, outside, starts}
 use Rattle.read_walk.specs.Walk.{before}
 use Rattle.strict_rule.specs.declared.Checked.{Checked}
-use Rattle.strict_rule.specs.Strict.{Visit, root, entered, endOf, endBy, nameBy, isUnder, isOver, every, apart, placed, ordered, verdictAt, ifGood, byRead, toEntry, strictFrom}
+use Rattle.strict_rule.specs.Strict.{Visit, root, entered, endOf, endBy, nameBy, isLess, isUnder, isOver, every, apart, placed, ordered, verdictAt, ifGood, byRead, toEntry, strictFrom}
 use Rattle.strict_rule.specs.inner.Nearest.{enteredNearest}
 use Rattle.strict.specs.inner.Run.{runOf, Runs}
 use Rattle.strict_rule.proofs.Steps.{check-refused}
@@ -36,6 +37,12 @@ read-by b (gives (some x)) enter other rest rest₂ e d = e x
 read-by b (gives none) enter other rest rest₂ e d = d
 read-by b (refuses k vs) enter other rest rest₂ e d = refl
 
+-- two tests that are alike at each offset
+every-alike : (p q : ℕ → Bool) → ((o : ℕ) → p o ≡ q o) → (os : List ℕ) → every p os ≡ every q os
+unfolding every
+every-alike p q e [] = refl
+every-alike p q e (o ∷ os) = ap₂ _&&_ (e o) (every-alike p q e os)
+
 -- f finds in the window what g finds in the part, with places counted from b on
 module _ (w : List ℕ) (b : ℕ) (held : b ≤ length w) (f g : ℕ → Told (Option Placed)) (alike : (o : ℕ) → f o ≡ moved b (g o)) where
   apart-alike : (o e : ℕ) (seen : List ℕ) → apart f o e seen ≡ apart g o e seen
@@ -43,19 +50,14 @@ module _ (w : List ℕ) (b : ℕ) (held : b ≤ length w) (f g : ℕ → Told (O
   apart-alike o e [] = refl
   apart-alike o e (x ∷ xs) = rw (alike x, end-alike b (g x) x, apart-alike o e xs)
 
-  under-alike : (name os : List ℕ) → every (isUnder w f name) os ≡ every (isUnder (drop b w) g name) os
-  unfolding every
-  under-alike name [] = refl
-  under-alike name (o ∷ os) = rw (alike o, name-alike w b held (g o), under-alike name os)
-
-  over-alike : (name os : List ℕ) → every (isOver w f name) os ≡ every (isOver (drop b w) g name) os
-  unfolding every
-  over-alike name [] = refl
-  over-alike name (o ∷ os) = rw (alike o, name-alike w b held (g o), over-alike name os)
+  named-alike : (o : ℕ) → nameBy w (f o) ≡ nameBy (drop b w) (g o)
+  named-alike o = ap (nameBy w) (alike o) ∙ name-alike w b held (g o)
 
   ordered-alike : (v : Visit) (name : List ℕ) → ordered w f v name ≡ ordered (drop b w) g v name
   unfolding ordered
-  ordered-alike v name = rw (under-alike name (v .under), over-alike name (v .over))
+  ordered-alike v name = ap₂ _&&_
+      (every-alike (isUnder w f name) (isUnder (drop b w) g name) (λ o. ap (λ (n : List ℕ). isLess (storedOrder name n)) (named-alike o)) (v .under))
+      (every-alike (isOver w f name) (isOver (drop b w) g name) (λ o. ap (λ (n : List ℕ). isLess (storedOrder n name)) (named-alike o)) (v .over))
 
   placed-alike : (size o e : ℕ) (seen : List ℕ) → placed f size o e seen ≡ placed g size o e seen
   unfolding placed

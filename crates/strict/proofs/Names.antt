@@ -2,10 +2,8 @@
 use Prim.Native.Nat.{ℕ, _*_, _/_, _%_}
 use mathlib.Core.Path.{_≡_, refl, sym, ap, _∙_}
 use mathlib.Core.Bool.{Bool, true, false, _&&_}
-use mathlib.Core.List.{List, [], _∷_}
-use mathlib.Core.Option.{Option, some, none}
+use mathlib.Core.List.{List}
 use borrow.Author.Tests.{eq-eqb, ne-eqb}
-use Rattle.units.specs.Told.{Told, gives, refuses}
 use Rattle.units.specs.declared.Link.{Link}
 use Rattle.units.specs.declared.Offset.{Offset}
 use Rattle.units.specs.declared.Region.{Region}
@@ -14,7 +12,7 @@ use Rattle.layout_name.specs.declared.Order.{Order}
 use Rattle.layout_name.specs.declared.Order.the-variants.{Less, Equal, Greater}
 use Rattle.name_role.specs.Roles.{storedOrder}
 use Rattle.name_role.proofs.Roles.{Compared, stored-compared}
-use Rattle.read_entry.specs.Entry.{Placed, readAt}
+use Rattle.read_entry.specs.Entry.{readAt}
 use Rattle.strict_rule.specs.Strict.{nameBy, isLess, isUnder, isOver, every, ordered}
 use Rattle.strict.specs.inner.Run.{Begins, boundOf, visitOf}
 

@@ -35,12 +35,12 @@ use Rattle.read_walk.specs.Walk.{walkOf}
 use Rattle.strict_rule.specs.Strict.{nameIn}
 use Rattle.strict_rule.specs.Accepts.{EntryAt, Accepts}
 use Rattle.strict_rule.proofs.Way.{Way, way-of}
-use Rattle.table_shape.specs.Shape.{preorder, depth, Shaped}
-use Rattle.table_shape.specs.Found.{Named, Reached, Answered, found, missing}
-use Rattle.table_shape.proofs.Trees.{every-both, every-all, every-listed, of-listed, depth-listed, headers-depth, hangs-reached}
+use Rattle.table_shape.specs.Shape.{preorder, Shaped}
+use Rattle.table_shape.specs.Found.{Named, Answered, found, missing}
+use Rattle.table_shape.proofs.Trees.{depth, every-both, every-all, every-listed, of-listed, depth-listed, headers-depth, hangs-reached}
 use Rattle.table_shape.proofs.Walked.{tree-of, in-order}
 use Rattle.table_shape.proofs.Few.{Once, few}
-use Rattle.table_shape.proofs.Reaches.{all-reached, Lands, on, off, lands}
+use Rattle.table_shape.proofs.Reaches.{Reached, all-reached, Lands, on, off, lands}
 use Rattle.table_shape.proofs.Ways.{inside, distinct, single}
 
 module _ (w : List ℕ) (first : Sector) (t : Region) (xs : List ℕ) (rule : Accepts w first t xs) where

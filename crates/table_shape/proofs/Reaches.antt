@@ -20,13 +20,24 @@ use Rattle.lookup_way.specs.Along.{Along, there, left, right, Real, answerAlong
 use Rattle.lookup_way.proofs.Steps.{chain, follow, follow-is, chain-entry, chain-blank, lookup-is}
 use Rattle.lookup_way.proofs.Sets.{followed, real-cons}
 use Rattle.strict_rule.specs.Strict.{nameIn}
-use Rattle.table_shape.specs.Shape.{Shape, leaf, node, preorder, depth, Every, placeBy, Hangs, nowhere, blank, entry, Ordered}
-use Rattle.table_shape.specs.Found.{Named, Reached}
-use Rattle.table_shape.proofs.Trees.{every-map, every-both, EveryLink, headers, hung-sized}
+use Rattle.table_shape.specs.Shape.{Shape, leaf, node, preorder, Every, placeBy, Hangs, nowhere, blank, entry, Ordered}
+use Rattle.table_shape.specs.Found.{Named}
+use Rattle.table_shape.proofs.Trees.{depth, every-map, every-both, EveryLink, headers, hung-sized}
 
 module _ (w : List ℕ) (first : Sector) (t : Region) where
   abbrev f : ℕ → Told (Option Placed)
   f = readAt w first t
+
+  -- an entry is reached: there is a way to it from the first entry along links that are read, and a lookup of its
+  -- name answers along that way; that is, it finds the entry at its offset, unless a link on the way is taken for
+  -- absent, and then answers 22
+  pub record Reached (o : ℕ) (x : Placed) : Type 0 where
+    pub links : List ℕ
+    pub way : Along (readAt w first t) 0 o links
+    -- none of these links is 0 or 65,535, so that of them rule one takes exactly 255 for absent, and rule two none
+    pub real : Real links
+    pub answers : (absent name : List ℕ) → badSought name ≡ false → Named w name x
+        → lookupBy absent w first t name ≡ answerAlong absent x o 1 links
 
   -- EACH ENTRY IS REACHED: the entry y at p from offset o, by a lookup that may read d headers or more
   record To (d o p : ℕ) (y : Placed) : Type 0 where
@@ -82,10 +93,10 @@ module _ (w : List ℕ) (first : Sector) (t : Region) where
       )
 
   -- the whole table, where the tree hangs at offset 0
-  pub all-reached : {s : Shape} → Hangs f (some 0) s → Ordered w s → depth s ≤ most → Every (Reached w first t) s
+  pub all-reached : {s : Shape} → Hangs f (some 0) s → Ordered w s → depth s ≤ most → Every Reached s
   all-reached {s} h ordered low = every-map (ToFrom (depth s) (some 0)) _ s (λ o x to. reach o x to) (all-to h ordered)
     where
-      reach : (o : ℕ) (x : Placed) → To (depth s) 0 o x → Reached w first t o x
+      reach : (o : ℕ) (x : Placed) → To (depth s) 0 o x → Reached o x
       reach o x to = record {
         links = to .links;
         way = to .way;

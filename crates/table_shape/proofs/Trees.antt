@@ -15,7 +15,12 @@ use Rattle.read_entry.specs.Entry.{Placed, readAt}
 use Rattle.read_entry.specs.Links.{isIn, walkAbsent}
 use Rattle.read_entry.proofs.Located.{read-by-tests}
 use Rattle.strict_rule.specs.Accepts.{Reach, here, by-left, by-right}
-use Rattle.table_shape.specs.Shape.{Shape, leaf, node, preorder, depth, Every, placeBy, Hangs, nowhere, blank, entry}
+use Rattle.table_shape.specs.Shape.{Shape, leaf, node, preorder, Every, placeBy, Hangs, nowhere, blank, entry}
+
+-- how many entries there are at most one below the other
+abbrev pub depth : Shape → ℕ
+depth leaf = 0
+depth (node l o x r) = suc (max (depth l) (depth r))
 
 -- EVERY ENTRY: what follows from one property, and from two
 pub every-map : (P Q : ℕ → Placed → Type 0) (s : Shape) → ((o : ℕ) (x : Placed) → P o x → Q o x) → Every P s → Every Q s

@@ -1,16 +1,13 @@
--- What a lookup answers in a table whose walk lists xs and that the strict check accepts, for every set of links that
--- the lookup takes for absent. Assumes nothing.
+-- What a lookup answers in a table whose walk lists xs and that the strict check accepts. Assumes nothing.
 use Prim.Native.Nat.{ℕ, _≤_}
 use mathlib.Core.Path.{_≡_}
-use mathlib.Core.Bool.{false}
 use mathlib.Core.List.{List, [], _∷_, List·Memᴰ}
 use Rattle.units.specs.Told.{Told, gives, refuses}
 use Rattle.units.specs.declared.Sector.{Sector}
 use Rattle.units.specs.declared.Region.{Region}
-use Rattle.name_role.specs.Roles.{soughtKeys, storedKeys, badSought}
-use Rattle.read_entry.specs.Entry.{Placed, readAt}
-use Rattle.read_lookup.specs.Lookup.{Finding, lookupBy}
-use Rattle.lookup_way.specs.Along.{Along, Real, answerAlong}
+use Rattle.name_role.specs.Roles.{soughtKeys, storedKeys}
+use Rattle.read_entry.specs.Entry.{Placed}
+use Rattle.read_lookup.specs.Lookup.{Finding}
 use Rattle.strict_rule.specs.Strict.{nameIn}
 use Rattle.strict_rule.specs.Accepts.{EntryAt}
 
@@ -19,17 +16,6 @@ abbrev pub Named : List ℕ → List ℕ → Placed → Type 0
 Named w name x = soughtKeys name ≡ storedKeys (nameIn w x)
 
 module _ (w : List ℕ) (first : Sector) (t : Region) where
-  -- an entry is reached: there is a way to it from the first entry along links that are read, and a lookup of its
-  -- name answers along that way; that is, it finds the entry at its offset, unless a link on the way is taken for
-  -- absent, and then answers 22
-  pub record Reached (o : ℕ) (x : Placed) : Type 0 where
-    pub links : List ℕ
-    pub way : Along (readAt w first t) 0 o links
-    -- none of these links is 0 or 65,535, so that of them rule one takes exactly 255 for absent, and rule two none
-    pub real : Real links
-    pub answers : (absent name : List ℕ) → badSought name ≡ false → Named w name x
-        → lookupBy absent w first t name ≡ answerAlong absent x o 1 links
-
   -- an answer to a name: an entry that is listed and has this name; or 22, and then none that is listed has it; after
   -- at most m headers
   pub data Answered (xs : List ℕ) (m : ℕ) (name : List ℕ) : Told Finding → Type 0 where

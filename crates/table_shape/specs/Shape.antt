@@ -1,6 +1,6 @@
 -- A table as a tree of entries: which entries its links lead to, in which order the walk lists them, and when its
 -- names are in order. Assumes nothing.
-use Prim.Native.Nat.{ℕ, suc, _*_, max}
+use Prim.Native.Nat.{ℕ, _*_}
 use mathlib.Core.Path.{_≡_}
 use mathlib.Core.List.{List, [], _∷_, _++_}
 use mathlib.Core.Option.{Option, some, none}
@@ -22,11 +22,6 @@ pub data Shape : Type 0 where
 unfoldable pub preorder : Shape → List ℕ
 preorder leaf = []
 preorder (node l o x r) = o ∷ (preorder l ++ preorder r)
-
--- how many entries there are at most one below the other
-abbrev pub depth : Shape → ℕ
-depth leaf = 0
-depth (node l o x r) = suc (max (depth l) (depth r))
 
 -- every entry of a tree, with its offset, has a property
 abbrev pub Every : (ℕ → Placed → Type 0) → Shape → Type 0
