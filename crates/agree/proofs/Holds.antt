@@ -1,8 +1,8 @@
 -- In a window in which a table's bytes stand, each item is read back, and each link leads to its item. Assumes nothing.
 -- The induction goes by what is left of the window: from where a tree's entries start, it is their bytes and then some rest.
 use Prim.Native.Nat.{ℕ, ◌+◌, ◌-◌, ◌*◌, ◌/◌, ◌%◌, ◌≤◌, ◌<◌}
-use mathlib.Core.Path.{◌≡◌, refl, sym, ap, ◌∙◌}
-use mathlib.Core.List.{List, [], ◌∷◌, ◌++◌, append_assoc}
+use mathlib.Core.Path.{◌≡◌, refl, ap, ◌∙◌}
+use mathlib.Core.List.{List, ◌++◌, append_assoc}
 use native.Mathlib.Omega.{arith}
 use native.Mathlib.Nat.{add-zero}
 use lib.ListN.{length, drop, replicate, length-replicate}
@@ -13,15 +13,15 @@ use Rattle.layout_sector.specs.Counter.{aligned_up}
 use Rattle.dirtab_entry.specs.Entry.{rounded}
 use Rattle.avl_model.specs.Tree.{Tree, leaf, node}
 use Rattle.avl_model.specs.Laws.{All}
-use Rattle.table_model.specs.Entry.{Entry, Item, length_of, entry_bytes}
+use Rattle.table_model.specs.Entry.{Entry, length_of, entry_bytes}
 use Rattle.table_model.specs.Place.{end_of, free_of, items}
 use Rattle.table_model.specs.Table.{size_of, table_bytes}
-use Rattle.table_model.specs.Said.{Fits, LinkFits, AllIn, Stands}
+use Rattle.table_model.specs.Said.{LinkFits, AllIn, Stands}
 use Rattle.table_model.proofs.Places.{Starts, FitsAt, start_at, stop_four, end_after, end_four, free_next, free_after_lem, starts_first}
 use Rattle.table_model.proofs.Bytes.{entry_length, tree_bytes, tree_bytes_lem, tree_length, end_size}
 use Rattle.table_model.proofs.Geometry.{all_append, all_left, all_right, never_65535}
 use Rattle.table_model.proofs.Placing.{links_fit, sectors_fit}
-use Rattle.agree.specs.Written.{Writable, Written}
+use Rattle.agree.specs.Written.{Written}
 use Rattle.agree.proofs.Setting.{Setting, start, stop, end, link, next, free, item, its, Back}
 use Rattle.agree.proofs.Readback.{Fields, has_item}
 

@@ -5,11 +5,11 @@
 --     unlisted          what is not listed is 22
 --     one_then_two      what is found under rule one is found the same under rule two: entry, offset and headers
 -- found_listed and unlisted are of both rules. found_listed_by, listed_found_by, unlisted_by and found_again_by say the same of every set of absent links.
-use Prim.Native.Nat.{ℕ, ◌+◌, ◌≤◌, ◌<◌}
+use Prim.Native.Nat.{ℕ, ◌+◌, ◌≤◌}
 use mathlib.Core.Path.{◌≡◌, refl, sym, ap, ◌∙◌}
 use mathlib.Core.Bool.{true, false}
 use mathlib.Core.Logic.{inl, inr}
-use mathlib.Core.List.{List, [], ◌∷◌, map, Memᴰ}
+use mathlib.Core.List.{List, [], ◌∷◌, Memᴰ}
 use native.Mathlib.Omega.{arith}
 use mathlib.Core.Option.{some}
 use lib.ListN.{length}

@@ -3,7 +3,7 @@
 use Prim.Native.Nat.{ℕ, ◌≤◌, min}
 use native.Mathlib.Omega.{arith}
 use mathlib.Core.Path.{◌≡◌, refl, sym, ap, subst, ◌∙◌}
-use mathlib.Core.Bool.{Bool, true, false, ◌&&◌}
+use mathlib.Core.Bool.{Bool, true, false}
 use mathlib.Core.List.{List, []}
 use lib.Dec.{leb}
 use lib.ListN.{length, take}
@@ -12,7 +12,7 @@ use borrow.Author.Tests.{leb-true}
 use Rattle.units.specs.Told.{Told, gives, refuses, pick}
 use Rattle.avl_arena.proofs.Tested.{and_l, and_r}
 use Rattle.img_model.specs.Plan.{Plan, plan_of}
-use Rattle.img_model.specs.Image.{Asked, Lent, by_directory, by_entry, by_node, fits, has_room, request_in, image_of, answer_of, answer_in, column_after, lent_after}
+use Rattle.img_model.specs.Image.{Asked, Lent, by_directory, by_entry, has_room, request_in, image_of, answer_of, answer_in, column_after, lent_after}
 use Rattle.agree_plan.proofs.NeverFive.{never_5}
 use Rattle.agree_causes.specs.Plans.{GivenIn}
 

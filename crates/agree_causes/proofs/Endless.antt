@@ -2,14 +2,13 @@
 use Prim.Native.Nat.{ℕ, ◌*◌, ◌-◌}
 use native.Mathlib.Omega.{arith}
 use mathlib.Core.Path.{◌≡◌, sym, ap, ◌∙◌}
-use mathlib.Core.Bool.{Bool}
 use mathlib.Core.List.{List, [], ◌∷◌}
-use mathlib.Core.Option.{Option, some, none}
+use mathlib.Core.Option.{some, none}
 use lib.Dec.{leb, ltb}
-use Rattle.units.specs.Told.{Told, gives, refuses, pick}
+use Rattle.units.specs.Told.{refuses, pick}
 use Rattle.units.specs.declared.Sector.{Sector}
 use Rattle.units.specs.declared.Region.{Region}
-use Rattle.read_entry.specs.Entry.{Placed, read_here, read_at}
+use Rattle.read_entry.specs.Entry.{read_here, read_at}
 use Rattle.read_entry.proofs.Located.{byte_of, read_by_tests}
 use Rattle.read_lookup.specs.Lookup.{Leads, refused, by_read, step_at}
 use Rattle.read_lookup.specs.Chain.{goes, offset_from, Endless}

@@ -1,14 +1,14 @@
 -- THE LINKS OF A TABLE: none is 65,535, and one to offset 262,128 is 65,532, in the bytes too. Assumes nothing.
-use Prim.Native.Nat.{ℕ, ◌+◌, ◌*◌, ◌/◌, ◌%◌, ◌≤◌}
+use Prim.Native.Nat.{ℕ, ◌/◌, ◌%◌}
 use native.Mathlib.Omega.{arith}
-use mathlib.Core.Path.{◌≡◌, refl, ap, ◌∙◌}
-use mathlib.Core.List.{List, [], ◌∷◌, ◌++◌}
-use lib.ListN.{length, take, drop}
+use mathlib.Core.Path.{◌≡◌, ap}
+use mathlib.Core.List.{[], ◌∷◌}
+use lib.ListN.{take, drop}
 use Rattle.layout_node.specs.Header.{header_bytes}
 use Rattle.avl_model.specs.Tree.{Tree, leaf, node}
 use Rattle.avl_model.specs.Laws.{All}
 use Rattle.table_model.specs.Entry.{Entry, Item, entry_bytes}
-use Rattle.table_model.specs.Place.{start_of, stop_of, end_of, free_after, free_of, link_to, item_of, items}
+use Rattle.table_model.specs.Place.{stop_of, end_of, free_after, free_of, link_to, item_of, items}
 use Rattle.table_model.specs.Said.{AllIn}
 use Rattle.table_model.proofs.Places.{FitsAt, stop_four, end_four}
 use Rattle.table_model.proofs.Geometry.{all_append, items_stand, never_65535}

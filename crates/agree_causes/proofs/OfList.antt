@@ -1,13 +1,13 @@
 -- WHAT WRITING A LIST ANSWERS, by its cause; at once, and by adding in turn and serialising. Assumes nothing.
-use Prim.Native.Nat.{ℕ, ◌+◌, ◌/◌, ◌*◌, ◌≤◌, ◌<◌}
+use Prim.Native.Nat.{ℕ, ◌≤◌, ◌<◌}
 use native.Mathlib.Omega.{arith}
 use mathlib.Core.Path.{◌≡◌, refl, sym, ap, subst, ◌∙◌}
 use mathlib.Core.Bool.{Bool, true, false}
 use mathlib.Core.Logic.{◌⊎◌, inl, inr}
-use mathlib.Core.List.{List, [], ◌∷◌}
-use lib.Dec.{ltb, leb, eqb}
+use mathlib.Core.List.{List, []}
+use lib.Dec.{ltb, eqb}
 use lib.ListN.{length, get_or}
-use borrow.Author.Tests.{le-leb, ltb-true, ltb-false, eqb-true, eqb-false, eq-eqb}
+use borrow.Author.Tests.{le-leb, ltb-true, ltb-false, eqb-true, eqb-false}
 use Rattle.units.specs.Told.{Told, gives, refuses, pick}
 use Rattle.dirtab_entry.specs.declared.Kind.TheVariants.{File, Directory}
 use Rattle.dirtab_entry.specs.Entry.{is_directory, rounded, kind_for, check_of}
@@ -15,7 +15,7 @@ use Rattle.avl_model.specs.Tree.{Tree}
 use Rattle.avl_model.specs.Laws.{All}
 use Rattle.avl_model.proofs.Avl.{all_map}
 use Rattle.table_model.specs.Entry.{Item}
-use Rattle.table_model.specs.Place.{free_of, items}
+use Rattle.table_model.specs.Place.{free_of}
 use Rattle.table_model.specs.Table.{Placing, size_of, place_of}
 use Rattle.table_model.specs.Said.{AllIn, LinkFits}
 use Rattle.table_model.proofs.Geometry as geometry
@@ -27,7 +27,6 @@ use Rattle.dirtab_arena.specs.Arena.{Columns}
 use Rattle.dirtab.specs.Serialise as serialise
 use Rattle.dirtab_grow.specs.Grow.{grow}
 use Rattle.dirtab_list.specs.Whole.{Listing, given_in, given_name, entry_in, has_places, if_fits, if_grown, whole_of, Lent, places_in, answer_in}
-use Rattle.agree.specs.Given.{grown}
 use Rattle.dirtab_entry.proofs.Stored.{stored_low}
 use Rattle.agree.proofs.FromList.{grown_below}
 use Rattle.agree_list.specs.InTurn.{add_all, empty_in, then_answer}

@@ -1,18 +1,17 @@
 -- WHAT PLANNING ANSWERS, by its cause. Assumes nothing.
-use Prim.Native.Nat.{ℕ, zero, suc, ◌+◌, ◌≤◌, ◌<◌}
+use Prim.Native.Nat.{ℕ, ◌≤◌}
 use native.Mathlib.Omega.{arith}
 use mathlib.Core.Path.{◌≡◌, refl, sym, ap, subst, ◌∙◌}
-use mathlib.Core.Bool.{Bool, true}
-use mathlib.Core.List.{List, [], ◌∷◌}
+use mathlib.Core.Bool.{Bool}
+use mathlib.Core.List.{List, []}
 use lib.Dec.{leb}
 use lib.ListN.{length, take, replicate, length-replicate}
 use borrow.Author.Tests.{le-leb}
 use Rattle.units.specs.Told.{Told, gives, refuses, pick}
-use Rattle.avl_model.specs.Tree.{Tree}
 use Rattle.table_model.specs.Table.{size_of}
-use Rattle.img_model.specs.Shares.{Request, share_of, directories_of, count_of, is_tree}
-use Rattle.img_model.specs.Plan.{table_in, tree_in, sizes_down, Taking, entries_at, taking_up, rooted, Plan, with_sizes, if_sized, total, plan_of}
-use Rattle.img_model.specs.Image.{Asked, Lent, has_room, request_in, image_of, answer_of, answer_in}
+use Rattle.img_model.specs.Shares.{Request, directories_of}
+use Rattle.img_model.specs.Plan.{sizes_down, entries_at, taking_up, rooted, if_sized, total, plan_of}
+use Rattle.img_model.specs.Image.{Asked, Lent, request_in, image_of, answer_of, answer_in}
 use Rattle.agree_plan.proofs.Down.{down_sized}
 use Rattle.agree_plan.proofs.NeverFive.{zeros_low}
 use Rattle.agree_causes.specs.Plans.{FairImage, EnoughFor, TooLong, tree_for, SizesOf, free_before, PlanOutcome, ten}

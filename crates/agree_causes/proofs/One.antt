@@ -1,13 +1,11 @@
 -- A CAUSE HAS ONE ANSWER: no two of the four outcomes are there together, of a list or of a plan. Assumes nothing.
-use Prim.Native.Nat.{ℕ, suc, ◌+◌, ◌≤◌, ◌<◌}
+use Prim.Native.Nat.{ℕ, suc, ◌+◌, ◌<◌}
 use native.Mathlib.Omega.{arith}
 use native.Mathlib.Decide.{dec_lt, ℕ_discrete}
 use mathlib.Core.Path.{◌≡◌, refl, sym, ap, subst, ◌∙◌}
 use mathlib.Core.List.{List, [], ◌∷◌, Memᴰ}
-use lib.ListN.{length, get_or}
 use lib.Seq.{ext_get_or}
 use Rattle.units.specs.Told.{Told, gives, refuses}
-use Rattle.avl_model.specs.Tree.{Tree}
 use Rattle.table_model.specs.Entry.{Item}
 use Rattle.table_model.specs.Table.{Placing}
 use Rattle.table_model.specs.Said.{AllIn}
@@ -16,7 +14,7 @@ use Rattle.dirtab_list.specs.Whole.{Listing}
 use Rattle.img_model.specs.Shares.{Request, share_of, directories_of, first_of}
 use Rattle.img_model.specs.Plan.{table_in}
 use Rattle.img_model.proofs.Trees.{size_same}
-use Rattle.agree_causes.specs.Lists.{Near, TooLarge, farthest, last_sector, WriteOutcome}
+use Rattle.agree_causes.specs.Lists.{Near, farthest, last_sector, WriteOutcome}
 use Rattle.agree_causes.specs.Lists as lists
 use Rattle.agree_causes.specs.Plans.{TooLong, tree_for, SizesOf, free_before, items_for, Placeable, PlanOutcome}
 use Rattle.agree_causes.specs.Plans as plans

@@ -1,7 +1,7 @@
 -- THE SECTORS OF A TABLE'S ENTRIES: the next free one after those of a grown tree is the first and what the entries take together. Assumes nothing.
 use Prim.Native.Nat.{ℕ, zero, suc, ◌+◌}
 use native.Mathlib.Omega.{arith}
-use mathlib.Core.Path.{◌≡◌, refl, sym, ap, ◌∙◌}
+use mathlib.Core.Path.{◌≡◌, refl, ap, ◌∙◌}
 use mathlib.Core.Bool.{Bool, true, false}
 use mathlib.Core.List.{List}
 use Rattle.layout_sector.specs.Counter.{sectors_for}

@@ -1,8 +1,8 @@
 -- THE FEWEST NODES OF A HEIGHT: a thinnest tree is balanced and has just so many, and no balanced tree of its height has fewer. Assumes nothing.
-use Prim.Native.Nat.{ℕ, zero, suc, ◌+◌, ◌≤◌, max}
+use Prim.Native.Nat.{ℕ, zero, suc, ◌≤◌}
 use native.Mathlib.Omega.{arith}
-use mathlib.Core.Path.{◌≡◌, refl, sym, ap, subst, ◌∙◌}
-use Rattle.avl_model.specs.Tree.{Tree, leaf, node, ht}
+use mathlib.Core.Path.{◌≡◌, refl, subst}
+use Rattle.avl_model.specs.Tree.{Tree, ht}
 use Rattle.avl_model.specs.Laws.{Avl, size, least}
 use Rattle.avl_model.proofs.Avl.{avl_size}
 use Rattle.agree_causes.specs.Thin.{thin}

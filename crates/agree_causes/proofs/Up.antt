@@ -4,16 +4,16 @@ use native.Mathlib.Omega.{arith}
 use native.Mathlib.Numerals.{add-one}
 use native.Mathlib.Decide.{ℕ_discrete}
 use mathlib.Core.Path.{◌≡◌, refl, sym, ap, subst, ◌∙◌}
-use mathlib.Core.List.{List, [], ◌∷◌}
-use Rattle.units.specs.Told.{Told, gives, refuses}
+use mathlib.Core.List.{List}
+use Rattle.units.specs.Told.{Told, gives}
 use Rattle.avl_model.specs.Tree.{Tree}
 use Rattle.avl_model.specs.Order.{order}
-use Rattle.table_model.specs.Place.{free_of, items}
+use Rattle.table_model.specs.Place.{free_of}
 use Rattle.table_model.specs.Table.{Placing, place_of}
 use Rattle.table_model.proofs.Placing as placing
 use Rattle.table_model.proofs.Placing.{outcome}
 use Rattle.img_model.specs.Shares.{Request, share_of, given_name, directories_of, count_of}
-use Rattle.img_model.specs.Plan.{table_in, tree_in, if_grown, Taking, entries_at, taking_all, if_placed, taking_up, with_sizes}
+use Rattle.img_model.specs.Plan.{if_grown, Taking, entries_at, taking_all, if_placed, taking_up, with_sizes}
 use Rattle.img_model.proofs.Takings.{free_taken}
 use Rattle.img_model.specs.Image.{answer_of}
 use Rattle.agree_causes.specs.Plans.{FairImage, TooLong, tree_for, SizesOf, free_before, items_for, Placeable, PlanOutcome, planned, seven, eight}

@@ -1,17 +1,16 @@
 -- A FILE THAT WAS PLANNED IS LOADED from a window with the image's tables and its descriptor. Assumes nothing.
-use Prim.Native.Nat.{ℕ, ◌+◌, ◌-◌, ◌*◌, ◌/◌, ◌%◌, ◌≤◌, ◌<◌}
+use Prim.Native.Nat.{ℕ, ◌-◌, ◌*◌, ◌/◌, ◌%◌, ◌≤◌, ◌<◌}
 use native.Mathlib.Omega.{arith}
 use mathlib.Core.Path.{◌≡◌, refl, sym, ap, subst, ◌∙◌}
 use mathlib.Core.Bool.{true, false}
-use mathlib.Core.List.{List, [], ◌∷◌, ◌++◌}
+use mathlib.Core.List.{List, [], ◌∷◌}
 use lib.Dec.{eqb}
-use lib.ListN.{drop}
 use borrow.Author.Tests.{le-leb}
-use Rattle.units.specs.Told.{Told, gives, refuses}
+use Rattle.units.specs.Told.{Told, gives}
 use Rattle.units.specs.declared.Sector.{Sector}
 use Rattle.layout_node.specs.Header as node
 use Rattle.layout_volume.specs.declared.Descriptor.{Descriptor}
-use Rattle.layout_volume.specs.Descriptor.{descriptor_bytes, read_of}
+use Rattle.layout_volume.specs.Descriptor.{descriptor_bytes}
 use Rattle.layout_volume.proofs.Laws.{read_written}
 use Rattle.read_entry.specs.Entry.{Placed}
 use Rattle.read_entry.specs.Links.{is_in}
@@ -19,14 +18,13 @@ use Rattle.read_path.specs.Path.{path_by, path_of}
 use Rattle.limits_rule.specs.declared.Limits.{Limits}
 use Rattle.limits_rule.specs.Limits.{volume_in, limits_of}
 use Rattle.limits_rule.specs.Outcome as outcomes
-use Rattle.limits_rule.specs.Outcome.{loaded, Allows, Outcome}
-use Rattle.limits_rule.proofs.Marks.{marked_volume, volume_marked}
+use Rattle.limits_rule.specs.Outcome.{loaded, Outcome}
+use Rattle.limits_rule.proofs.Marks.{volume_marked}
 use Rattle.limits_rule.proofs.Outcomes.{outcome}
 use Rattle.limits_rule.proofs.Numbers.{loads}
-use Rattle.dirtab_entry.specs.Entry.{rounded}
-use Rattle.table_model.specs.Entry.{Entry, attributes, header_for}
-use Rattle.img_model.specs.Shares.{Request, share_of, directories_of, is_directory, value_of}
-use Rattle.img_model.specs.Plan.{Plan, table_in, entries_at}
+use Rattle.table_model.specs.Entry.{Entry, attributes}
+use Rattle.img_model.specs.Shares.{Request, share_of, is_directory, value_of}
+use Rattle.img_model.specs.Plan.{Plan, table_in}
 use Rattle.img_model.proofs.Rule.{some_directory}
 use Rattle.agree.specs.Written.{Stand}
 use Rattle.agree.specs.Agreement.{placed_at}

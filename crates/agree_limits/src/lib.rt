@@ -1,1 +1,2 @@
 // No code: a file that was planned is loaded.
+#![tactic(auto)]

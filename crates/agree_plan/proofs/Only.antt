@@ -14,7 +14,6 @@ use Rattle.units.specs.declared.Sector.{Sector}
 use Rattle.units.specs.declared.Region.{Region}
 use Rattle.name_role.specs.Roles.{stored_keys}
 use Rattle.layout_node.specs.Header as node
-use Rattle.dirtab_entry.specs.declared.Kind.TheVariants.{File, Directory}
 use Rattle.read_entry.specs.Entry.{Placed}
 use Rattle.read_entry.specs.Links.{is_in, one_absent, walk_absent, absent_under}
 use Rattle.read_lookup.specs.Lookup.{Finding, lookup_by}

@@ -7,7 +7,8 @@ use Rattle.avl_model.specs.Tree.{Tree, leaf}
 use Rattle.table_model.specs.Entry.{Item}
 use Rattle.table_model.specs.Place.{items}
 use Rattle.table_model.specs.Table.{Placing, size_of, place_of}
-use Rattle.img_model.specs.Shares.{Request, share_of, directories_of, entries_of, first_of, count_of, is_directory, value_of}
+use Rattle.img_model.specs.Shares.{Request, share_of, directories_of, entries_of, first_of, count_of, is_directory}
+use Rattle.img_model.specs.Shares.{value_of}
 use Rattle.img_model.specs.Plan.{table_in, tree_in, entries_at, Plan, plan_of}
 use Rattle.agree.specs.Given.{times}
 
@@ -32,7 +33,8 @@ root_sector = 33
 -- first after its own table's
 unfoldable pub start_sector : Request → List ℕ → ℕ → ℕ
 start_sector R sizes zero = root_sector + sectors_for (table_in sizes 0)
-start_sector R sizes (suc d) = free_given (place_of (entries_at R sizes d) 1 (start_sector R sizes d) (tree_at R sizes d))
+start_sector R sizes (suc d) =
+    free_given (place_of (entries_at R sizes d) 1 (start_sector R sizes d) (tree_at R sizes d))
 
 -- the items of directory d's table, written so
 abbrev pub items_at : Request → List ℕ → ℕ → List Item

@@ -5,7 +5,7 @@ use mathlib.Core.Logic.{◌⊎◌, inl, inr}
 use mathlib.Core.List.Memᴰ
 use mathlib.Core.List.{List, [], ◌∷◌, Memᴰ}
 use native.Mathlib.Omega.{arith}
-use lib.ListN.{length, length-map}
+use lib.ListN.{length-map}
 use Rattle.units.specs.Told.{gives}
 use Rattle.units.specs.declared.Sector.{Sector}
 use Rattle.units.specs.declared.Region.{Region}
@@ -24,12 +24,10 @@ use Rattle.table_model.specs.Said.{AllIn, Stands, Apart}
 use Rattle.table_model.proofs.Geometry.{of_item, items-length}
 use Rattle.agree.specs.Written.{Written}
 use Rattle.agree.specs.Agreement.{offsets, placed_at, ReadBack, Agreement}
-use Rattle.agree.specs.Given.{Given, entry_of, tree_of, WrittenList}
 use Rattle.agree.proofs.Setting.{Setting}
 use Rattle.agree.proofs.Holds.{setting, ready}
 use Rattle.agree.proofs.Shapes.{to_items, in_order, written_hangs}
 use Rattle.agree.proofs.Agrees.{agreement}
-use Rattle.agree.proofs.FromList.{list_written, list_size}
 
 -- of two items that are apart one ends where the other starts, or before
 apart_two : (xs : List Item) (y z : Item) → Apart xs → Memᴰ y xs → Memᴰ z xs → (y.offset ≡ z.offset → ⊥) → (stop y ≤ z.offset) ⊎ (stop z ≤ y.offset)
@@ -110,9 +108,3 @@ pub written_passes : (entry : ℕ → Entry) (align s : ℕ) (x : Tree) (w : Lis
 written_passes entry align s x w first t g room h =
     accepts w first t room (offsets (items entry align 0 s x)) (written_accepts entry align s x w first t g)
     (omega (arith, length-map (items entry align 0 s x) (λ (y : Item). y.offset), items-length entry align x 0 s))
-
--- and so the table of every list that is admitted
-pub list_passes : (align s : ℕ) (gs : List Given) (w : List ℕ) (first : Sector) (t : Region) → WrittenList align s gs w first t
-    → (room : ℕ) → length gs ≤ room → strict_of w first t room ≡ gives (offsets (items (entry_of gs) align 0 s (tree_of gs)))
-list_passes align s gs w first t g room h =
-    written_passes (entry_of gs) align s (tree_of gs) w first t (list_written align s gs w first t g) room (omega (arith, list_size align s gs w first t g))

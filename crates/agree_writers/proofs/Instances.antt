@@ -5,7 +5,7 @@ use Prim.Native.Nat.{ℕ, zero, suc, ◌+◌, ◌≤◌, ◌<◌}
 use mathlib.Core.Path.{◌≡◌, refl, sym, ◌∙◌}
 use mathlib.Core.List.{List, [], ◌∷◌, append-nil}
 use native.Mathlib.Omega.{arith}
-use lib.ListN.{length, get_or, take, replicate}
+use lib.ListN.{get_or, take, replicate}
 use Rattle.units.specs.Told.{gives}
 use Rattle.units.specs.declared.Region.{Region}
 use Rattle.layout_name.specs.Order.{raised, number_order, list_order}

@@ -1,4 +1,6 @@
 // The arena check: whether columns that someone lends hold one ordered, balanced tree with true parents and heights.
+#![tactic(auto)]
+
 ghost use Rattle.std.specs.Prelude.{◌≡◌, ◌||◌, ◌+◌, ◌<◌, ◌≤◌, max, length, leb};
 ghost use Rattle.avl_model.specs.Lists.{lists};
 ghost use Rattle.avl_model.specs.Names.{names_in, name_at, by_name, is_less};
@@ -13,7 +15,7 @@ use widths::{u16_as_usize, u32_as_usize};
 const NONE: u16 = 65535;
 
 // What looking through a subtree finds: whether all is right, and its root, its height and its number of nodes.
-#[derive(Drop)]
+#[derive(Clone, Copy)]
 pub struct Seen {
     pub ok: bool,
     pub top: u16,
@@ -22,7 +24,7 @@ pub struct Seen {
 }
 
 // Where a subtree hangs: by name between the nodes lo and hi, and below the node up. NONE is no bound.
-#[derive(Drop)]
+#[derive(Clone, Copy)]
 pub struct Gap {
     pub lo: u16,
     pub hi: u16,

@@ -13,7 +13,7 @@ use Rattle.avl_model.specs.inner.Rep.{climb}
 use Rattle.avl_model.specs.inner.Held.{Ready, Up, Whole}
 use Rattle.avl_model.proofs.Level.{leaf_leaves}
 use Rattle.avl_model.proofs.Stores.{put_left_length, put_right_length}
-use Rattle.avl_model.proofs.Climbing.{State, Going, next, going, ended}
+use Rattle.avl_model.proofs.Climbing.{State, next, going, ended}
 
 -- an index that is none holds no height
 none_high : (H : List ℕ) (i : ℕ) → length H ≤ none → i ≡ none → get_or H i 0 ≡ 0

@@ -1,13 +1,15 @@
 // Insertion by name into the balanced tree that lent columns hold. The name of node i is the part of `names` that
 // starts at start[i] and has len[i] bytes; nothing is asked of what the columns hold for numbers that are not in
 // the tree.
+#![tactic(auto)]
+
 ghost use Rattle.std.specs.Prelude.{◌≡◌, ◌≤◌, ◌<◌, length, get_or};
 ghost use Rattle.layout_name.specs.inner.Order.{raised_copy};
 ghost use Rattle.avl_model.specs.declared.Place.TheVariants.{Root};
 ghost use Rattle.avl_model.specs.Tree.{bal, ins};
 ghost use Rattle.avl_model.specs.inner.Rep.{climb};
 ghost use Rattle.avl_model.specs.Lists.{lists};
-ghost use Rattle.avl_model.specs.inner.Lists.{lists, above_of, attached};
+ghost use Rattle.avl_model.specs.inner.Lists.{above_of, attached};
 ghost use Rattle.avl_model.specs.inner.Held.{Ready, Whole};
 ghost use Rattle.avl_model.specs.Names.{names_in, name_at, to_name, is_less};
 ghost use Rattle.avl_model.specs.inner.Names.{Inside};

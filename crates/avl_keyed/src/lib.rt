@@ -1,4 +1,6 @@
 // The search for a name's place by keys: names are compared only where the keys of their first four bytes are equal.
+#![tactic(auto)]
+
 ghost use Rattle.std.specs.Prelude.{◌≡◌, ◌+◌, ◌*◌, ◌<◌, get_or};
 ghost use Rattle.units.specs.Told.{pick};
 ghost use Rattle.layout_name.specs.inner.Order.{raised_copy};

@@ -14,7 +14,13 @@ pub record Arr : Type 0 where
 
 -- the root and four lists as functions from an index
 abbrev pub arr : ℕ → List ℕ → List ℕ → List ℕ → List ℕ → Arr
-arr t l r p h = record { root = t; L = λ i. get_or l i 0; R = λ i. get_or r i 0; P = λ i. get_or p i 0; H = λ i. get_or h i 0 }
+arr t l r p h = record {
+  root = t;
+  L = λ i. get_or l i 0;
+  R = λ i. get_or r i 0;
+  P = λ i. get_or p i 0;
+  H = λ i. get_or h i 0;
+}
 
 -- the four lists and the root as functions from an index
 abbrev pub arr_of : Lists → Arr

@@ -23,4 +23,7 @@ spot_in by (node l i r) q = spot_by (by i) (Same i) (spot_in by l (Left i)) (spo
 unfoldable pub tree_at : ℕ → List ℕ → List ℕ → ℕ → Tree
 tree_at zero L R i = leaf
 tree_at (suc f) L R i =
-    elim (ltb i (length L)) [ true ↦ node (tree_at f L R (get_or L i 0)) i (tree_at f L R (get_or R i 0)) | false ↦ leaf ]
+    elim (ltb i (length L)) [
+      | true ↦ node (tree_at f L R (get_or L i 0)) i (tree_at f L R (get_or R i 0))
+      | false ↦ leaf
+    ]

@@ -2,7 +2,9 @@
 // in proofs/.
 
 // Which way a node leans, or which child of its parent it is: left is -1, right is 1.
-#[derive(Drop)]
+#![tactic(auto)]
+
+#[derive(Clone, Copy)]
 pub enum Direction {
     Left = -1,
     Leaf = 0,
@@ -10,7 +12,7 @@ pub enum Direction {
 }
 
 // Where a subtree hangs: at the root, or left or right of a node.
-#[derive(Drop)]
+#[derive(Clone, Copy)]
 pub enum Place {
     Root,
     Left(u16),
@@ -18,14 +20,14 @@ pub enum Place {
 }
 
 // What looking for a name finds: the node that has it, or the place where it would hang.
-#[derive(Drop)]
+#[derive(Clone, Copy)]
 pub enum Spot {
     Same(u16),
     Free(Place),
 }
 
 // What putting a node in answers: it is in, or its name is that of a node that was there.
-#[derive(Drop)]
+#[derive(Clone, Copy)]
 pub enum Inserted {
     Done,
     Duplicate(u16),

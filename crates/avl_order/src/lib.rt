@@ -1,8 +1,10 @@
 // The numbers of a tree's nodes in preorder.
+#![tactic(auto)]
+
 ghost use Rattle.std.specs.Prelude.{◌≡◌, ◌<◌, ◌≤◌, ◌++◌, length, drop};
 ghost use Rattle.avl_model.specs.Laws.{size};
 ghost use Rattle.avl_model.specs.Order.{order};
-ghost use Rattle.avl_model.specs.inner.Order.{Listing};
+ghost use Rattle.avl_model.specs.inner.Order.{Listed};
 ghost use Rattle.avl_order.specs.inner.Held.{held_by};
 
 use widths::u16_as_usize;

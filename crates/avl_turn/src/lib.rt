@@ -1,11 +1,13 @@
 // Rotations of a tree that lent columns hold. left, right and parent hold the number of a node, or 65535 where
 // there is none; height holds the height of the node's subtree. A rotation to the other side is the same function
 // with the columns left and right exchanged.
+#![tactic(auto)]
+
 ghost use Rattle.std.specs.Prelude.{◌≡◌, ℕ, ◌<◌, max, length, get_or, set};
 ghost use Rattle.avl_model.specs.Tree.{node, turn_left, bal};
 ghost use Rattle.avl_model.specs.inner.Held.{Heavy, Ready, Up};
 ghost use Rattle.avl_model.specs.Lists.{lists};
-ghost use Rattle.avl_model.specs.inner.Lists.{risen, tilt_of, place_of, put_root, put_left, put_right, lists};
+ghost use Rattle.avl_model.specs.inner.Lists.{risen, tilt_of, place_of, put_root, put_left, put_right};
 ghost use Rattle.avl_model.specs.inner.Lists.{l_rotated, rl_rotated, risen3, Three};
 
 use avl_model::{Direction, Place};

@@ -8,10 +8,12 @@
 // equation. No function asks anything of its caller beyond what every call from C does: pointers to as many elements
 // as the length says, and no two that overlap.
 //
-// `was x`, `is x`, `m.entry` and `m.exit` are as in `xdvdfs`: at the call, and at the return.
+// `x.now`, `x.old` and `x.new` are as in `xdvdfs`: of a `&`, and of a `&mut` at the call and at the return.
 //
 // Each function makes the call, and a `store_` function of `capi_cells` or `capi_written` puts the answer where it
 // belongs.
+#![tactic(auto)]
+
 ghost use Rattle.std.specs.Prelude.{◌≡◌, length, take, drop};
 ghost use Rattle.units.specs.Told.{number_of};
 ghost use Rattle.dirtab.specs.Serialise as serialising;
@@ -30,7 +32,8 @@ ghost use Rattle.strict_rule.specs.Strict as checking;
 ghost use Rattle.capi.specs.Given.{sector_of, region_of, descriptor_of, entry_of};
 ghost use Rattle.capi_cells.specs.Cells.{of_given, of_some, is_some, of_refusal, at_offset, at_fault, after_headers};
 ghost use Rattle.capi_cells.specs.Cells.{start_of_name};
-ghost use Rattle.capi_cells.specs.Parts.{placed_fields, placed_at, found_fields, found_place, found_offset, found_headers};
+ghost use Rattle.capi_cells.specs.Parts.{placed_fields, placed_at, found_fields, found_place, found_offset};
+ghost use Rattle.capi_cells.specs.Parts.{found_headers};
 ghost use Rattle.capi_cells.specs.Parts.{root_sector, root_size, stamp_of, itself};
 ghost use Rattle.capi_written.specs.Parts.{of_entry, of_planned, of_directory, grown_root, grown_count, size_of_table};
 ghost use Rattle.capi_written.specs.Parts.{next_free, run_start, run_free};
@@ -70,13 +73,13 @@ pub extern "C" fn xdvdfs_read_descriptor(
     size: &mut u32,
     stamp: &mut u64,
 ) -> u32
-    ensures fact_1 { let answer = volume.read_of s.now in
+    ensures value { let answer = volume.read_of s.now in
         result ≡ number_of answer }
-    ensures fact_2 { let answer = volume.read_of s.now in
+    ensures sector_value { let answer = volume.read_of s.now in
         sector.new ≡ of_given root_sector answer sector.old }
-    ensures fact_3 { let answer = volume.read_of s.now in
+    ensures size_value { let answer = volume.read_of s.now in
         size.new ≡ of_given root_size answer size.old }
-    ensures fact_4 { let answer = volume.read_of s.now in
+    ensures stamp_value { let answer = volume.read_of s.now in
         stamp.new ≡ of_given stamp_of answer stamp.old }
 {
     store_descriptor(xdvdfs::read_descriptor(s), sector, size, stamp)
@@ -95,13 +98,13 @@ pub extern "C" fn xdvdfs_read_entry(
     fields: &mut [u32; 6],
     place: &mut usize,
 ) -> u32
-    ensures fact_1 { let answer = entry.read_at w.now (sector_of first) (region_of sector size) offset in
+    ensures value { let answer = entry.read_at w.now (sector_of first) (region_of sector size) offset in
         result ≡ number_of answer }
-    ensures fact_2 { let answer = entry.read_at w.now (sector_of first) (region_of sector size) offset in
+    ensures found_value { let answer = entry.read_at w.now (sector_of first) (region_of sector size) offset in
         found.new ≡ of_given is_some answer found.old }
-    ensures fact_3 { let answer = entry.read_at w.now (sector_of first) (region_of sector size) offset in
+    ensures fields_value { let answer = entry.read_at w.now (sector_of first) (region_of sector size) offset in
         fields.new ≡ of_some placed_fields answer fields.old }
-    ensures fact_4 { let answer = entry.read_at w.now (sector_of first) (region_of sector size) offset in
+    ensures place_value { let answer = entry.read_at w.now (sector_of first) (region_of sector size) offset in
         place.new ≡ of_some placed_at answer place.old }
 {
     let r = xdvdfs::read_entry(
@@ -147,15 +150,18 @@ pub extern "C" fn xdvdfs_look_up(
     offset: &mut u32,
     headers: &mut u32,
 ) -> u32
-    ensures fact_1 { let answer = lookup.lookup_of rule w.now (sector_of first) (region_of sector size) name.now in
+    ensures value { let answer = lookup.lookup_of rule w.now (sector_of first) (region_of sector size) name.now in
         result ≡ number_of answer }
-    ensures fact_2 { let answer = lookup.lookup_of rule w.now (sector_of first) (region_of sector size) name.now in
+    ensures fields_value { let answer = lookup.lookup_of rule w.now (sector_of first)
+        (region_of sector size) name.now in
         fields.new ≡ of_given found_fields answer fields.old }
-    ensures fact_3 { let answer = lookup.lookup_of rule w.now (sector_of first) (region_of sector size) name.now in
+    ensures place_value { let answer = lookup.lookup_of rule w.now (sector_of first) (region_of sector size) name.now in
         place.new ≡ of_given found_place answer place.old }
-    ensures fact_4 { let answer = lookup.lookup_of rule w.now (sector_of first) (region_of sector size) name.now in
+    ensures offset_value { let answer = lookup.lookup_of rule w.now (sector_of first)
+        (region_of sector size) name.now in
         offset.new ≡ of_refusal at_offset answer (of_given found_offset answer offset.old) }
-    ensures fact_5 { let answer = lookup.lookup_of rule w.now (sector_of first) (region_of sector size) name.now in
+    ensures headers_value { let answer = lookup.lookup_of rule w.now (sector_of first)
+        (region_of sector size) name.now in
         headers.new ≡ of_refusal after_headers answer (of_given found_headers answer headers.old) }
 {
     let r = xdvdfs::look_up(w, sector_of(first), region_of(sector, size), name, rule);
@@ -177,13 +183,16 @@ pub extern "C" fn xdvdfs_find_path(
     place: &mut usize,
     offset: &mut u32,
 ) -> u32
-    ensures fact_1 { let answer = following.path_of rule w.now (sector_of first) (region_of sector size) path.now in
+    ensures value { let answer = following.path_of rule w.now (sector_of first) (region_of sector size) path.now in
         result ≡ number_of answer }
-    ensures fact_2 { let answer = following.path_of rule w.now (sector_of first) (region_of sector size) path.now in
+    ensures fields_value { let answer = following.path_of rule w.now (sector_of first)
+        (region_of sector size) path.now in
         fields.new ≡ of_given placed_fields answer fields.old }
-    ensures fact_3 { let answer = following.path_of rule w.now (sector_of first) (region_of sector size) path.now in
+    ensures place_value { let answer = following.path_of rule w.now (sector_of first)
+        (region_of sector size) path.now in
         place.new ≡ of_given placed_at answer place.old }
-    ensures fact_4 { let answer = following.path_of rule w.now (sector_of first) (region_of sector size) path.now in
+    ensures offset_value { let answer = following.path_of rule w.now (sector_of first)
+        (region_of sector size) path.now in
         offset.new ≡ of_refusal at_offset answer offset.old }
 {
     let r = xdvdfs::find_path(w, sector_of(first), region_of(sector, size), path, rule);
@@ -204,21 +213,18 @@ pub extern "C" fn xdvdfs_walk(
     count: &mut usize,
     offset: &mut u32,
 ) -> u32
-    ensures fact_1 { let table = region_of sector size in
+    ensures value { let table = region_of sector size in
         let answer = walking.walk_answer w.now (sector_of first) table (length list.old) (length scratch.old) in
         result ≡ number_of answer }
-    ensures fact_2 { let table = region_of sector size in
+    ensures count_value { let table = region_of sector size in
         let answer = walking.walk_answer w.now (sector_of first) table (length list.old) (length scratch.old) in
         count.new ≡ of_given itself answer count.old }
-    ensures fact_3 { let table = region_of sector size in
+    ensures offset_value { let table = region_of sector size in
         let answer = walking.walk_answer w.now (sector_of first) table (length list.old) (length scratch.old) in
         offset.new ≡ of_refusal at_offset answer offset.old }
-    ensures fact_4 { let table = region_of sector size in
-        let answer = walking.walk_answer w.now (sector_of first) table (length list.old) (length scratch.old) in
+    ensures list_value { let table = region_of sector size in
         list.new ≡ walking.list_after w.now (sector_of first) table list.old (length scratch.old) }
-    ensures fact_5 { let table = region_of sector size in
-        let answer = walking.walk_answer w.now (sector_of first) table (length list.old) (length scratch.old) in
-        scratch.new ≡ walking.scratch_after (length list.old) scratch.old }
+    ensures scratch_value { scratch.new ≡ walking.scratch_after (length list.old) scratch.old }
 {
     let r = xdvdfs::walk(w, sector_of(first), region_of(sector, size), list, scratch);
     store_walked(r, count, offset)
@@ -238,21 +244,18 @@ pub extern "C" fn xdvdfs_check_table(
     count: &mut usize,
     offset: &mut u32,
 ) -> u32
-    ensures fact_1 { let table = region_of sector size in
+    ensures value { let table = region_of sector size in
         let answer = checking.strict_answer w.now (sector_of first) table (length list.old) (length scratch.old) in
         result ≡ number_of answer }
-    ensures fact_2 { let table = region_of sector size in
+    ensures count_value { let table = region_of sector size in
         let answer = checking.strict_answer w.now (sector_of first) table (length list.old) (length scratch.old) in
         count.new ≡ of_given itself answer count.old }
-    ensures fact_3 { let table = region_of sector size in
+    ensures offset_value { let table = region_of sector size in
         let answer = checking.strict_answer w.now (sector_of first) table (length list.old) (length scratch.old) in
         offset.new ≡ of_refusal at_fault answer offset.old }
-    ensures fact_4 { let table = region_of sector size in
-        let answer = checking.strict_answer w.now (sector_of first) table (length list.old) (length scratch.old) in
+    ensures list_value { let table = region_of sector size in
         list.new ≡ checking.list_after w.now (sector_of first) table list.old (length scratch.old) }
-    ensures fact_5 { let table = region_of sector size in
-        let answer = checking.strict_answer w.now (sector_of first) table (length list.old) (length scratch.old) in
-        scratch.new ≡ checking.scratch_after (length list.old) scratch.old }
+    ensures scratch_value { scratch.new ≡ checking.scratch_after (length list.old) scratch.old }
 {
     let r = xdvdfs::check_table(w, sector_of(first), region_of(sector, size), list, scratch);
     store_checked(r, count, offset)
@@ -274,13 +277,13 @@ pub extern "C" fn xdvdfs_load_limits(
     size: &mut u32,
     stamp: &mut u64,
 ) -> u32
-    ensures fact_1 { let answer = loading.limits_of w.now (sector_of first) path.now time age in
+    ensures value { let answer = loading.limits_of w.now (sector_of first) path.now time age in
         result ≡ answer.number }
-    ensures fact_2 { let answer = loading.limits_of w.now (sector_of first) path.now time age in
+    ensures sector_value { let answer = loading.limits_of w.now (sector_of first) path.now time age in
         sector.new ≡ answer.sector.0 }
-    ensures fact_3 { let answer = loading.limits_of w.now (sector_of first) path.now time age in
+    ensures size_value { let answer = loading.limits_of w.now (sector_of first) path.now time age in
         size.new ≡ answer.size }
-    ensures fact_4 { let answer = loading.limits_of w.now (sector_of first) path.now time age in
+    ensures stamp_value { let answer = loading.limits_of w.now (sector_of first) path.now time age in
         stamp.new ≡ answer.stamp }
 {
     let r = limits::load_limits(w, sector_of(first), path, time, age);
@@ -321,11 +324,11 @@ pub extern "C" fn xdvdfs_required_sectors(length: u64) -> u64
 // Takes the sectors of a length from the next free one on: the first of them, and the next free one after them. 8.
 #[unsafe(no_mangle)]
 pub extern "C" fn xdvdfs_take_sectors(next: &mut u32, length: u64, start: &mut u32) -> u32
-    ensures fact_1 { let answer = sectors.take_of 1 next.old length in
+    ensures value { let answer = sectors.take_of 1 next.old length in
         result ≡ number_of answer }
-    ensures fact_2 { let answer = sectors.take_of 1 next.old length in
+    ensures next_value { let answer = sectors.take_of 1 next.old length in
         next.new ≡ of_given run_free answer next.old }
-    ensures fact_3 { let answer = sectors.take_of 1 next.old length in
+    ensures start_value { let answer = sectors.take_of 1 next.old length in
         start.new ≡ of_given run_start answer start.old }
 {
     let counter = SectorCounter::starting_at(sector_of(*next));
@@ -352,26 +355,25 @@ pub extern "C" fn xdvdfs_add(
     entry_kind: u8,
     entry_size: u32,
 ) -> u32
-    ensures fact_1 { let A = arena_in root.old count.old left.old right.old parent.old height.old start.old len.old
+    ensures value { let A = arena_in root.old count.old left.old right.old parent.old height.old start.old len.old
         size.old kind.old names.now in
         let entry = entry_of name_start name_len entry_kind entry_size in
         let answer = adding.add_of A entry in
         result ≡ number_of answer }
-    ensures fact_2 { let A = arena_in root.old count.old left.old right.old parent.old height.old start.old len.old
+    ensures root_value { let A = arena_in root.old count.old left.old right.old parent.old height.old start.old len.old
         size.old kind.old names.now in
         let entry = entry_of name_start name_len entry_kind entry_size in
         let answer = adding.add_of A entry in
         root.new ≡ of_given grown_root answer root.old }
-    ensures fact_3 { let A = arena_in root.old count.old left.old right.old parent.old height.old start.old len.old
+    ensures count_value { let A = arena_in root.old count.old left.old right.old parent.old height.old start.old len.old
         size.old kind.old names.now in
         let entry = entry_of name_start name_len entry_kind entry_size in
         let answer = adding.add_of A entry in
         count.new ≡ of_given grown_count answer count.old }
-    ensures fact_4 { let A = arena_in root.old count.old left.old right.old parent.old height.old start.old len.old
+    ensures lent { let A = arena_in root.old count.old left.old right.old parent.old height.old start.old len.old
         size.old kind.old names.now in
         let after = columns left.new right.new parent.new height.new start.new len.new size.new kind.new in
         let entry = entry_of name_start name_len entry_kind entry_size in
-        let answer = adding.add_of A entry in
         after ≡ adding.columns_after A entry }
 {
     let tree = Held {
@@ -412,26 +414,25 @@ pub extern "C" fn xdvdfs_serialise(
     table_size: &mut u32,
     free: &mut u32,
 ) -> u32
-    ensures fact_1 { let A = arena_in root count left.now right.now parent.now height.now start.now len.now
+    ensures value { let A = arena_in root count left.now right.now parent.now height.now start.now len.now
         size.now kind.now names.now in
         let before = serialising.lent order.old place.old out.old in
         let answer = serialising.answer_in A first before in
         result ≡ number_of answer }
-    ensures fact_2 { let A = arena_in root count left.now right.now parent.now height.now start.now len.now
+    ensures table_size_value { let A = arena_in root count left.now right.now parent.now height.now start.now len.now
         size.now kind.now names.now in
         let before = serialising.lent order.old place.old out.old in
         let answer = serialising.answer_in A first before in
         table_size.new ≡ of_given size_of_table answer table_size.old }
-    ensures fact_3 { let A = arena_in root count left.now right.now parent.now height.now start.now len.now
+    ensures free_value { let A = arena_in root count left.now right.now parent.now height.now start.now len.now
         size.now kind.now names.now in
         let before = serialising.lent order.old place.old out.old in
         let answer = serialising.answer_in A first before in
         free.new ≡ of_given next_free answer free.old }
-    ensures fact_4 { let A = arena_in root count left.now right.now parent.now height.now start.now len.now
+    ensures lent { let A = arena_in root count left.now right.now parent.now height.now start.now len.now
         size.now kind.now names.now in
         let before = serialising.lent order.old place.old out.old in
         let after = serialising.lent order.new place.new out.new in
-        let answer = serialising.answer_in A first before in
         after ≡ serialising.lent_after A first before }
 {
     let tree = Held {
@@ -481,26 +482,25 @@ pub extern "C" fn xdvdfs_write_list(
     free: &mut u32,
     entry: &mut u32,
 ) -> u32
-    ensures fact_1 { let list = whole.listing count start.now len.now size.now kind.now names.now in
+    ensures value { let list = whole.listing count start.now len.now size.now kind.now names.now in
         let before = whole.lent left.old right.old parent.old height.old key.old order.old place.old out.old in
         let answer = whole.answer_in list first before in
         result ≡ number_of answer }
-    ensures fact_2 { let list = whole.listing count start.now len.now size.now kind.now names.now in
+    ensures table_size_value { let list = whole.listing count start.now len.now size.now kind.now names.now in
         let before = whole.lent left.old right.old parent.old height.old key.old order.old place.old out.old in
         let answer = whole.answer_in list first before in
         table_size.new ≡ of_given size_of_table answer table_size.old }
-    ensures fact_3 { let list = whole.listing count start.now len.now size.now kind.now names.now in
+    ensures free_value { let list = whole.listing count start.now len.now size.now kind.now names.now in
         let before = whole.lent left.old right.old parent.old height.old key.old order.old place.old out.old in
         let answer = whole.answer_in list first before in
         free.new ≡ of_given next_free answer free.old }
-    ensures fact_4 { let list = whole.listing count start.now len.now size.now kind.now names.now in
+    ensures entry_value { let list = whole.listing count start.now len.now size.now kind.now names.now in
         let before = whole.lent left.old right.old parent.old height.old key.old order.old place.old out.old in
         let answer = whole.answer_in list first before in
         entry.new ≡ of_refusal of_entry answer entry.old }
-    ensures fact_5 { let list = whole.listing count start.now len.now size.now kind.now names.now in
+    ensures lent { let list = whole.listing count start.now len.now size.now kind.now names.now in
         let before = whole.lent left.old right.old parent.old height.old key.old order.old place.old out.old in
         let after = whole.lent left.new right.new parent.new height.new key.new order.new place.new out.new in
-        let answer = whole.answer_in list first before in
         after ≡ whole.lent_after list first before }
 {
     let r = xdvdfs::write_list(
@@ -554,37 +554,36 @@ pub extern "C" fn xdvdfs_plan(
     entry: &mut u32,
     directory: &mut u32,
 ) -> u32
-    ensures fact_1 { let a = image.asked directories entries from.now share.now start.now len.now kind.now
+    ensures value { let a = image.asked directories entries from.now share.now start.now len.now kind.now
         value.now names.now in
         let before = image.lent sizes.old tables.old sectors.old sized.old left.old right.old parent.old height.old
         key.old size.old order.old in
         let answer = image.answer_in a before in
         result ≡ number_of answer }
-    ensures fact_2 { let a = image.asked directories entries from.now share.now start.now len.now kind.now
+    ensures free_value { let a = image.asked directories entries from.now share.now start.now len.now kind.now
         value.now names.now in
         let before = image.lent sizes.old tables.old sectors.old sized.old left.old right.old parent.old height.old
         key.old size.old order.old in
         let answer = image.answer_in a before in
         free.new ≡ of_given itself answer free.old }
-    ensures fact_3 { let a = image.asked directories entries from.now share.now start.now len.now kind.now
+    ensures entry_value { let a = image.asked directories entries from.now share.now start.now len.now kind.now
         value.now names.now in
         let before = image.lent sizes.old tables.old sectors.old sized.old left.old right.old parent.old height.old
         key.old size.old order.old in
         let answer = image.answer_in a before in
         entry.new ≡ of_refusal of_planned answer entry.old }
-    ensures fact_4 { let a = image.asked directories entries from.now share.now start.now len.now kind.now
+    ensures directory_value { let a = image.asked directories entries from.now share.now start.now len.now kind.now
         value.now names.now in
         let before = image.lent sizes.old tables.old sectors.old sized.old left.old right.old parent.old height.old
         key.old size.old order.old in
         let answer = image.answer_in a before in
         directory.new ≡ of_refusal of_directory answer directory.old }
-    ensures fact_5 { let a = image.asked directories entries from.now share.now start.now len.now kind.now
+    ensures lent { let a = image.asked directories entries from.now share.now start.now len.now kind.now
         value.now names.now in
         let before = image.lent sizes.old tables.old sectors.old sized.old left.old right.old parent.old height.old
         key.old size.old order.old in
         let after = image.lent sizes.new tables.new sectors.new sized.new left.new right.new parent.new height.new
         key.new size.new order.new in
-        let answer = image.answer_in a before in
         after ≡ image.lent_after a before }
 {
     let r = xdvdfs::plan(

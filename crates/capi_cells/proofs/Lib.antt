@@ -1,3 +1,2 @@
--- What the cells of an answer hold, case by case, and where a name stands in a window.
-pub mod Cells
+-- Where a name stands in a window.
 pub mod Name

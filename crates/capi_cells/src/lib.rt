@@ -2,6 +2,8 @@
 // leaves the others unchanged, and gives the answer's number of docs/SCOPE.md, 0 for what is no refusal. Each
 // contract is over what the answer is told as (specs/Cells.antt). Of the limits loader every cell is stored, on a
 // refusal too. Crate capi_written has those of writing.
+#![tactic(auto)]
+
 ghost use Rattle.std.specs.Prelude.{◌≡◌, min, ◌+◌, length, take, drop};
 ghost use Rattle.units.specs.Told.{number_of};
 ghost use Rattle.layout_volume.specs.Descriptor as volume;
@@ -111,6 +113,7 @@ pub fn store_name(w: &[u8], place: usize, n: u32, start: &mut usize, len: &mut u
 
 // The entry's fields, its place in the window, its offset in the table, and the number of headers read; of a
 // refusal the offset or the number of headers.
+#[tactic(auto, unfolding(read_entry::specs::Links::is_in))]
 pub fn store_looked(
     r: Looked,
     fields: &mut [u32; 6],
@@ -154,6 +157,7 @@ pub fn store_looked(
 }
 
 // The entry's fields and its place in the window; of a refusal the offset.
+#[tactic(auto, unfolding(read_entry::specs::Links::is_in))]
 pub fn store_path(r: PathFound, fields: &mut [u32; 6], place: &mut usize, offset: &mut u32) -> u32
     ensures value { result ≡ number_of (following.told r) }
     ensures fields_value { fields.new ≡ of_given placed_fields (following.told r) fields.old }
@@ -185,6 +189,7 @@ pub fn store_path(r: PathFound, fields: &mut [u32; 6], place: &mut usize, offset
 }
 
 // How many offsets are listed; of a refusal the offset.
+#[tactic(auto, unfolding(read_entry::specs::Links::is_in))]
 pub fn store_walked(r: Walked, count: &mut usize, offset: &mut u32) -> u32
     ensures value { result ≡ number_of (walking.told r) }
     ensures count_value { count.new ≡ of_given itself (walking.told r) count.old }
@@ -209,6 +214,7 @@ pub fn store_walked(r: Walked, count: &mut usize, offset: &mut u32) -> u32
 }
 
 // The same of the strict check.
+#[tactic(auto, unfolding(read_entry::specs::Links::is_in))]
 pub fn store_checked(r: Checked, count: &mut usize, offset: &mut u32) -> u32
     ensures value { result ≡ number_of (checking.told r) }
     ensures count_value { count.new ≡ of_given itself (checking.told r) count.old }

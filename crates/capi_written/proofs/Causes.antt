@@ -1,5 +1,4 @@
 -- What the number of a cause carries. Assumes nothing.
-use Prim.Native.Nat.{ℕ}
 use mathlib.Core.Path.{◌≡◌, refl}
 use mathlib.Core.Bool.{true, false}
 use Rattle.read_entry.specs.Links.{is_in}
@@ -20,3 +19,6 @@ cause_planned = each_number (λ k. is_in k of_planned ≡ true) refl refl refl r
 pub cause_no_directory : (c : Cause) → is_in (given.cause_number c) of_directory ≡ false
 unfolding is_in
 cause_no_directory = each_number (λ k. is_in k of_directory ≡ false) refl refl refl refl refl refl
+
+-- what a plan's answer needs of them
+pub ruleset causes_of_plan = (cause_planned, cause_no_directory)

@@ -1,5 +1,7 @@
 // An answer of writing as a number and cells, as crate capi_cells has those of reading. Each contract is over what the
 // answer is told as (capi_cells/specs/Cells.antt).
+#![tactic(auto)]
+
 ghost use Rattle.std.specs.Prelude.{◌≡◌};
 ghost use Rattle.units.specs.Told.{number_of};
 ghost use Rattle.dirtab.specs.Serialise as serialising;
@@ -86,11 +88,12 @@ pub fn store_serialised(r: Serialised, table_size: &mut u32, free: &mut u32) -> 
 }
 
 // The same of a whole list; of a refusal the number of the entry.
+#[tactic(auto, unfolding(read_entry::specs::Links::is_in), using(crate::proofs::Causes::cause_listed))]
 pub fn store_written(r: ListWritten, table_size: &mut u32, free: &mut u32, entry: &mut u32) -> u32
     ensures value { result ≡ number_of (whole.told r) }
     ensures table_size_value { table_size.new ≡ of_given size_of_table (whole.told r) table_size.old }
     ensures free_value { free.new ≡ of_given next_free (whole.told r) free.old }
-    ensures value_2 { entry.new ≡ of_refusal of_entry (whole.told r) entry.old }
+    ensures entry_value { entry.new ≡ of_refusal of_entry (whole.told r) entry.old }
 {
     match r {
         ListWritten::Done(z, f) => {
@@ -110,10 +113,11 @@ pub fn store_written(r: ListWritten, table_size: &mut u32, free: &mut u32, entry
 }
 
 // The next free sector of a plan; of a refusal the entry's place in the list, or the directory's number.
+#[tactic(auto, unfolding(read_entry::specs::Links::is_in), using(crate::proofs::Causes::causes_of_plan))]
 pub fn store_planned(r: Planned, free: &mut u32, entry: &mut u32, directory: &mut u32) -> u32
     ensures value { result ≡ number_of (planning.told r) }
     ensures free_value { free.new ≡ of_given itself (planning.told r) free.old }
-    ensures value_2 { entry.new ≡ of_refusal of_planned (planning.told r) entry.old }
+    ensures entry_value { entry.new ≡ of_refusal of_planned (planning.told r) entry.old }
     ensures directory_value { directory.new ≡ of_refusal of_directory (planning.told r) directory.old }
 {
     match r {

@@ -1,5 +1,5 @@
 -- Determined: cited. Each answer is told one-to-one, and a part of the window and what is lent are given by equations. Assumes nothing.
-use mathlib.Core.Path.{◌≡◌, sym, ◌∙◌}
+use mathlib.Core.Path.{sym, ◌∙◌}
 use Rattle.units.proofs.Told as locating
 use Rattle.layout_volume.proofs.Told as volume
 use Rattle.layout_sector.proofs.Told as counter

@@ -22,7 +22,7 @@ use Rattle.table_model.specs.Place.{items}
 use Rattle.table_model.specs.Table.{Placing}
 use Rattle.table_model.proofs.Geometry.{of_item, items-length}
 use Rattle.dirtab_entry.specs.Entry.{rounded}
-use Rattle.dirtab_arena.specs.Arena.{Columns, Arena, entry_at, tree_of}
+use Rattle.dirtab_arena.specs.Arena.{entry_at, tree_of}
 use Rattle.dirtab_arena.proofs.Passed.{held}
 use Rattle.dirtab.specs.Serialise as serialise
 use Rattle.dirtab_list.specs.Whole as whole
@@ -41,7 +41,7 @@ use Rattle.lookup_way.proofs.Sets.{one_0, walk_0, rule_0, walk_clear}
 use Rattle.lookup_way.proofs.ByRule.{found_one, lost_one, found_two}
 use Rattle.agree_causes.proofs.Listed.{walk_lists, check_lists}
 use Rattle.agree_causes.proofs.Serialised.{serialised_arena}
-use Rattle.claims.specs.Found.{FoundByName, Kept, ListRead, ListKept, TurnRead, TurnKept, ArenaRead, ArenaKept}
+use Rattle.claims.specs.Found.{FoundByName, Kept, ListKept, TurnKept, ArenaKept}
 
 -- an entry to which links lead, where a lookup of its name answers along them
 pub found_by_name : (w : List ℕ) (first : Sector) (t : Region) (x : Placed) (o : ℕ) (stored : List ℕ) (most : ℕ) (links : List ℕ) → Along (read_at w first t) 0 o links → Real links

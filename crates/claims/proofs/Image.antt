@@ -1,16 +1,15 @@
 -- Demand 3 of a planned image: cited. Assumes nothing.
 use Prim.Native.Nat.{ℕ, ◌<◌}
-use mathlib.Core.Path.{◌≡◌, sym, subst, ◌∙◌}
+use mathlib.Core.Path.{subst, ◌∙◌}
 use mathlib.Core.List.{List}
 use lib.ListN.{length, take}
 use Rattle.units.specs.declared.Sector.{Sector}
 use Rattle.units.specs.declared.Region.{Region}
-use Rattle.table_model.specs.Entry.{Item}
 use Rattle.table_model.proofs.Geometry.{items-length}
 use Rattle.dirtab_list.specs.Whole as whole
 use Rattle.img_model.specs.Shares.{Request, share_of, directories_of, count_of}
 use Rattle.img_model.specs.Plan.{table_in, entries_at, Plan}
-use Rattle.img_model.specs.Image.{Asked, Lent, request_in}
+use Rattle.img_model.specs.Image.{request_in}
 use Rattle.agree.specs.Given.{EachOnce}
 use Rattle.agree_plan.specs.Planned.{tree_at, start_sector, items_at}
 use Rattle.agree_plan.specs.Runs.{runs_of, Follow}
@@ -23,9 +22,8 @@ use Rattle.agree_plan.proofs.Writes.{table_writes, table_left}
 use Rattle.agree_plan.proofs.Agrees.{table_agrees, table_passes}
 use Rattle.agree_plan.proofs.Found.{path_found}
 use Rattle.agree_plan.proofs.Only.{path_only, path_one_then_two}
-use Rattle.agree_causes.specs.Plans.{GivenIn}
 use Rattle.claims.specs.Found.{Kept}
-use Rattle.claims.specs.Image.{ImageRead, ImageFound, ImageKept, TablesWritten}
+use Rattle.claims.specs.Image.{ImageKept, TablesWritten}
 use Rattle.claims.proofs.Found.{kept}
 
 module _ (R : Request) (places : ℕ) (tables sectors : List ℕ) (p : Plan) (w : List ℕ) (first : Sector) (I : Imaged R places tables sectors p w first) where

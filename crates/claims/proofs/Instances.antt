@@ -17,7 +17,7 @@ use Rattle.units.specs.declared.Region.{Region}
 use Rattle.layout_name.specs.Order.{raised, number_order, list_order}
 use Rattle.name_role.specs.Roles.{given_keys, stored_of, given_order}
 use Rattle.layout_sector.specs.Counter.{sectors_for}
-use Rattle.dirtab_entry.specs.Entry.{rounded, any_bad, name_in, check_of}
+use Rattle.dirtab_entry.specs.Entry.{rounded, any_bad, check_of}
 use Rattle.read_lookup.specs.declared.Looked.TheVariants as looked
 use Rattle.read_lookup.specs.Lookup as lookup
 use Rattle.read_lookup.specs.Lookup.{lookup_of}
@@ -47,7 +47,7 @@ use Rattle.img_model.specs.Image.{Asked, asked, fits, has_room, request_in, imag
 use Rattle.agree.specs.Given.{grown}
 use Rattle.agree.specs.Written.{Stand, SizedFor}
 use Rattle.agree.proofs.Sized.{as_reported, as_rounded}
-use Rattle.agree_list.specs.InTurn.{add_all, empty_in, then_answer, then_output, Wide}
+use Rattle.agree_list.specs.InTurn.{add_all, empty_in, then_output, Wide}
 use Rattle.agree_list.proofs.Same.{same_answer}
 use Rattle.agree_plan.proofs.Cases as plans
 use Rattle.agree_writers.proofs.Stands.{first_stand}

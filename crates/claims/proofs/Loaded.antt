@@ -1,6 +1,4 @@
 -- The limits loader: cited. Assumes nothing.
-use Prim.Native.Nat.{ℕ}
-use mathlib.Core.List.{List}
 use lib.ListN.{length, take}
 use Rattle.limits_rule.proofs.Marks.{marked_volume, volume_marked}
 use Rattle.limits_rule.proofs.Outcomes.{outcome, outcome_one}

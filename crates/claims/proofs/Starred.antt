@@ -1,5 +1,5 @@
 -- The starred cases at the operations: cited, and `abb` with `ABB` computed. Assumes nothing.
-use Prim.Native.Nat.{ℕ, ◌/◌, ◌≤◌}
+use Prim.Native.Nat.{ℕ, ◌/◌}
 use native.Mathlib.Omega.{arith}
 use mathlib.Core.Path.{◌≡◌, refl, ap, ◌∙◌}
 use mathlib.Core.List.{List, [], ◌∷◌}
@@ -9,15 +9,13 @@ use Rattle.layout_name.specs.Order.{raised, number_order, list_order}
 use Rattle.name_role.specs.Roles.{given_keys, stored_of, given_order}
 use Rattle.dirtab_entry.specs.Entry.{any_bad, check_of}
 use Rattle.avl_model.specs.Tree.{node}
-use Rattle.avl_model.specs.Laws.{least, size}
-use Rattle.table_model.specs.Entry.{Item}
+use Rattle.avl_model.specs.Laws.{least}
 use Rattle.table_model.specs.Place.{items, item_of}
 use Rattle.table_model.proofs.Geometry.{of_item}
 use Rattle.dirtab_add.proofs.Cases.{abb_ABB}
 use Rattle.dirtab_grow.specs.Grow.{grow_from}
 use Rattle.dirtab_list.specs.Whole.{whole_of, out_after}
 use Rattle.agree.proofs.Cases as computed
-use Rattle.agree_causes.specs.Thin.{thin}
 use Rattle.agree_causes.proofs.Thin.{thin_height, thin_balanced, thin-size, none_fewer}
 use Rattle.agree_causes.proofs.Links.{never_linked, left_bytes, right_bytes}
 use Rattle.claims.specs.Starred.{abb_in_both_cases, Starred}

@@ -18,7 +18,9 @@ use Rattle.agree_causes.specs.Thin.{thin}
 
 -- `abb` and `ABB`, files of no bytes, as a list
 abbrev pub abb_in_both_cases : Listing
-abb_in_both_cases = listing 2 (0 ∷ 3 ∷ []) (3 ∷ 3 ∷ []) (0 ∷ 0 ∷ []) (0 ∷ 0 ∷ []) (0x61 ∷ 0x62 ∷ 0x62 ∷ 0x41 ∷ 0x42 ∷ 0x42 ∷ [])
+abb_in_both_cases =
+    listing 2 (0 ∷ 3 ∷ []) (3 ∷ 3 ∷ []) (0 ∷ 0 ∷ []) (0 ∷ 0 ∷ [])
+    (0x61 ∷ 0x62 ∷ 0x62 ∷ 0x41 ∷ 0x42 ∷ 0x42 ∷ [])
 
 pub record Starred : Type 0 where
   pub table : computed.Starred

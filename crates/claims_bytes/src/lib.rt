@@ -1,6 +1,8 @@
 // What a `&[u8]` is by its type, as a contract, and with it the law of 25 of `look_up` itself, and what a table gives
 // that `check_table` itself accepts: no hypothesis is left. None of these functions is exported by a door; they stand
 // here for what their contracts say.
+#![tactic(auto)]
+
 ghost use Rattle.std.specs.Prelude.{ℕ, ◌<◌, ◌≡◌, List, get_or, take};
 ghost use Rattle.std.proofs.Math.Option.{some};
 ghost use Rattle.units.specs.Told.{gives};

@@ -1,5 +1,4 @@
 -- Small arenas serialised, by computing: serialising neither refuses all nor writes nothing. Assumes nothing.
-use Prim.Native.Nat.{ℕ}
 use mathlib.Core.Path.{◌≡◌, refl}
 use mathlib.Core.List.{[], ◌∷◌, ◌++◌}
 use lib.ListN.{replicate}

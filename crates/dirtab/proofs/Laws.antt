@@ -4,18 +4,18 @@
 --     next_free_lem, sectors_from, sectors_apart                   the sectors of the entries
 --     out_given, out_refused                                   the output
 -- Assumes nothing.
-use Prim.Native.Nat.{ℕ, ◌+◌, ◌/◌, ◌≤◌, ◌<◌}
+use Prim.Native.Nat.{ℕ, ◌+◌, ◌≤◌, ◌<◌}
 use mathlib.Core.Path.{◌≡◌, refl, sym, ap, subst, ◌∙◌}
 use mathlib.Core.Bool.{Bool, true, false}
 use mathlib.Core.List.{List, [], ◌++◌}
 use native.Mathlib.Omega.{arith}
-use lib.Dec.{leb, ltb}
+use lib.Dec.{leb}
 use lib.ListN.{length, drop}
 use borrow.Author.Tests.{le-leb, lt-leb, lt-ltb, leb-true}
 use Rattle.units.specs.Told.{Told, gives, refuses, pick}
 use Rattle.dirtab_entry.specs.Entry.{rounded}
 use Rattle.avl_model.specs.Tree.{Tree}
-use Rattle.table_model.specs.Entry.{Entry, Item}
+use Rattle.table_model.specs.Entry.{Entry}
 use Rattle.table_model.specs.Place.{free_of, items}
 use Rattle.table_model.specs.Table.{any_far, Placing, size_of, table_bytes, place_of}
 use Rattle.table_model.specs.Said.{AllIn, LinkFits, last_sector, SectorsApart, sectors_in}

@@ -1,20 +1,19 @@
 -- The ways out of `write_listed`: what placing, counting and writing answered says what the table is, or which refusal it is. Assumes nothing.
-use Prim.Native.Nat.{ℕ, ◌+◌, ◌-◌, ◌*◌, ◌/◌, ◌%◌, ◌≤◌, ◌<◌}
-use mathlib.Core.Path.{◌≡◌, refl, sym, ap, ap₂, subst, ◌∙◌}
+use Prim.Native.Nat.{ℕ, ◌≤◌, ◌<◌}
+use mathlib.Core.Path.{◌≡◌, refl, sym, ap, subst, ◌∙◌}
 use mathlib.Core.Bool.{Bool, true, false}
 use mathlib.Core.List.{List, [], ◌++◌}
 use native.Mathlib.Omega.{arith}
-use lib.Dec.{ltb, leb, eqb}
+use lib.Dec.{ltb, leb}
 use lib.ListN.{length, drop}
-use borrow.Author.Tests.{eq-eqb, ne_eqb, le-leb, lt-leb, ltb-false}
+use borrow.Author.Tests.{eq-eqb, ne_eqb, le-leb, lt-leb}
 use Rattle.units.specs.Told.{Told, gives, refuses, pick}
 use Rattle.units.specs.declared.Sector.{Sector}
 use Rattle.dirtab_entry.specs.Entry.{rounded}
 use Rattle.avl_model.specs.Tree.{Tree, leaf, node}
 use Rattle.avl_model.specs.Laws.{All}
-use Rattle.avl_model.specs.Order.{order}
-use Rattle.table_model.specs.Entry.{Entry, length_of}
-use Rattle.table_model.specs.Place.{start_of, stop_of, end_of, free_of, items}
+use Rattle.table_model.specs.Entry.{Entry}
+use Rattle.table_model.specs.Place.{stop_of, end_of, free_of, items}
 use Rattle.table_model.specs.Table.{any_far, Placing, size_of, table_bytes, place_of}
 use Rattle.table_model.specs.inner.Writing.{written_over}
 use Rattle.table_model.proofs.Places.{FitsAt, end_after}
@@ -23,7 +22,7 @@ use Rattle.dirtab_place.specs.declared.Ends.TheVariants as ends
 use Rattle.dirtab_place.specs.declared.Counted.{Counted}
 use Rattle.dirtab_place.specs.declared.Counted.TheVariants as counted
 use Rattle.dirtab_place.specs.inner.Places.{ends_over, places_over, free_over, Placeable, Countable, told_end, told_free}
-use Rattle.dirtab_write.specs.inner.Columns.{Cols, cols, items_by, Spaces}
+use Rattle.dirtab_write.specs.inner.Columns.{cols, items_by, Spaces}
 use Rattle.dirtab_write.proofs.Bridge as bridge
 use Rattle.dirtab.specs.Serialise.{if_fits, if_written}
 use Rattle.dirtab_held.specs.inner.Held.{entries_in, Listing}

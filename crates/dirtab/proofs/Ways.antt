@@ -7,11 +7,11 @@ use lib.Dec.{leb}
 use lib.ListN.{length, replicate}
 use native.Mathlib.Omega.{arith}
 use borrow.Author.Tests.{le-leb, lt-leb, leb-true, leb-false}
-use Rattle.units.specs.Told.{Told, gives, refuses, pick}
+use Rattle.units.specs.Told.{Told, refuses, pick}
 use Rattle.table_model.specs.Table.{Placing, table_bytes}
 use Rattle.dirtab_arena.specs.Arena.{Arena, entry_at, is_arena, tree_of}
 use Rattle.dirtab.specs.declared.Serialised.{Serialised}
-use Rattle.dirtab.specs.Serialise.{scratch_fits, if_fits, if_written, serialise_of, out_after, scratch_after, lent, told}
+use Rattle.dirtab.specs.Serialise.{scratch_fits, if_written, serialise_of, out_after, scratch_after, lent, told}
 use Rattle.dirtab.specs.inner.Steps.{writing_of, writing_out}
 
 -- all that was lent, from each part
@@ -69,8 +69,8 @@ module _ (A : Arena) (s n : ℕ) (is fit : Bool) (eh : is ≡ is_arena A) (ef : 
       both : (bytes : ℕ) → pick is (pick fit (writing_of (entry_at A) s (tree_of A) bytes) (refuses 6 [])) (refuses 12 []) ≡ writing_of (entry_at A) s (tree_of A) bytes
       both bytes = ap₂ (λ (a b : Bool). pick a (pick b (writing_of (entry_at A) s (tree_of A) bytes) (refuses 6 [])) (refuses 12 [])) yes room
 
-      pub held-answer : (r : Serialised) (bytes : ℕ) → told r ≡ writing_of (entry_at A) s (tree_of A) bytes → told r ≡ serialise_of A s n bytes
-      held-answer r bytes e = e ∙ sym (answer_is_lem bytes ∙ both bytes)
+      pub held_answer : (r : Serialised) (bytes : ℕ) → told r ≡ writing_of (entry_at A) s (tree_of A) bytes → told r ≡ serialise_of A s n bytes
+      held_answer r bytes e = e ∙ sym (answer_is_lem bytes ∙ both bytes)
 
       pub held_out : (out out₁ : List ℕ) → out₁ ≡ writing_out (entry_at A) s (tree_of A) out → out₁ ≡ out_after A s n out
       held_out out out₁ e =

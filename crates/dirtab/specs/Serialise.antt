@@ -1,8 +1,7 @@
 -- Serialising an arena from a sector on: 12, then 6, 7, 8, 9, all before any write. Assumes nothing.
 use Rattle.std.specs.Prelude.{ℕ, min, Bool, List, [], ◌++◌, leb, length, drop}
-use denote.Triple.Both.{Both}
 use Rattle.units.specs.Told.{Told, gives, refuses, pick}
-use Rattle.units.specs.Lent.{Slice, was, is, cleared_if}
+use Rattle.units.specs.Lent.{cleared_if}
 use Rattle.dirtab_entry.specs.Entry.{rounded}
 use Rattle.table_model.specs.Table.{Placing, place_of, table_bytes}
 use Rattle.dirtab_arena.specs.Arena.{Arena, entry_at, is_arena, tree_of}
@@ -46,11 +45,6 @@ pub record Lent : Type 0 where
 
 abbrev pub lent : List ℕ → List ℕ → List ℕ → Lent
 lent order place out = record { order = order; place = place; out = out }
-
--- the same at the call, and at the return
-abbrev pub memory : Slice → Slice → Slice → Both Lent Lent
-memory order place out =
-    record { entry = lent (was order) (was place) (was out); exit = lent (is order) (is place) (is out) }
 
 -- the length of the shortest column of scratch
 abbrev pub places_in : Lent → ℕ

@@ -1,4 +1,6 @@
 // A table is written: from an arena, or from a whole list in one call.
+#![tactic(auto)]
+
 ghost use Rattle.std.specs.Prelude.{◌≡◌, [], ◌≤◌, min, leb, length, replicate};
 ghost use Rattle.units.specs.Told.{refuses, pick};
 ghost use Rattle.dirtab_entry.specs.Entry.{rounded};
@@ -17,7 +19,7 @@ use units::Sector;
 use widths::u16_as_usize;
 
 // What serialising answers.
-#[derive(Drop)]
+#[derive(Clone, Copy)]
 pub enum Serialised {
     // The reported size, and the next free sector.
     Done(u32, Sector),
@@ -186,11 +188,11 @@ pub fn serialise(
     place: &mut [u16],
     out: &mut [u8],
 ) -> Serialised
-    ensures fact_1 { let A = arena_in tree.root tree.count left.now right.now parent.now height.now start.now
+    ensures answer { let A = arena_in tree.root tree.count left.now right.now parent.now height.now start.now
         len.now size.now kind.now names.now in
         let before = lent order.old place.old out.old in
         told result ≡ answer_in A first.0 before }
-    ensures fact_2 { let A = arena_in tree.root tree.count left.now right.now parent.now height.now start.now
+    ensures memory { let A = arena_in tree.root tree.count left.now right.now parent.now height.now start.now
         len.now size.now kind.now names.now in
         let before = lent order.old place.old out.old in
         let after = lent order.new place.new out.new in

@@ -19,7 +19,7 @@ use Rattle.avl_model.specs.Names.{name_at, to_name, is_less, Before}
 use Rattle.avl_model.specs.Tree.{Tree, none, top, δ, cnt}
 use Rattle.avl_model.specs.Rep.{Rep}
 use Rattle.avl_model.specs.Rep.{arr_of}
-use Rattle.avl_model.specs.Laws.{All, Ordered, size}
+use Rattle.avl_model.specs.Laws.{All, Ordered}
 use Rattle.avl_model.specs.Columns.{written}
 use Rattle.avl_model.proofs.Frame.{δ-same, δ-apart}
 use Rattle.avl_model.proofs.Bal.{ins-cnt}

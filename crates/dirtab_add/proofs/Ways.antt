@@ -26,7 +26,7 @@ use Rattle.avl_model.specs.inner.Insert.{Placed}
 use Rattle.avl_model.specs.Columns.{written}
 use Rattle.avl_arena.specs.Test.{part_of}
 use Rattle.avl_arena.specs.HeldTree.{Places}
-use Rattle.dirtab_arena.specs.Arena.{columns, Arena, arena, lists_of, names_of, is_arena, tree_of}
+use Rattle.dirtab_arena.specs.Arena.{columns, Arena, lists_of, names_of, is_arena, tree_of}
 use Rattle.dirtab_add.specs.declared.Added.{Added}
 use Rattle.dirtab_add.specs.declared.Added.TheVariants as added
 use Rattle.dirtab_add.specs.Add.{Grown, order_to, grown_tree, has_room, if_taken, if_free, add_of, kind_number, columns_with, if_given, columns_after, told}

@@ -1,4 +1,6 @@
 // An entry is added to the table that an arena holds.
+#![tactic(auto)]
+
 ghost use Rattle.std.specs.Prelude.{◌≡◌, true, ◌+◌, ◌≤◌, ◌<◌, length, set, take};
 ghost use Rattle.dirtab_entry.specs.Entry.{is_directory, stored_size, name_in};
 ghost use Rattle.avl_model.specs.declared.Place.TheVariants.{Root};
@@ -21,7 +23,7 @@ use dirtab_entry::{Cause, Entry, EntryChecked, Kind, check_entry, stored_size};
 use widths::{u16_as_usize, u32_as_usize};
 
 // What adding answers.
-#[derive(Drop)]
+#[derive(Clone, Copy)]
 pub enum Added {
     // The tree with one entry more.
     Done(Held),
@@ -32,7 +34,7 @@ pub enum Added {
 }
 
 // What adding finds before it stores anything: a refusal, or the place where the new node goes.
-#[derive(Drop)]
+#[derive(Clone, Copy)]
 pub enum Verdict {
     Refuse(Added),
     Take(Place),
@@ -258,10 +260,10 @@ pub fn add(
     names: &[u8],
     entry: Entry,
 ) -> Added
-    ensures fact_1 { let A = arena_in tree.root tree.count left.old right.old parent.old height.old start.old
+    ensures answer { let A = arena_in tree.root tree.count left.old right.old parent.old height.old start.old
         len.old size.old kind.old names.now in
         told result ≡ add_of A entry }
-    ensures fact_2 { let A = arena_in tree.root tree.count left.old right.old parent.old height.old start.old
+    ensures memory { let A = arena_in tree.root tree.count left.old right.old parent.old height.old start.old
         len.old size.old kind.old names.now in
         let after = columns left.new right.new parent.new height.new start.new len.new size.new kind.new in
         after ≡ columns_after A entry }

@@ -2,7 +2,7 @@
 use Prim.Native.Nat.{ℕ, ◌+◌, ◌≤◌, ◌<◌}
 use native.Mathlib.Omega.{arith}
 use mathlib.Core.Path.{◌≡◌, refl, sym, ap, ◌∙◌}
-use mathlib.Core.Bool.{Bool, true, false, not}
+use mathlib.Core.Bool.{Bool, true, false}
 use mathlib.Core.List.{List, []}
 use lib.ListN.{length, get_or}
 use lib.Dec.{leb}
@@ -26,14 +26,6 @@ is_told B e r a t q = ap (λ (x : EntryChecked). is_given (told x)) (sym q) ∙ 
 
 -- ---- each entry
 
-no_of : (b : Bool) → not b ≡ true → b ≡ false
-no_of true e = sym e
-no_of false e = refl
-
-yes_of : (b : Bool) → not b ≡ false → b ≡ true
-yes_of true e = refl
-yes_of false e = sym e
-
 module _ (s l z k B : List ℕ) where
   abbrev A : Arena
   A = arena 0 0 (columns [] [] [] [] s l z k) B
@@ -44,11 +36,11 @@ module _ (s l z k B : List ℕ) where
     unfolding is_taken
     one_is = eb ∙ ap (λ (x : Kind). is_given (check_of B (record { start = get_or s i 0; len = get_or l i 0; kind = x; size = get_or z i 0 }))) ek
 
-    pub one_not : (n : ℕ) → i < n → not b ≡ true → false ≡ every (is_taken A) n
-    one_not n h e = sym (every_fails (is_taken A) i n (sym one_is ∙ no_of b e) h)
+    pub one_not : (n : ℕ) → i < n → b ≡ false → false ≡ every (is_taken A) n
+    one_not n h e = sym (every_fails (is_taken A) i n (sym one_is ∙ e) h)
 
-    pub one_more : every (is_taken A) i ≡ true → not b ≡ false → every (is_taken A) (i + 1) ≡ true
-    one_more p e = every_more (is_taken A) i p (sym one_is ∙ yes_of b e)
+    pub one_more : every (is_taken A) i ≡ true → b ≡ true → every (is_taken A) (i + 1) ≡ true
+    one_more p e = every_more (is_taken A) i p (sym one_is ∙ e)
 
   pub all_were : (i n : ℕ) → i ≤ n → n ≤ i → every (is_taken A) i ≡ true → true ≡ every (is_taken A) n
   all_were i n h g e = sym e ∙ ap (every (is_taken A)) {x = i} {y = n} (omega arith)

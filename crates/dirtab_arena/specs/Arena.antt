@@ -1,8 +1,6 @@
 -- An arena: the columns of a table being built, the names lent with them, and what is held in them. Assumes nothing.
 use Rattle.std.specs.Prelude.{ℕ, Bool, true, false, ◌&&◌, List, leb, length, get_or}
-use denote.Triple.Both.{Both}
 use Rattle.units.specs.Told.{Told, gives, refuses}
-use Rattle.units.specs.Lent.{Slice, was, is}
 use Rattle.dirtab_entry.specs.declared.Entry as given
 use Rattle.dirtab_entry.specs.Entry.{kind_for, check_of}
 use Rattle.avl_model.specs.Lists.{Lists, lists}
@@ -26,13 +24,6 @@ pub record Columns : Type 0 where
 abbrev pub columns : List ℕ → List ℕ → List ℕ → List ℕ → List ℕ → List ℕ → List ℕ → List ℕ → Columns
 columns l r p h a n z k = record { left = l; right = r; parent = p; height = h; start = a; len = n; size = z; kind = k }
 
--- the same as they are lent: at the call, and at the return
-abbrev pub lent_columns : Slice → Slice → Slice → Slice → Slice → Slice → Slice → Slice → Both Columns Columns
-lent_columns l r p h a n z k = record {
-  entry = columns (was l) (was r) (was p) (was h) (was a) (was n) (was z) (was k);
-  exit = columns (is l) (is r) (is p) (is h) (is a) (is n) (is z) (is k);
-}
-
 -- the held tree's root and count, the columns, and the bytes lent for names
 pub record Arena : Type 0 where
   pub root : ℕ
@@ -43,9 +34,9 @@ pub record Arena : Type 0 where
 abbrev pub arena : ℕ → ℕ → Columns → List ℕ → Arena
 arena t n c b = record { root = t; count = n; columns = c; bytes = b }
 
--- the same as it is lent, at the call
-abbrev pub arena_in : ℕ → ℕ → Slice → Slice → Slice → Slice → Slice → Slice → Slice → Slice → Slice → Arena
-arena_in t n l r p h a m z k b = arena t n (lent_columns l r p h a m z k).entry (was b)
+-- the same, of all its columns one by one
+abbrev pub arena_in : ℕ → ℕ → List ℕ → List ℕ → List ℕ → List ℕ → List ℕ → List ℕ → List ℕ → List ℕ → List ℕ → Arena
+arena_in t n l r p h a m z k b = arena t n (columns l r p h a m z k) b
 
 -- its tree's columns, and its names
 abbrev pub lists_of : Arena → Lists

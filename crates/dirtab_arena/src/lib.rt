@@ -1,4 +1,6 @@
 // A table being built: entries and the tree over them, in columns that the caller lends. Node i of the tree is entry i.
+#![tactic(auto)]
+
 ghost use Rattle.std.specs.Prelude.{◌≡◌, [], ◌≤◌, ◌<◌, length};
 ghost use Rattle.dirtab_entry.specs.Entry.{check_of};
 ghost use Rattle.avl_arena.specs.Test.{every};
@@ -10,7 +12,7 @@ use widths::u16_as_usize;
 
 // The tree that the columns hold: its root, 65,535 for none, and how many nodes it has. They are the numbers below
 // count.
-#[derive(Drop)]
+#[derive(Clone, Copy)]
 pub struct Held {
     pub root: u16,
     pub count: u16,

@@ -1,15 +1,17 @@
 // An entry as it is given to be added to a table: what adding asks of it, and the size that it is stored with.
+#![tactic(auto)]
+
 ghost use Rattle.std.specs.Prelude.{◌≡◌, true, ◌≤◌};
 ghost use Rattle.dirtab_entry.specs.Entry.{cause_number, told, check_of, any_bad, is_directory, stored_size, kind_for};
 
-#[derive(Drop)]
+#[derive(Clone, Copy)]
 pub enum Kind {
     File,
     Directory,
 }
 
 // The place of the name in the bytes lent for names, the kind, and the size in bytes.
-#[derive(Drop)]
+#[derive(Clone, Copy)]
 pub struct Entry {
     pub start: u32,
     pub len: u32,
@@ -18,7 +20,7 @@ pub struct Entry {
 }
 
 // Why an entry is refused.
-#[derive(Drop)]
+#[derive(Clone, Copy)]
 pub enum Cause {
     // 1: the name is empty.
     EmptyName,
@@ -35,7 +37,7 @@ pub enum Cause {
 }
 
 // What checking an entry answers.
-#[derive(Drop)]
+#[derive(Clone, Copy)]
 pub enum EntryChecked {
     Good,
     Refused(Cause),
@@ -86,6 +88,7 @@ fn is_directory(kind: Kind) -> bool
 }
 
 // What adding asks of an entry by itself: 1, 2, 3, 5 in that order.
+#[tactic(auto, using(crate::proofs::Checks::too_large, crate::proofs::Checks::good_directory))]
 pub fn check_entry(names: &[u8], entry: Entry) -> EntryChecked
     ensures { told result ≡ check_of names.now entry }
 {

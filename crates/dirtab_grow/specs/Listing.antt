@@ -1,6 +1,5 @@
--- A list of entries, as it is lent. Assumes nothing.
+-- A list of entries, in columns. Assumes nothing.
 use Rattle.std.specs.Prelude.{ℕ, List, get_or}
-use Rattle.units.specs.Lent.{Slice, was}
 use Rattle.dirtab_entry.specs.declared.Entry as given
 use Rattle.dirtab_entry.specs.Entry.{kind_for, name_in}
 
@@ -16,10 +15,6 @@ pub record Listing : Type 0 where
 
 abbrev pub listing : ℕ → List ℕ → List ℕ → List ℕ → List ℕ → List ℕ → Listing
 listing n a l z k b = record { count = n; start = a; len = l; size = z; kind = k; bytes = b }
-
--- the same as it is lent, at the call
-abbrev pub listed : ℕ → Slice → Slice → Slice → Slice → Slice → Listing
-listed n a l z k b = listing n (was a) (was l) (was z) (was k) (was b)
 
 -- entry i as it is given
 abbrev pub given_in : Listing → ℕ → given.Entry

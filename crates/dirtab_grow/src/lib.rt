@@ -1,5 +1,7 @@
 // A list's entries are put one after another into a tree that lent columns hold, without a check of what the
 // columns held before.
+#![tactic(auto)]
+
 ghost use Rattle.std.specs.Prelude.{◌≡◌, true, ◌-◌, ◌≤◌, ◌<◌, length, get_or};
 ghost use Rattle.units.specs.Told.{Told, gives};
 ghost use Rattle.dirtab_entry.specs.Entry.{check_of};
@@ -9,7 +11,6 @@ ghost use Rattle.avl_model.specs.declared.Spot.{Spot};
 ghost use Rattle.avl_model.specs.declared.Spot.TheVariants.{Free};
 ghost use Rattle.avl_model.specs.Tree.{Tree, ins};
 ghost use Rattle.avl_model.specs.Lists.{lists};
-ghost use Rattle.avl_model.specs.inner.Lists.{lists};
 ghost use Rattle.avl_model.specs.Names.{names_in, by_name, is_less};
 ghost use Rattle.avl_model.specs.inner.Names.{Inside};
 ghost use Rattle.avl_model.specs.Seek.{spot_in, tree_at};
@@ -27,21 +28,21 @@ use layout_name::{Order, compare};
 use widths::{u16_as_usize, u32_as_usize};
 
 // What a step on an entry answers.
-#[derive(Drop)]
+#[derive(Clone, Copy)]
 pub enum Step {
     Taken,
     Refused(Cause),
 }
 
 // Where an entry goes, and the key of its name.
-#[derive(Drop)]
+#[derive(Clone, Copy)]
 pub enum Seat {
     At(Place, u32),
     Refused(Cause),
 }
 
 // What building answers: the tree is in the columns, or an entry is refused, by its number.
-#[derive(Drop)]
+#[derive(Clone, Copy)]
 pub enum Built {
     Done,
     Refused(Cause, u32),

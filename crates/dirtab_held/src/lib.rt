@@ -1,4 +1,6 @@
 // The entries of a tree that columns hold, listed in preorder.
+#![tactic(auto)]
+
 ghost use Rattle.std.specs.Prelude.{◌≡◌, ◌++◌, ◌≤◌, length, drop};
 ghost use Rattle.avl_model.specs.Tree.{Tree};
 ghost use Rattle.avl_model.specs.Order.{order};

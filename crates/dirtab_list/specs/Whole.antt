@@ -1,8 +1,7 @@
 -- Writing a whole list as a table: 6, then adding's refusals entry by entry, then 7, 8, 9. Assumes nothing.
 use Rattle.std.specs.Prelude.{ℕ, min, Bool, ◌&&◌, List, [], ◌∷◌, leb, length}
-use denote.Triple.Both.{Both}
 use Rattle.units.specs.Told.{Told, gives, refuses, pick}
-use Rattle.units.specs.Lent.{Slice, was, is, cleared_if}
+use Rattle.units.specs.Lent.{cleared_if}
 use Rattle.dirtab_entry.specs.Entry.{cause_number}
 use Rattle.avl_model.specs.Tree.{Tree}
 use Rattle.table_model.specs.Entry.{Entry, entry_for}
@@ -10,7 +9,7 @@ use Rattle.table_model.specs.Table.{Placing, place_of, table_bytes}
 pub use Rattle.dirtab.specs.Serialise.{if_fits, if_written}
 use Rattle.dirtab_list.specs.declared.ListWritten.{ListWritten}
 use Rattle.dirtab_list.specs.declared.ListWritten.TheVariants as written
-pub use Rattle.dirtab_grow.specs.Listing.{Listing, listing, listed, given_in, given_name}
+pub use Rattle.dirtab_grow.specs.Listing.{Listing, listing, given_in, given_name}
 use Rattle.dirtab_grow.specs.Grow.{grow}
 
 -- entry i as a table has it
@@ -77,13 +76,6 @@ lent left right parent height key order place out = record {
   order = order;
   place = place;
   out = out;
-}
-
--- the same at the call, and at the return
-abbrev pub memory : Slice → Slice → Slice → Slice → Slice → Slice → Slice → Slice → Both Lent Lent
-memory left right parent height key order place out = record {
-  entry = lent (was left) (was right) (was parent) (was height) (was key) (was order) (was place) (was out);
-  exit = lent (is left) (is right) (is parent) (is height) (is key) (is order) (is place) (is out);
 }
 
 -- the length of the shortest column of scratch

@@ -1,4 +1,6 @@
 // A whole list of entries is written as a table in one call. The columns of the tree are scratch.
+#![tactic(auto)]
+
 ghost use Rattle.std.specs.Prelude.{◌≡◌, ◌&&◌, [], ◌≤◌, min, leb, length, replicate};
 ghost use Rattle.units.specs.Told.{refuses};
 ghost use Rattle.avl_model.specs.Tree.{Tree};
@@ -20,7 +22,7 @@ use units::Sector;
 use widths::u32_as_usize;
 
 // What writing a list answers.
-#[derive(Drop)]
+#[derive(Clone, Copy)]
 pub enum ListWritten {
     // The reported size, and the next free sector.
     Done(u32, Sector),
@@ -222,10 +224,10 @@ pub fn write_list(
     place: &mut [u16],
     out: &mut [u8],
 ) -> ListWritten
-    ensures fact_1 { let list = listing count start.now len.now size.now kind.now names.now in
+    ensures answer { let list = listing count start.now len.now size.now kind.now names.now in
         let before = lent left.old right.old parent.old height.old key.old order.old place.old out.old in
         told result ≡ answer_in list first.0 before }
-    ensures fact_2 { let list = listing count start.now len.now size.now kind.now names.now in
+    ensures memory { let list = listing count start.now len.now size.now kind.now names.now in
         let before = lent left.old right.old parent.old height.old key.old order.old place.old out.old in
         let after = lent left.new right.new parent.new height.new key.new order.new place.new out.new in
         after ≡ lent_after list first.0 before }

@@ -3,12 +3,11 @@
 --     free_are         the next free sector, or 8: as the table says
 --     places_are       the column then holds the offset over 4 of each entry
 -- Assumes nothing.
-use Prim.Native.Nat.{ℕ, suc, ◌+◌, ◌*◌, ◌/◌, ◌%◌, ◌≤◌, ◌<◌}
-use mathlib.Core.Path.{◌≡◌, refl, sym, ap, ap₂, subst, ◌∙◌}
+use Prim.Native.Nat.{ℕ, ◌+◌, ◌/◌, ◌≤◌, ◌<◌}
+use mathlib.Core.Path.{◌≡◌, refl, sym, ap, subst, ◌∙◌}
 use mathlib.Core.Bool.{Bool, true, false}
 use mathlib.Core.List.{List, [], ◌∷◌, ◌++◌, append_assoc, append-nil}
 use native.Mathlib.Omega.{arith}
-use native.Mathlib.Decide.{ℕ_discrete}
 use lib.Dec.{ltb}
 use lib.ListN.{length, get_or, set, length-set}
 use lib.Seq.{get_or-set_same, get_or-set_other}
@@ -19,13 +18,13 @@ use Rattle.layout_sector.specs.Counter.{sectors_for, aligned_up}
 use Rattle.avl_model.specs.Tree.{Tree, leaf, node, δ, cnt}
 use Rattle.avl_model.specs.Laws.{All}
 use Rattle.avl_model.specs.Order.{order}
-use Rattle.avl_model.proofs.Frame.{δ-same, δ-apart}
+use Rattle.avl_model.proofs.Frame.{δ-same}
 use Rattle.table_model.specs.Entry.{Entry, length_of}
 use Rattle.table_model.specs.Place.{start_after, start_of, stop_of, end_of, free_after, free_of, items}
 use Rattle.table_model.specs.Table.{any_far}
-use Rattle.table_model.proofs.Places.{free_next, free_after_lem}
+use Rattle.table_model.proofs.Places.{free_after_lem}
 use Rattle.table_model.proofs.Far.{far_append}
-use Rattle.dirtab_place.specs.inner.Places.{start_in, stop_in, is_far, ends_over, places_over, size_in, free_in, free_over}
+use Rattle.dirtab_place.specs.inner.Places.{start_in, stop_in, is_far, ends_over, places_over, size_in, free_over}
 
 three : {A : Type 0} (a b d : Bool) (x y : A) → pick a x (pick b x (pick d x y)) ≡ pick (pick a true (pick b true d)) x y
 three true b d x y = refl

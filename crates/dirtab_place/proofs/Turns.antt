@@ -1,15 +1,15 @@
 -- One turn of placing and of counting, and their ends. Assumes nothing.
-use Prim.Native.Nat.{ℕ, suc, ◌+◌, ◌*◌, ◌/◌, ◌%◌, ◌≤◌, ◌<◌}
+use Prim.Native.Nat.{ℕ, ◌+◌, ◌/◌, ◌%◌, ◌≤◌, ◌<◌}
 use mathlib.Core.Path.{◌≡◌, refl, sym, ap, ◌∙◌}
 use mathlib.Core.Bool.{Bool, true, false}
 use mathlib.Core.List.{List, [], ◌∷◌}
 use native.Mathlib.Omega.{arith}
 use native.Mathlib.Numerals.{add-one}
-use lib.Dec.{leb, ltb}
+use lib.Dec.{ltb}
 use lib.ListN.{length, get_or, drop, set, drop_of_length-le}
 use lib.Seq.{drop-cons}
 use borrow.Author.Tests.{le-leb, lt-leb, lt-ltb, le-ltb, ltb-false}
-use Rattle.units.specs.Told.{Told, gives, refuses, pick}
+use Rattle.units.specs.Told.{gives, refuses, pick}
 use Rattle.layout_node.specs.Header.{entry_length}
 use Rattle.units.specs.declared.Sector.{Sector}
 use Rattle.layout_sector.specs.declared.SectorCounter.{SectorCounter}
@@ -20,8 +20,8 @@ use Rattle.layout_sector.proofs.Laws.{given_free, overflow_where_8}
 use Rattle.dirtab_entry.specs.declared.Kind.{Kind}
 use Rattle.dirtab_entry.specs.Entry.{rounded, kind_for, is_directory, stored_size}
 use Rattle.table_model.specs.Place.{start_after}
-use Rattle.table_model.proofs.Places.{Starts, starts}
-use Rattle.dirtab_place.specs.inner.Places.{start_in, stop_in, is_far, ends_over, places_over, Sized, Countable, size_in, free_in, free_over}
+use Rattle.table_model.proofs.Places.{starts}
+use Rattle.dirtab_place.specs.inner.Places.{start_in, is_far, ends_over, places_over, Sized, Countable, size_in, free_in, free_over}
 
 pub stays : (e n : ℕ) → e % 2048 + n ≤ 2048 → e ≡ start_after e n
 unfolding start_after

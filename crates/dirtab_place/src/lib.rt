@@ -1,5 +1,7 @@
 // Places of entries that are given in an order of their numbers: offsets over 4 into a column, the size of their
 // table, and sectors counted.
+#![tactic(auto)]
+
 ghost use Rattle.std.specs.Prelude.{◌≡◌, ◌/◌, ◌≤◌, ◌<◌, length};
 ghost use Rattle.layout_node.specs.Header.{entry_length};
 ghost use Rattle.table_model.specs.Place.{start_after};
@@ -13,7 +15,7 @@ use units::{Offset, Sector};
 use widths::{u16_as_usize, u32_as_u64};
 
 // What placing answers.
-#[derive(Drop)]
+#[derive(Clone, Copy)]
 pub enum Ends {
     // Where the last entry ends.
     At(u32),
@@ -22,7 +24,7 @@ pub enum Ends {
 }
 
 // What counting sectors answers.
-#[derive(Drop)]
+#[derive(Clone, Copy)]
 pub enum Counted {
     // The next free sector.
     Free(Sector),

@@ -4,23 +4,21 @@
 --     items_by_lem                 the items of the columns are the table's
 --     spaces, table            what writing asks is met, and it leaves the table's bytes
 -- Assumes nothing.
-use Prim.Native.Nat.{ℕ, zero, suc, ◌+◌, ◌-◌, ◌*◌, ◌/◌, ◌%◌, ◌≤◌, ◌<◌}
+use Prim.Native.Nat.{ℕ, zero, suc, ◌+◌, ◌*◌, ◌%◌, ◌≤◌, ◌<◌}
 use mathlib.Core.Path.{◌≡◌, refl, sym, ap, ap₂, subst, ◌∙◌}
-use mathlib.Core.Bool.{Bool, true, false}
+use mathlib.Core.Bool.{true, false}
 use mathlib.Core.List.{List, [], ◌∷◌, ◌++◌, append_assoc, append-nil}
 use native.Mathlib.Omega.{arith}
-use lib.Dec.{ltb, eqb}
+use lib.Dec.{ltb}
 use lib.ListN.{length, get_or, drop}
 use borrow.Author.Tests.{eq-eqb, ne_eqb}
-use Rattle.units.specs.Told.{Told, gives, refuses, pick}
+use Rattle.units.specs.Told.{gives, refuses, pick}
 use Rattle.layout_node.specs.Header.{entry_length}
-use Rattle.layout_sector.specs.Counter.{sectors_for, aligned_up}
+use Rattle.layout_sector.specs.Counter.{aligned_up}
 use Rattle.dirtab_entry.specs.declared.Kind.{Kind}
 use Rattle.dirtab_entry.specs.declared.Kind.TheVariants.{File, Directory}
 use Rattle.dirtab_entry.specs.Entry.{kind_for, is_directory, rounded, stored_size}
-use Rattle.avl_model.specs.Tree.{Tree, leaf, node, none, top, cnt}
-use Rattle.avl_model.specs.Names.{names_in}
-use Rattle.avl_model.specs.inner.Names.{Inside}
+use Rattle.avl_model.specs.Tree.{Tree, leaf, node, none, top}
 use Rattle.avl_model.specs.Laws.{All}
 use Rattle.avl_model.specs.Order.{order}
 use Rattle.avl_model.specs.inner.Seek.{Links}
@@ -28,15 +26,14 @@ use Rattle.avl_model.proofs.Avl.{all_map}
 use Rattle.table_model.specs.Entry.{Entry, Item, length_of}
 use Rattle.table_model.specs.Place.{start_of, stop_of, end_of, free_after, free_of, link_to, item_of, items}
 use Rattle.table_model.specs.Table.{any_far, size_of, table_bytes}
-use Rattle.table_model.specs.Said.{Fits}
 use Rattle.table_model.specs.inner.Writing.{Spaced, written_over}
-use Rattle.table_model.proofs.Places.{Starts, FitsAt, start_at, stop_four, end_four, end_after}
+use Rattle.table_model.proofs.Places.{FitsAt, start_at, stop_four, end_four, end_after}
 use Rattle.table_model.proofs.Bytes.{end_size}
 use Rattle.table_model.proofs.Geometry.{items_spaced}
 use Rattle.table_model.proofs.Writing.{written_table}
-use Rattle.dirtab_place.specs.inner.Places.{ends_over, places_over, size_in, free_in, free_over, Placeable, Sized, Countable}
+use Rattle.dirtab_place.specs.inner.Places.{ends_over, places_over, free_over, Placeable, Sized, Countable}
 use Rattle.dirtab_place.proofs.Along.{SameLength, Kept, ends_are, places_are, places_length, SameSize, free_are}
-use Rattle.dirtab_write.specs.inner.Columns.{Cols, cols, entry_by, link_by, item_by, items_by, Headed, Numbered, Writes, Spaces}
+use Rattle.dirtab_write.specs.inner.Columns.{Cols, cols, entry_by, link_by, item_by, items_by, Headed, Numbered, Spaces}
 use Rattle.dirtab_write.specs.inner.Holds.{Holds}
 use Rattle.dirtab_write.proofs.Steps.{name-length}
 

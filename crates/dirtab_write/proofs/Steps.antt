@@ -1,7 +1,7 @@
 -- A link, a header, an entry's bytes. Assumes nothing.
-use Prim.Native.Nat.{ℕ, suc, ◌+◌, ◌-◌, ◌*◌, ◌≤◌, ◌<◌}
-use mathlib.Core.Path.{◌≡◌, refl, sym, ap, ap₂, ◌∙◌}
-use mathlib.Core.List.{List, [], ◌∷◌, ◌++◌}
+use Prim.Native.Nat.{ℕ, ◌+◌, ◌*◌, ◌≤◌, ◌<◌}
+use mathlib.Core.Path.{◌≡◌, sym, ap, ◌∙◌}
+use mathlib.Core.List.{List, ◌++◌}
 use native.Mathlib.Omega.{arith}
 use lib.ListN.{length, get_or}
 use borrow.Author.Tests.{eq-eqb, ne_eqb}
@@ -11,10 +11,9 @@ use Rattle.name_role.proofs.Roles.{stored_is}
 use Rattle.layout_node.specs.declared.Header.{Header}
 use Rattle.layout_node.specs.Header.{header_bytes}
 use Rattle.layout_node.proofs.RoundTrip.{header_length}
-use Rattle.avl_model.specs.Tree.{none}
 use Rattle.avl_model.specs.Names.{names_in, name_at}
 use Rattle.avl_model.specs.inner.Names.{Inside}
-use Rattle.table_model.specs.Entry.{header_for, attributes}
+use Rattle.table_model.specs.Entry.{attributes}
 use Rattle.table_model.specs.inner.Writing.{stored}
 use Rattle.units.specs.declared.Link.{Link}
 use Rattle.units.specs.declared.Sector.{Sector}

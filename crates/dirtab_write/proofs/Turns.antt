@@ -1,5 +1,5 @@
 -- A turn of the writing loop and its end, and what a filled buffer comes to. Assumes nothing.
-use Prim.Native.Nat.{ℕ, suc, ◌+◌, ◌-◌, ◌*◌, ◌≤◌, ◌<◌}
+use Prim.Native.Nat.{ℕ, ◌+◌, ◌*◌, ◌≤◌, ◌<◌}
 use mathlib.Core.Path.{◌≡◌, refl, sym, ap, ap₂, ◌∙◌}
 use mathlib.Core.Bool.{Bool, true, false}
 use mathlib.Core.List.{List, [], ◌∷◌, ◌++◌, append_assoc, append-nil}
@@ -8,7 +8,7 @@ use native.Mathlib.Numerals.{add-one}
 use lib.Dec.{ltb}
 use lib.ListN.{length, get_or, drop, replicate, drop_of_length-le}
 use lib.Seq.{drop-cons}
-use borrow.Author.Tests.{le-ltb, ltb-false}
+use borrow.Author.Tests.{ltb-false}
 use Rattle.units.specs.Told.{Told, gives, refuses, pick}
 use Rattle.layout_bytes.specs.inner.Bytes.{put_at}
 use Rattle.layout_sector.specs.Counter.{aligned_up}
@@ -16,7 +16,7 @@ use Rattle.table_model.specs.Entry.{Item}
 use Rattle.table_model.specs.inner.Writing.{stored, Spaced, written_over}
 use Rattle.table_model.proofs.Writing.{written_none, written_next}
 use Rattle.dirtab_place.specs.inner.Places.{free_in, free_over}
-use Rattle.dirtab_write.specs.inner.Columns.{Cols, item_by, items_by, put_all, Numbered, Writes}
+use Rattle.dirtab_write.specs.inner.Columns.{Cols, item_by, items_by, put_all}
 
 -- what is left of the order at its next number
 cut : (order : List ℕ) (k : ℕ) → k < length order → drop k order ≡ get_or order k 0 ∷ drop (k + 1) order

@@ -1,5 +1,7 @@
 // The bytes of a table, from its entries in columns and the offsets over 4 in another: 0xff everywhere, then entry
 // after entry in an order.
+#![tactic(auto)]
+
 ghost use Rattle.std.specs.Prelude.{◌≡◌, ◌++◌, ◌+◌, ◌*◌, ◌≤◌, ◌<◌, length, get_or};
 ghost use Rattle.layout_bytes.specs.inner.Bytes.{put_at};
 ghost use Rattle.layout_node.specs.Header.{header_bytes};

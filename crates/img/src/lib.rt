@@ -1,7 +1,8 @@
 // An image is planned over its directories: the size and the sector of each table, and the sector of each entry.
+#![tactic(auto)]
+
 ghost use Rattle.std.specs.Prelude.{◌≡◌, true, ◌<◌, length};
 ghost use Rattle.img_model.specs.Shares.{columns, is_tree};
-ghost use Rattle.img_model.specs.inner.Shares.{columns};
 ghost use Rattle.img_model.specs.Plan.{told, total, taking_up, rooted, plan_of};
 ghost use Rattle.img_take.specs.inner.Forward.{Sized, request_of};
 ghost use Rattle.img_model.specs.Image.{asked, lent, answer_in, lent_after};
@@ -232,12 +233,12 @@ pub fn plan(
     size: &mut [u32],
     order: &mut [u16],
 ) -> Planned
-    ensures fact_1 { let a = asked directories entries from.now share.now start.now len.now kind.now value.now
+    ensures answer { let a = asked directories entries from.now share.now start.now len.now kind.now value.now
         names.now in
         let before = lent sizes.old tables.old sectors.old sized.old left.old right.old parent.old height.old
         key.old size.old order.old in
         told result ≡ answer_in a before }
-    ensures fact_2 { let a = asked directories entries from.now share.now start.now len.now kind.now value.now
+    ensures memory { let a = asked directories entries from.now share.now start.now len.now kind.now value.now
         names.now in
         let before = lent sizes.old tables.old sectors.old sized.old left.old right.old parent.old height.old
         key.old size.old order.old in

@@ -3,7 +3,7 @@ use Prim.Native.Nat.{ℕ}
 use mathlib.Core.Path.{◌≡◌, refl}
 use mathlib.Core.Bool.{Bool, true, false}
 use mathlib.Core.List.{List, [], ◌∷◌}
-use Rattle.img_model.specs.Shares.{Request, is_tree}
+use Rattle.img_model.specs.Shares.{is_tree}
 
 -- directories by first and count; entries by kind and value
 abbrev tree : List ℕ → List ℕ → List ℕ → List ℕ → Bool

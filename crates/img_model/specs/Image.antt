@@ -1,9 +1,8 @@
 -- Planning with lent memory: the 6 that comes first, then what Plan says, and what is left of all that was lent.
 -- Assumes nothing.
 use Rattle.std.specs.Prelude.{ℕ, min, Bool, true, ◌&&◌, List, [], ◌∷◌, ◌++◌, leb, length, take, drop}
-use denote.Triple.Both.{Both}
 use Rattle.units.specs.Told.{Told, gives, refuses, pick}
-use Rattle.units.specs.Lent.{Slice, was, is, cleared_if}
+use Rattle.units.specs.Lent.{cleared_if}
 use Rattle.img_model.specs.Shares.{Request, request}
 use Rattle.img_model.specs.Plan.{Plan, plan_of}
 
@@ -31,11 +30,6 @@ asked directories entries from share start len kind value bytes = record {
   value = value;
   bytes = bytes;
 }
-
--- the same as it is lent, at the call
-abbrev pub asking : ℕ → ℕ → Slice → Slice → Slice → Slice → Slice → Slice → Slice → Asked
-asking directories entries from share start len kind value bytes =
-    asked directories entries (was from) (was share) (was start) (was len) (was kind) (was value) (was bytes)
 
 -- what is lent: the size and the sector of each table, the sector of each entry; and scratch: a size for each
 -- directory, the columns of a tree, an order
@@ -66,16 +60,6 @@ lent sizes tables sectors sized left right parent height key size order = record
   key = key;
   size = size;
   order = order;
-}
-
--- the same at the call, and at the return
-abbrev pub memory : Slice → Slice → Slice → Slice → Slice → Slice → Slice → Slice → Slice → Slice → Slice
-    → Both Lent Lent
-memory sizes tables sectors sized left right parent height key size order = record {
-  entry = lent (was sizes) (was tables) (was sectors) (was sized) (was left) (was right) (was parent) (was height)
-      (was key) (was size) (was order);
-  exit = lent (is sizes) (is tables) (is sectors) (is sized) (is left) (is right) (is parent) (is height) (is key)
-      (is size) (is order);
 }
 
 -- the length of the shortest column that has a place for each directory, for each entry, and for each node of a tree

@@ -103,4 +103,5 @@ named_once R x = pick (eqb x 0) true (eqb (namings R x (directories_of R)) 1)
 
 -- THE RULE: there is a directory, every share is one, and every directory but the root is named exactly once
 unfoldable pub is_tree : Request → Bool
-is_tree R = ltb 0 (directories_of R) && (every (is_share R) (directories_of R) && every (named_once R) (directories_of R))
+is_tree R =
+    ltb 0 (directories_of R) && (every (is_share R) (directories_of R) && every (named_once R) (directories_of R))

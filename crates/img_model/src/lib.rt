@@ -1,10 +1,12 @@
 // The words that planning an image and its definitions share. No code: the definitions are in specs/, their laws in
 // proofs/.
+#![tactic(auto)]
+
 use dirtab_entry::Cause;
 use units::Sector;
 
 // What planning answers.
-#[derive(Drop)]
+#[derive(Clone, Copy)]
 pub enum Planned {
     // The next free sector.
     Done(Sector),

@@ -1,7 +1,7 @@
 -- Whether every column is long enough, test by test. Assumes nothing.
 use Prim.Native.Nat.{ℕ, ◌≤◌, ◌<◌}
 use mathlib.Core.Path.{◌≡◌, sym, ap, ap₂, ◌∙◌}
-use mathlib.Core.Bool.{Bool, true, false, ◌&&◌}
+use mathlib.Core.Bool.{Bool, false, ◌&&◌}
 use borrow.Author.Tests.{lt-leb, le-leb}
 use lib.Dec.{leb}
 

@@ -1,4 +1,6 @@
 // Whether what is lent for a plan is long enough, and its columns of scratch cleared.
+#![tactic(auto)]
+
 ghost use Rattle.std.specs.Prelude.{◌≡◌, ◌&&◌, ◌≤◌, min, leb, length, take, replicate};
 ghost use Rattle.img_model.specs.Plan.{total};
 ghost use Rattle.img_model.specs.Image.{fits};

@@ -8,7 +8,7 @@ use lib.Seq.{length-take-le, take_at, drop_at}
 use Rattle.img_model.specs.Shares.{Request, Share, share_of, directories_of, first_of, count_of, entries_of, part}
 use Rattle.img_model.proofs.Orders.{length_part}
 use Rattle.img_table.specs.declared.TableSized.{TableSized}
-use Rattle.img_table.specs.inner.Arranging.{share_by, Fillable, Arrangeable, Sizing}
+use Rattle.img_table.specs.inner.Arranging.{share_by, Arrangeable, Sizing}
 use Rattle.img_model.specs.inner.Tables.{Sizeable}
 use Rattle.img_size.specs.inner.Sizing.{Roomy}
 

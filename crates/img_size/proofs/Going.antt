@@ -1,49 +1,33 @@
 -- What sizing the tables from the last directory back keeps, and what one directory more makes of it. Assumes nothing.
-use Prim.Native.Nat.{ℕ, zero, suc, ◌+◌, ◌-◌, ◌≤◌, ◌<◌}
+use Prim.Native.Nat.{ℕ, suc, ◌+◌, ◌-◌, ◌≤◌, ◌<◌}
 use native.Mathlib.Omega.{arith}
 use native.Mathlib.Decide.{ℕ_discrete}
 use mathlib.Core.Path.{◌≡◌, refl, sym, ap, subst, ◌∙◌}
-use mathlib.Core.Bool.{true}
 use mathlib.Core.List.{List, [], ◌∷◌}
-use lib.ListN.{length, get_or, set, take, drop, length-set}
+use lib.ListN.{length, set, take, drop}
 use lib.Seq.{get_or-set_same}
-use Rattle.units.specs.Told.{Told, gives, refuses}
+use Rattle.units.specs.Told.{gives, refuses}
 use Rattle.avl_model.specs.Tree.{Tree}
 use Rattle.table_model.specs.Table.{size_of}
 use Rattle.dirtab_entry.specs.declared.Cause.{Cause}
-use Rattle.dirtab_entry.specs.Entry.{cause_number}
-use Rattle.img_model.specs.Shares.{Request, Share, share_of, directories_of, first_of, count_of, entries_of, part, is_directory, value_of}
+use Rattle.img_model.specs.Shares.{Request, share_of, directories_of, first_of, count_of, part, value_of}
 use Rattle.img_model.specs.Plan.{table_in, entry_in, tree_in, sizes_down, total}
 use Rattle.img_model.proofs.Trees.{refused_inside, tree_same, size_same}
 use Rattle.img_model.proofs.Sizes.{later_kept, down_given, down_refused}
 use Rattle.img_table.specs.declared.Arranged.{Arranged}
 use Rattle.img_table.specs.declared.Arranged.TheVariants as arranged
-use Rattle.img_table.specs.declared.TableSized.{TableSized}
-use Rattle.img_table.specs.declared.TableSized.TheVariants as sized
-use Rattle.img_table.specs.inner.Arranging.{Measured, Sizing}
+use Rattle.img_table.specs.inner.Arranging.{Measured}
 use Rattle.img_model.specs.inner.Tables.{order_from, TableIn, TablesIn, Sizeable}
 use Rattle.img_size.specs.inner.Sizing.{Roomy}
 use Rattle.img_model.proofs.Orders.{total_step, total_none, total_down, total_all, part_kept}
 
--- ---- what the answers of one table say
-
--- a refusal of its entry i
-pub refusal_of_lem : (S : Share) (tab : ℕ → ℕ) (listed : List ℕ) (r : TableSized) (c : Cause) (i : ℕ) → Sizing r S tab listed → r ≡ sized.Refused c i → tree_in S tab ≡ refuses (cause_number c) (i ∷ [])
-refusal_of_lem S tab listed r c i w e = subst (λ (x : TableSized). Sizing x S tab listed) e w
-
-pub too_large_of : (S : Share) (tab : ℕ → ℕ) (listed : List ℕ) (r : TableSized) (i : ℕ) → Sizing r S tab listed → r ≡ sized.FileTooLarge i → tree_in S tab ≡ refuses 10 (i ∷ [])
-too_large_of S tab listed r i w e = subst (λ (x : TableSized). Sizing x S tab listed) e w
-
--- or its size
-pub measured_of : (S : Share) (tab : ℕ → ℕ) (listed : List ℕ) (r : TableSized) (z : ℕ) → Sizing r S tab listed → r ≡ sized.Done z → Measured S tab listed z
-measured_of S tab listed r z w e = subst (λ (x : TableSized). Sizing x S tab listed) e w
+-- ---- a refusal is not the other answer
 
 abbrev done_or : Arranged → ℕ
 done_or arranged.Done = 1
 done_or (arranged.Refused c i) = 0
 done_or (arranged.FileTooLarge i) = 0
 
--- no refusal is the other answer
 pub not_done : {A : Type 0} (c : Cause) (i : ℕ) → arranged.Refused c i ≡ arranged.Done → A
 not_done c i e = let z : ◌≡◌ {A = ℕ} 0 1 = ap done_or e in absurd (omega arith)
 

@@ -1,7 +1,8 @@
 // The tables of an image are sized from the last directory back to the root, and each one's preorder is kept.
+#![tactic(auto)]
+
 ghost use Rattle.std.specs.Prelude.{◌≡◌, ◌+◌, ◌≤◌, ◌<◌, length, take};
 ghost use Rattle.img_model.specs.Shares.{columns, directories_of, count_of, share_of, part};
-ghost use Rattle.img_model.specs.inner.Shares.{columns};
 ghost use Rattle.img_model.specs.Plan.{table_in, sizes_down};
 ghost use Rattle.img_table.specs.declared.Arranged.TheVariants.{Done};
 ghost use Rattle.img_table.specs.inner.Arranging.{Sizing};

@@ -17,13 +17,14 @@ module _ (f : ℕ → ℕ) where
   unfolding fitting
   turn n i h = ap (λ (k : ℕ). fitting f k i) {x = n - i} {y = suc (n - (i + 1))} (omega arith)
 
+  -- the one from which it is looked for is too large
+  pub stops_here : (n i : ℕ) → i < n → 4294967295 < f i → fitting f (n - i) i ≡ i
+  stops_here n i h k = turn n i h ∙ rw (lt-ltb 4294967295 (f i) k)
+
   -- `so_far`: those before i fit
   module _ (n i : ℕ) (so_far : fitting f n 0 ≡ fitting f (n - i) i) where
     pub fit_next : (j z : ℕ) → j ≡ i + 1 → i < n → z ≡ f i → z ≤ 4294967295 → fitting f n 0 ≡ fitting f (n - j) j
     fit_next j z ej h e k = so_far ∙ turn n i h ∙ rw (ej, le-ltb 4294967295 (f i) (omega arith))
-
-    pub fit_stop : (z : ℕ) → i < n → z ≡ f i → 4294967295 < z → i ≡ fitting f n 0
-    fit_stop z h e k = sym (so_far ∙ turn n i h ∙ rw (lt-ltb 4294967295 (f i) (omega arith)))
 
     pub fit_last : n ≤ i → i ≡ fitting f n 0
     unfolding fitting

@@ -1,4 +1,6 @@
 // One table of an image: its entries' sizes, their tree, its preorder, and its reported size.
+#![tactic(auto)]
+
 ghost use Rattle.std.specs.Prelude.{◌≡◌, [], ℕ, ◌<◌, true, eqb, length, get_or};
 ghost use Rattle.units.specs.Told.{pick};
 ghost use Rattle.img_model.specs.Plan.{table_in, size_at, tree_in};
@@ -12,7 +14,7 @@ use dirtab_place::measure;
 use widths::{u32_as_u64, u64_as_usize};
 
 // What arranging a directory's entries answers: their preorder is there, or one of them is refused, by its number.
-#[derive(Drop)]
+#[derive(Clone, Copy)]
 pub enum Arranged {
     Done,
     // 1, 2, 3, 5, 4, 6: as adding.
@@ -22,7 +24,7 @@ pub enum Arranged {
 }
 
 // What sizing a directory's table answers: its reported size, or an entry that is refused, by its number.
-#[derive(Drop)]
+#[derive(Clone, Copy)]
 pub enum TableSized {
     Done(u32),
     Refused(Cause, u32),
@@ -42,6 +44,7 @@ fn size_for(kind: u8, value: u64, sized: &[u32]) -> u64
 
 // The sizes of a directory's entries into the first places of a column, up to the first that four bytes do not
 // hold: its number, or how many there are.
+#[tactic(auto, using(crate::proofs::Fitting::stops_here))]
 pub fn fill_sizes(kind: &[u8], value: &[u64], sized: &[u32], size: &mut [u32]) -> u32
     requires { Fillable (share_by [] [] kind.now value.now []) (length sized.now) (length size.old) }
     ensures answer { result ≡ fitting (size_at (share_by [] [] kind.now value.now []) (table_in sized.now))

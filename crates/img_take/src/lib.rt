@@ -1,5 +1,7 @@
 // Sectors are taken from the root forward: first it is seen whether every table can be placed, then every table and
 // entry gets its sector.
+#![tactic(auto)]
+
 ghost use Rattle.std.specs.Prelude.{◌≡◌, true, List, [], ℕ, ◌+◌, ◌≤◌, ◌<◌, eqb, length, get_or, set};
 ghost use Rattle.units.specs.Told.{gives, pick};
 ghost use Rattle.layout_sector.specs.Counter.{sectors_for};
@@ -16,7 +18,7 @@ use units::Sector;
 use widths::{u16_as_usize, u32_as_u64, u32_as_usize, u64_as_usize};
 
 // What going over the tables answers.
-#[derive(Drop)]
+#[derive(Clone, Copy)]
 pub enum Fitting {
     // The next free sector after all of them.
     Free(Sector),

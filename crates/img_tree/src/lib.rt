@@ -1,4 +1,6 @@
 // Whether the directories of an image are a tree.
+#![tactic(auto)]
+
 ghost use Rattle.std.specs.Prelude.{◌≡◌, true, length};
 ghost use Rattle.avl_arena.specs.Test.{every};
 ghost use Rattle.img_model.specs.Shares.{part, is_tree};

@@ -1,5 +1,7 @@
 // Little-endian numbers read from bytes and written to them, and runs of bytes written: the only stores of the
 // library into bytes.
+#![tactic(auto)]
+
 ghost use Rattle.std.specs.Prelude.{◌≡◌, [], ◌∷◌, ◌++◌, ◌+◌, ◌≤◌, ◌<◌, length, drop, replicate};
 ghost use Rattle.layout_bytes.specs.Bytes.{u16_at, u32_at, u64_at, le16, le32, le64, all};
 ghost use Rattle.layout_bytes.specs.inner.Bytes.{put_at};

@@ -1,10 +1,12 @@
 // Names of entries: their order, and the raised copy that insertion compares with.
+#![tactic(auto)]
+
 ghost use Rattle.std.specs.Prelude.{◌≡◌, ◌&&◌, ◌+◌, ◌≤◌, min, eqb, length, drop, get_or};
 ghost use Rattle.layout_name.specs.Order.{raised, name_order};
 ghost use Rattle.layout_name.specs.inner.Order.{byte_order, raised_copy};
 
 // How one name stands to another.
-#[derive(Drop)]
+#[derive(Clone, Copy)]
 pub enum Order {
     Less,
     Equal,

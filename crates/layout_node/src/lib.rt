@@ -1,4 +1,6 @@
 // The fourteen bytes of a directory entry before its name: read, written, and what stands for no entry.
+#![tactic(auto)]
+
 ghost use Rattle.std.specs.Prelude.{◌≡◌, ◌+◌, ◌≤◌, length};
 ghost use Rattle.layout_bytes.specs.Bytes.{all};
 ghost use Rattle.layout_bytes.specs.inner.Bytes.{put_at};
@@ -7,7 +9,7 @@ ghost use Rattle.layout_node.specs.Header.{header_of, header_bytes, is_blank, is
 use units::{Link, Sector};
 
 // The fields of an entry but its name.
-#[derive(Drop)]
+#[derive(Clone, Copy)]
 pub struct Header {
     pub left: Link,
     pub right: Link,

@@ -1,17 +1,19 @@
 // The sector counter: hands out the next free sector and moves on by the sectors that a length takes.
+#![tactic(auto)]
+
 ghost use Rattle.std.specs.Prelude.{◌≡◌};
 ghost use Rattle.layout_sector.specs.Counter.{sectors_for, told, take_of};
 
 use units::Sector;
 
 // The next free sector. Its field is private: sectors are handed out by `take` alone.
-#[derive(Drop)]
+#[derive(Clone, Copy)]
 pub struct SectorCounter {
     next: Sector,
 }
 
 // What taking answers.
-#[derive(Drop)]
+#[derive(Clone, Copy)]
 pub enum Taken {
     // The first of the sectors taken, and the counter past the last of them.
     Start(Sector, SectorCounter),

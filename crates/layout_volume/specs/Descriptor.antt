@@ -1,6 +1,7 @@
 -- The volume descriptor: the mark, root sector u32, root size u32, stamp u64, 1,992 unused bytes, the mark again; 2,048
 -- bytes in all. The unused bytes are zero (volume.rs). A stamp counts 100 ns since the start of 1601. Assumes nothing.
-use Rattle.std.specs.Prelude.{ℕ, ◌+◌, Bool, true, false, ◌&&◌, List, [], ◌∷◌, ◌++◌, ltb, eqb, length, take, drop, replicate}
+use Rattle.std.specs.Prelude.{ℕ, ◌+◌, Bool, true, false, ◌&&◌, List, [], ◌∷◌, ◌++◌, ltb, eqb, length}
+use Rattle.std.specs.Prelude.{take, drop, replicate}
 use Rattle.std.proofs.Math.Option.{Option, some, none}
 use Rattle.units.specs.Told.{Told, gives, refuses, pick}
 use Rattle.units.specs.declared.Region.{Region}

@@ -1,4 +1,6 @@
 // The volume descriptor, which stands at sector 32: written and read.
+#![tactic(auto)]
+
 ghost use Rattle.std.specs.Prelude.{◌≡◌, take, drop};
 ghost use Rattle.layout_volume.specs.Descriptor.{mark, same_list, write_told, write_of, bytes_after, read_told};
 ghost use Rattle.layout_volume.specs.Descriptor.{read_of, date_told, date_of};
@@ -7,14 +9,14 @@ use units::{Region, Sector};
 
 // What a descriptor says: where the root table stands, its size, and when the volume was made. The stamp counts 100 ns
 // since the start of 1601, UTC.
-#[derive(Drop)]
+#[derive(Clone, Copy)]
 pub struct Descriptor {
     pub root: Region,
     pub stamp: u64,
 }
 
 // The date of a volume.
-#[derive(Drop)]
+#[derive(Clone, Copy)]
 pub enum Date {
     // There is none: the stamp is 0.
     Missing,
@@ -35,7 +37,7 @@ impl Descriptor {
 }
 
 // What writing answers.
-#[derive(Drop)]
+#[derive(Clone, Copy)]
 pub enum DescriptorWritten {
     Done,
     // 9: the output is shorter than 2,048 bytes.
@@ -43,7 +45,7 @@ pub enum DescriptorWritten {
 }
 
 // What reading answers.
-#[derive(Drop)]
+#[derive(Clone, Copy)]
 pub enum DescriptorRead {
     Volume(Descriptor),
     // 20: a mark differs or is cut.

@@ -1,5 +1,7 @@
 // The limits loader, for a rig that is to move only by limits that it has just found, with their date: a file's first
 // sector, its size and the stamp of its volume are answered together, or none of them is.
+#![tactic(auto)]
+
 ghost use Rattle.std.specs.Prelude.{◌≡◌};
 ghost use Rattle.units.specs.Told.{number_of};
 ghost use Rattle.layout_volume.specs.Descriptor as volume;

@@ -1,9 +1,14 @@
 // Lists the root directory of the image on standard input: discards the 65,536 bytes before sector 32, and keeps
 // the 32 sectors from there on.
-fn main() {
-    let mut passed = io::large_buffer();
-    io::read_full(0, &mut passed);
-    let mut kept = io::large_buffer();
-    let n = io::read_full(0, &mut kept);
-    listing::list_image(&kept[..n]);
+#![tactic(auto)]
+
+use std::io;
+use std::io::Read;
+
+fn main(rt: HostRuntime) -> io::Result<()> {
+    let mut input = rt.reader();
+    io::copy(&mut input.by_ref().take(65536), &mut io::sink())?;
+    let mut kept = Vec::with_capacity(rt.alloc(), 65536)?;
+    input.take(65536).read_to_end(&mut kept)?;
+    listing::list_image(&rt, kept.as_slice())
 }

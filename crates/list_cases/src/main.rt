@@ -1,27 +1,28 @@
 // Lists the images of data/, of each of which a file holds the bytes from sector 32 on.
-fn list_file(name: &[u8]) {
-    io::write_all(1, name);
-    io::write_all(1, b":\n");
-    let file = os::open_read(name);
-    if file < 0 {
-        io::write_all(1, b"not opened\n");
-        return;
-    }
-    let mut kept = io::large_buffer();
-    let n = io::read_full(file, &mut kept);
-    libc::close(file);
-    listing::list_image(&kept[..n]);
+#![tactic(auto)]
+
+use std::io::Read;
+use std::{fs, io};
+
+fn list_file(rt: &HostRuntime, name: &str) -> io::Result<()> {
+    println!(rt; "{name}:")?;
+    let Ok(file) = fs::open(rt, name) else {
+        return println!(rt; "not opened");
+    };
+    let mut kept = Vec::with_capacity(rt.alloc(), 65536)?;
+    file.take(65536).read_to_end(&mut kept)?;
+    listing::list_image(rt, kept.as_slice())
 }
 
-fn main() {
-    list_file(b"empty_root");
-    list_file(b"size_zero");
-    list_file(b"directory");
-    list_file(b"no_volume");
-    list_file(b"second_mark");
-    list_file(b"cut_in_mark");
-    list_file(b"cut_in_table");
-    list_file(b"link_outside");
-    list_file(b"self_loop");
-    list_file(b"nothing_at_all");
+fn main(rt: HostRuntime) -> io::Result<()> {
+    list_file(&rt, "empty_root")?;
+    list_file(&rt, "size_zero")?;
+    list_file(&rt, "directory")?;
+    list_file(&rt, "no_volume")?;
+    list_file(&rt, "second_mark")?;
+    list_file(&rt, "cut_in_mark")?;
+    list_file(&rt, "cut_in_table")?;
+    list_file(&rt, "link_outside")?;
+    list_file(&rt, "self_loop")?;
+    list_file(&rt, "nothing_at_all")
 }

@@ -1,56 +1,64 @@
 // Loads a file's limits from the image on standard input. The arguments are the file's path, the time now and the
 // greatest age, both in 100 ns, the time from the start of 1601 on. Discards the 65,536 bytes before sector 32, and
 // keeps the 32 sectors from there on.
+#![tactic(auto)]
+
 use loading::Decimal;
+use std::env::{Env, FillError};
+use std::io;
+use std::io::Read;
 use units::Sector;
 
-fn show_usage() {
-    io::write_all(
-        2,
-        b"usage: load PATH TIME AGE <IMAGE: TIME and AGE in 100 ns, TIME since the start of 1601\n",
-    );
+fn show_usage(rt: &impl Eprint) -> io::Result<()> {
+    eprintln!(rt;
+        "usage: load PATH TIME AGE <IMAGE: TIME and AGE in 100 ns, TIME since the start of 1601"
+    )
+}
+
+// Whether there is an argument of this number.
+fn has_arg(rt: &impl Env, i: usize) -> bool {
+    let mut text = [0u8; 1];
+    match rt.arg(i, &mut text) {
+        Ok(_) => true,
+        Err(FillError::TooLong) => true,
+        Err(FillError::NotPresent) => false,
+    }
 }
 
 // The number that an argument is.
-fn number_of(i: usize) -> Decimal {
-    let mut text = io::buffer();
-    let n = os::arg(i, &mut text);
-    if os::errno() != 0 {
-        return Decimal::NoNumber;
+fn number_of(rt: &impl Env, i: usize) -> Decimal {
+    let mut text = [0u8; 4096];
+    match rt.arg(i, &mut text) {
+        Ok(n) => loading::read_decimal(&text[..n]),
+        Err(_) => Decimal::NoNumber,
     }
-    loading::read_decimal(&text[..n])
 }
 
-fn load_from_input(path: &[u8], time: u64, age: u64) {
-    let mut passed = io::large_buffer();
-    io::read_full(0, &mut passed);
-    let mut kept = io::large_buffer();
-    let n = io::read_full(0, &mut kept);
-    loading::show_limits(&kept[..n], Sector::new(32), path, time, age);
+fn load_from_input(rt: &HostRuntime, path: &[u8], time: u64, age: u64) -> io::Result<()> {
+    let mut input = rt.reader();
+    io::copy(&mut input.by_ref().take(65536), &mut io::sink())?;
+    let mut kept = Vec::with_capacity(rt.alloc(), 65536)?;
+    input.take(65536).read_to_end(&mut kept)?;
+    loading::show_limits(rt, kept.as_slice(), Sector::new(32), path, time, age)
 }
 
-fn load_at(time: u64, age: u64) {
-    let mut path = io::buffer();
-    let n = os::arg(1, &mut path);
-    if os::errno() != 0 {
-        show_usage();
-        return;
-    }
-    load_from_input(&path[..n], time, age);
-}
-
-fn main() {
-    if os::arg_count() != 4 {
-        show_usage();
-        return;
-    }
-    let Decimal::Number(time) = number_of(2) else {
-        show_usage();
-        return;
+fn load_at(rt: &HostRuntime, time: u64, age: u64) -> io::Result<()> {
+    let mut path = [0u8; 4096];
+    let Ok(n) = rt.arg(1, &mut path) else {
+        return show_usage(rt);
     };
-    let Decimal::Number(age) = number_of(3) else {
-        show_usage();
-        return;
+    load_from_input(rt, &path[..n], time, age)
+}
+
+fn main(rt: HostRuntime) -> io::Result<()> {
+    if !has_arg(&rt, 3) || has_arg(&rt, 4) {
+        return show_usage(&rt);
+    }
+    let Decimal::Number(time) = number_of(&rt, 2) else {
+        return show_usage(&rt);
     };
-    load_at(time, age);
+    let Decimal::Number(age) = number_of(&rt, 3) else {
+        return show_usage(&rt);
+    };
+    load_at(&rt, time, age)
 }

@@ -1,13 +1,16 @@
 // What the programs over the limits loader share: a decimal number out of bytes, and an answer of the loader as a line
 // on standard output.
+#![tactic(auto)]
+
 ghost use Rattle.std.specs.Prelude.{◌≡◌, [], ◌∷◌};
 ghost use Rattle.loading.specs.Decimal.{told, with_digits, fitting, decimal_of};
 
 use limits::Limits;
+use std::io;
 use units::Sector;
 
 // What bytes say as a decimal number.
-#[derive(Drop)]
+#[derive(Clone, Copy)]
 pub enum Decimal {
     Number(u64),
     // There are none, or one is no digit, or the number is past 18,446,744,073,709,551,615.
@@ -55,23 +58,22 @@ pub fn read_decimal(s: &[u8]) -> Decimal
 }
 
 // A line of sector, size and stamp; or the refusal's number.
-fn show_answer(a: Limits) {
+fn show_answer(rt: &impl Print, a: Limits) -> io::Result<()> {
     if a.number != 0 {
-        io::write_all(1, b"refused ");
-        io::print_decimal(1, a.number as u64);
-        io::write_all(1, b"\n");
-        return;
+        return println!(rt; "refused {}", a.number);
     }
     let sector = a.sector;
-    io::print_decimal(1, sector.number() as u64);
-    io::write_all(1, b" ");
-    io::print_decimal(1, a.size as u64);
-    io::write_all(1, b" ");
-    io::print_decimal(1, a.stamp);
-    io::write_all(1, b"\n");
+    println!(rt; "{} {} {}", sector.number(), a.size, a.stamp)
 }
 
 // Loads a file's limits, and shows them or the refusal.
-pub fn show_limits(w: &[u8], first: Sector, path: &[u8], time: u64, age: u64) {
-    show_answer(limits::load_limits(w, first, path, time, age));
+pub fn show_limits(
+    rt: &impl Print,
+    w: &[u8],
+    first: Sector,
+    path: &[u8],
+    time: u64,
+    age: u64,
+) -> io::Result<()> {
+    show_answer(rt, limits::load_limits(w, first, path, time, age))
 }

@@ -3,13 +3,12 @@ use Prim.Native.Nat.{ℕ, ◌+◌, ◌-◌, ◌*◌}
 use mathlib.Core.Path.{◌≡◌, refl}
 use mathlib.Core.Bool.{Bool, true, false}
 use mathlib.Core.List.{List, [], ◌∷◌}
-use mathlib.Core.Option.{Option}
 use lib.Dec.{ltb, leb}
-use Rattle.units.specs.Told.{Told, gives, refuses, pick}
+use Rattle.units.specs.Told.{gives, refuses, pick}
 use Rattle.units.specs.declared.Sector.{Sector}
 use Rattle.units.specs.declared.Region.{Region}
 use Rattle.units.specs.Region.{locate_of}
-use Rattle.read_entry.specs.Entry.{Placed, read_here, read_from, read_at}
+use Rattle.read_entry.specs.Entry.{read_here, read_from, read_at}
 
 -- the byte of the image at which an offset of a table stands
 abbrev pub byte_of : Region → ℕ → ℕ

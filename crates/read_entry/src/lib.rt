@@ -1,5 +1,7 @@
 // One directory entry, read at an offset of a table out of a window: a slice of bytes and the number of its first
 // sector.
+#![tactic(auto)]
+
 ghost use Rattle.std.specs.Prelude.{◌≡◌, ◌<◌, ◌^◌};
 ghost use Rattle.units.specs.Lent.{IsPart};
 ghost use Rattle.read_entry.specs.Entry.{told, read_here, read_at, name_part};
@@ -10,7 +12,7 @@ use units::{Located, Offset, Region, Sector};
 use widths::{u8_as_u32, u8_as_usize};
 
 // What reading at an offset finds.
-#[derive(Drop)]
+#[derive(Clone, Copy)]
 pub enum Read {
     // The header, and the place in the window of its first byte.
     Entry(Header, usize),

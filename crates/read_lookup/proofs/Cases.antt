@@ -1,7 +1,6 @@
 -- Cases of the scope, and hard ones, computed over small windows. Assumes nothing.
 use Prim.Native.Nat.{ℕ}
 use mathlib.Core.Path.{◌≡◌, refl}
-use mathlib.Core.Bool.{Bool, true, false}
 use mathlib.Core.List.{List, [], ◌∷◌, ◌++◌}
 use lib.ListN.{replicate}
 use Rattle.units.specs.Told.{Told, gives, refuses}

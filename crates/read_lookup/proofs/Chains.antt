@@ -2,13 +2,12 @@
 -- Assumes nothing.
 use Prim.Native.Nat.{ℕ, zero, suc, ◌+◌, ◌-◌, ◌*◌, ◌/◌, ◌≤◌, ◌<◌}
 use mathlib.Core.Path.{◌≡◌, refl, sym, ap, subst, ◌∙◌}
-use mathlib.Core.List.{List, [], ◌∷◌}
+use mathlib.Core.List.{List, []}
 use mathlib.Core.Option.{Option, some, none}
 use native.Mathlib.Nat.{suc-add, zero-add, suc-mul, zero-mul, add_comm, le-mul_of_pos_right}
 use native.Mathlib.Omega.{arith}
 use borrow.Author.Tests.{ne_eqb}
-use Rattle.units.specs.Told.{Told, gives, refuses}
-use Rattle.read_entry.specs.Entry.{Placed}
+use Rattle.units.specs.Told.{gives, refuses}
 use Rattle.read_lookup.specs.Lookup.{Leads, found, missing, refused, onward, Finding, ending, chain_from}
 use Rattle.read_lookup.specs.Chain.{goes, offset_from, Endless, ReadsAgain, LengthIs, count_of}
 use Rattle.read_lookup.proofs.Pigeonhole.{Two, pigeonhole}

@@ -3,10 +3,10 @@
 --     looped_endless, endless_looped    .. which is exactly where the chain never ends
 --     found_stands                      an entry that is given stands at its offset, and its name is the one sought
 --     count_is_length                   a count is the length of the chain
-use Prim.Native.Nat.{ℕ, ◌+◌, ◌*◌, ◌<◌}
+use Prim.Native.Nat.{ℕ, ◌*◌, ◌<◌}
 use mathlib.Core.Path.{◌≡◌, refl, sym, ap, subst}
 use mathlib.Core.Bool.{Bool, true, false}
-use mathlib.Core.List.{List, [], ◌∷◌}
+use mathlib.Core.List.{List, []}
 use mathlib.Core.Option.{Option, some, none}
 use native.Mathlib.Omega.{arith}
 use borrow.Author.Tests.{ne_eqb}
@@ -20,7 +20,7 @@ use Rattle.name_role.specs.Roles.{sought_order, bad_sought}
 use Rattle.read_entry.specs.Entry.{Placed, read_at, name_of}
 use Rattle.read_entry.specs.Links.{is_in}
 use Rattle.read_entry.proofs.Fit.{Bytes, left_fits, right_fits, refusal_is}
-use Rattle.read_lookup.specs.Lookup.{Leads, found, missing, refused, onward, Finding, by_link, by_order, by_read, step_at, most, chain_from, lookup_by}
+use Rattle.read_lookup.specs.Lookup.{Leads, found, missing, onward, Finding, by_link, by_order, by_read, step_at, most, chain_from, lookup_by}
 use Rattle.read_lookup.specs.Chain.{Endless, ReadsAgain, LengthIs, count_of}
 use Rattle.read_lookup.proofs.Chains as chains
 

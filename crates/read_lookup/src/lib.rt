@@ -1,5 +1,7 @@
 // A name is looked up in a table, under a rule: along the links, with the number of headers read. A rule says which
 // links are absent, 0 and another.
+#![tactic(auto)]
+
 ghost use Rattle.std.specs.Prelude.{◌≡◌, [], ◌∷◌};
 ghost use Rattle.read_entry.specs.Links.{absent_under};
 ghost use Rattle.name_role.specs.Roles.{bad_sought};
@@ -12,7 +14,7 @@ use read_entry::Read;
 use units::{Link, Offset, Region, Sector};
 
 // What the header at one offset leads to.
-#[derive(Drop)]
+#[derive(Clone, Copy)]
 pub enum Step {
     // The entry sought, and its place in the window.
     Found(Header, usize),
@@ -25,7 +27,7 @@ pub enum Step {
 }
 
 // What the number of a rule names.
-#[derive(Drop)]
+#[derive(Clone, Copy)]
 pub enum Ruled {
     // The link that is absent under the rule; 0 is absent under every rule.
     Absent(u16),
@@ -34,7 +36,7 @@ pub enum Ruled {
 }
 
 // What a lookup answers.
-#[derive(Drop)]
+#[derive(Clone, Copy)]
 pub enum Looked {
     // The entry: its header, the place in the window of its first byte, its offset in the table; and the number of
     // headers read.

@@ -9,7 +9,7 @@ use borrow.Author.Tests.{leb-true, leb-false}
 use native.Mathlib.Decide.{ℕ_discrete}
 use lib.ListN.{length, take, drop, length-drop, drop_of_length-le}
 use lib.Seq.{take-length, drop-drop}
-use Rattle.units.specs.Told.{Told, gives, refuses, pick}
+use Rattle.units.specs.Told.{Told, refuses, pick}
 use Rattle.units.specs.declared.Sector.{Sector}
 use Rattle.units.specs.declared.Region.{Region}
 use Rattle.read_entry.specs.Entry.{Placed}

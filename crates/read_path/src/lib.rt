@@ -1,5 +1,7 @@
 // A path is followed from a table, under a rule: each part of it is looked up in the table that the part before it
 // names.
+#![tactic(auto)]
+
 ghost use Rattle.std.specs.Prelude.{◌≡◌, [], ◌∷◌, ◌+◌, ◌≤◌, length, drop};
 ghost use Rattle.read_lookup.specs.Lookup as lookup;
 ghost use Rattle.read_path.specs.Path.{trim, told, last_of, path_by, path_of};
@@ -10,7 +12,7 @@ use read_lookup::{Looked, Ruled};
 use units::{Offset, Region, Sector};
 
 // What a path leads to.
-#[derive(Drop)]
+#[derive(Clone, Copy)]
 pub enum PathFound {
     // The entry: its header, and the place in the window of its first byte.
     Entry(Header, usize),
@@ -31,7 +33,7 @@ pub enum PathFound {
 }
 
 // The answer of a part: the table to go into, or the path's answer.
-#[derive(Drop)]
+#[derive(Clone, Copy)]
 pub enum Turn {
     Into(Region),
     Stop(PathFound),

@@ -1,5 +1,7 @@
 // What stands at a place of a table, an offset in it: the entry's name, the table of a directory, and the entries
 // to the left and to the right.
+#![tactic(auto)]
+
 ghost use Rattle.std.specs.Prelude.{◌≡◌};
 ghost use Rattle.units.specs.Lent.{IsPart};
 ghost use Rattle.read_entry.specs.Links.{walk_absent};
@@ -11,7 +13,7 @@ use read_entry::Read;
 use units::{Link, Offset, Region, Sector};
 
 // What going into the entry at a place answers.
-#[derive(Drop)]
+#[derive(Clone, Copy)]
 pub enum Entered {
     // The directory's table.
     Into(Region),
@@ -25,7 +27,7 @@ pub enum Entered {
 }
 
 // What one of an entry's two links leads to.
-#[derive(Drop)]
+#[derive(Clone, Copy)]
 pub enum Linked {
     // The offset that the link names.
     To(Offset),

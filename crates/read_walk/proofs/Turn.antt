@@ -1,8 +1,8 @@
 -- One turn of the walk's loop, over plain lists and numbers: each way out of it, and each way round. Assumes nothing.
-use Prim.Native.Nat.{ℕ, zero, suc, ◌+◌, ◌-◌, ◌*◌, ◌^◌, ◌≤◌, ◌<◌}
+use Prim.Native.Nat.{ℕ, suc, ◌+◌, ◌-◌, ◌*◌, ◌^◌, ◌≤◌, ◌<◌}
 use mathlib.Core.Path.{◌≡◌, refl, sym, ap, ◌∙◌}
-use mathlib.Core.List.{List, [], ◌∷◌, ◌++◌, append-nil}
-use mathlib.Core.Option.{Option, some, none}
+use mathlib.Core.List.{List, [], ◌∷◌, append-nil}
+use mathlib.Core.Option.{some}
 use native.Mathlib.Omega.{arith}
 use native.Mathlib.Nat.{sub-zero}
 use native.Mathlib.Numerals.{add-one}
@@ -15,13 +15,13 @@ use Rattle.units.specs.declared.Region.{Region}
 use Rattle.layout_node.specs.declared.Header.{Header}
 use Rattle.read_entry.specs.declared.Read.{Read}
 use Rattle.read_entry.specs.declared.Read.TheVariants as read
-use Rattle.read_entry.specs.Entry.{Placed, read_at}
+use Rattle.read_entry.specs.Entry.{read_at}
 use Rattle.read_entry.specs.Entry as entry-said
 use Rattle.read_entry.specs.Links.{walk_absent}
 use Rattle.read_walk.specs.declared.Walked.{Walked}
 use Rattle.read_walk.specs.declared.Walked.TheVariants as walked
 use Rattle.read_walk.specs.Walk.{before, push, walk_from, counted, told}
-use Rattle.read_walk.specs.inner.Run.{stack_of, Pushed, kept_of, listed_of, Runs}
+use Rattle.read_walk.specs.inner.Run.{stack_of, Pushed, kept_of, Runs}
 use Rattle.read_walk.proofs.Stack.{stack_pop}
 use Rattle.read_walk.proofs.Steps.{before_none, before-before, walk_none, walk_nothing, walk_refused, walk_full, walk_entry}
 

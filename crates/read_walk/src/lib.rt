@@ -1,4 +1,6 @@
 // A table is walked: preorder, left before right, into a lent list of offsets, with a lent scratch for the stack.
+#![tactic(auto)]
+
 ghost use Rattle.std.specs.Prelude.{◌≡◌, [], ◌∷◌, ◌<◌, length};
 ghost use Rattle.read_entry.specs.Entry.{read_at};
 ghost use Rattle.read_entry.specs.Links.{walk_absent};
@@ -10,7 +12,7 @@ use scratch::{clear_from, clear_words};
 use units::{Link, Offset, Region, Sector};
 
 // What a walk answers.
-#[derive(Drop)]
+#[derive(Clone, Copy)]
 pub enum Walked {
     // So many offsets are listed.
     Done(usize),

@@ -15,8 +15,8 @@
 //
 //     r.find_path(b"media/default.xbe", 2)            answers PathFound::Entry(h, _)
 //
-// An answer holds no reader, since an enum holds no reference: `look_up`, `left` and `right` answer an offset, for
-// `placed`, and `enter` a table, for `within`.
+// An answer holds no reader: `look_up`, `left` and `right` answer an offset, for `placed`, and `enter` a table, for
+// `within`.
 //
 // To go through a table of a size other than 0, keep the offsets to come on a stack of your own, 0 at first: take
 // one off, ask the reader placed there for `entry` and `name`, and put on what `right` and then `left` lead to.
@@ -24,9 +24,10 @@
 // does not say what is next in a walk: where two links name one entry, the walk lists it twice, and what follows
 // differs (there, `no_next`).
 //
-// A function that takes, makes or holds a reader is proved by hand, and without a branch in it. So each function
-// here takes the reader apart and calls one that is not; crate reader_cases shows how a program that uses a reader
-// is cut.
+// Each function here takes the reader apart and calls one that takes its parts; crate reader_cases is a program that
+// uses a reader.
+#![tactic(auto)]
+
 ghost use Rattle.std.specs.Prelude.{◌≡◌};
 ghost use Rattle.units.specs.Lent.{IsPart};
 ghost use Rattle.read_entry.specs.Entry as reading;
@@ -44,7 +45,7 @@ pub use units::{Offset, Region, Sector};
 
 // The window, its first sector, the table and the offset in it. The fields stand in the order in which the readers
 // take them.
-#[derive(Drop)]
+#[derive(Clone, Copy)]
 pub struct Reader<'a> {
     window: &'a [u8],
     first: Sector,

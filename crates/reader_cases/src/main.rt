@@ -1,7 +1,9 @@
 // What a reader answers over an image of data/, of which a file holds the bytes from sector 32 on.
 //
-// A function that has a reader in a local is proved by hand, and has no branch in it: each of the first eight opens
-// a reader, moves it and asks it one thing. What stands after them has no reader, and goes by their answers.
+// Each of the first eight functions opens a reader, moves it and asks it one thing. What stands after them has no
+// reader, goes by their answers, and writes them out.
+#![tactic(auto)]
+
 ghost use Rattle.std.specs.Prelude.{◌≡◌};
 ghost use Rattle.units.specs.Lent.{IsPart};
 ghost use Rattle.read_entry.specs.Entry as reading;
@@ -15,6 +17,8 @@ use read_lookup::Looked;
 use read_path::PathFound;
 use read_place::{Entered, Linked};
 use reader::Reader;
+use std::io::Read as _;
+use std::{fs, io};
 use units::{Offset, Region, Sector};
 
 fn find(w: &[u8], first: Sector, table: Region, name: &[u8], rule: u32) -> Looked
@@ -74,227 +78,235 @@ fn right_at(w: &[u8], first: Sector, table: Region, at: Offset) -> Linked
     Reader::new(w, first, table).placed(at).right()
 }
 
-fn show_refusal(n: u64) {
-    io::write_all(1, b"refused ");
-    io::print_decimal(1, n);
+fn show_refusal(rt: &impl Print, n: u64) -> io::Result<()> {
+    print!(rt; "refused {n}")
 }
 
-fn show_region(sector: Sector, size: u32) {
-    io::print_decimal(1, sector.number() as u64);
-    io::write_all(1, b" ");
-    io::print_decimal(1, size as u64);
+fn show_region(rt: &impl Print, sector: Sector, size: u32) -> io::Result<()> {
+    let number = sector.number();
+    print!(rt; "{number} {size}")
 }
 
-fn show_entry(w: &[u8], first: Sector, table: Region, at: Offset) {
+fn show_entry(
+    rt: &impl Print,
+    w: &[u8],
+    first: Sector,
+    table: Region,
+    at: Offset,
+) -> io::Result<()> {
     match entry_at(w, first, table, at) {
         Read::Entry(h, _) => {
-            io::write_all(1, name_at(w, first, table, at));
-            io::write_all(1, b" ");
-            let sector = h.sector;
-            show_region(sector, h.size);
+            rt.write_all(name_at(w, first, table, at))?;
+            print!(rt; " ")?;
+            show_region(rt, h.sector, h.size)
         }
-        Read::Nothing => {
-            io::write_all(1, b"no entry");
-        }
-        Read::OutOfBounds(_) => show_refusal(23),
-        Read::Truncated(_) => show_refusal(24),
+        Read::Nothing => print!(rt; "no entry"),
+        Read::OutOfBounds(_) => show_refusal(rt, 23),
+        Read::Truncated(_) => show_refusal(rt, 24),
     }
 }
 
-fn show_link(a: Linked) {
+fn show_link(rt: &impl Print, a: Linked) -> io::Result<()> {
     match a {
         Linked::To(o) => {
-            io::print_decimal(1, o.number() as u64);
+            let number = o.number();
+            print!(rt; "{number}")
         }
-        Linked::Absent => {
-            io::write_all(1, b"absent");
-        }
-        Linked::OutOfBounds(_) => show_refusal(23),
-        Linked::Truncated(_) => show_refusal(24),
+        Linked::Absent => print!(rt; "absent"),
+        Linked::OutOfBounds(_) => show_refusal(rt, 23),
+        Linked::Truncated(_) => show_refusal(rt, 24),
     }
 }
 
-fn show_table(a: Entered) {
+fn show_table(rt: &impl Print, a: Entered) -> io::Result<()> {
     match a {
-        Entered::Into(t) => {
-            let sector = t.sector;
-            show_region(sector, t.size);
-        }
-        Entered::DoesNotExist => show_refusal(22),
-        Entered::OutOfBounds(_) => show_refusal(23),
-        Entered::Truncated(_) => show_refusal(24),
-        Entered::IsNotDirectory => show_refusal(27),
+        Entered::Into(t) => show_region(rt, t.sector, t.size),
+        Entered::DoesNotExist => show_refusal(rt, 22),
+        Entered::OutOfBounds(_) => show_refusal(rt, 23),
+        Entered::Truncated(_) => show_refusal(rt, 24),
+        Entered::IsNotDirectory => show_refusal(rt, 27),
     }
 }
 
 // A line for an offset of a table: the entry, where its links lead, and the table of a directory.
-fn show_place(w: &[u8], first: Sector, table: Region, offset: u32) {
+fn show_place(
+    rt: &impl Print,
+    w: &[u8],
+    first: Sector,
+    table: Region,
+    offset: u32,
+) -> io::Result<()> {
     let at = Offset::new(offset);
-    io::print_decimal(1, offset as u64);
-    io::write_all(1, b": ");
-    show_entry(w, first, table, at);
-    io::write_all(1, b"; left ");
-    show_link(left_at(w, first, table, at));
-    io::write_all(1, b"; right ");
-    show_link(right_at(w, first, table, at));
-    io::write_all(1, b"; table ");
-    show_table(enter_at(w, first, table, at));
-    io::write_all(1, b"\n");
+    print!(rt; "{offset}: ")?;
+    show_entry(rt, w, first, table, at)?;
+    print!(rt; "; left ")?;
+    show_link(rt, left_at(w, first, table, at))?;
+    print!(rt; "; right ")?;
+    show_link(rt, right_at(w, first, table, at))?;
+    print!(rt; "; table ")?;
+    show_table(rt, enter_at(w, first, table, at))?;
+    print!(rt; "\n")
 }
 
-fn show_looked(name: &[u8], a: Looked) {
-    io::write_all(1, name);
-    io::write_all(1, b": ");
+// What a lookup answers.
+fn show_finding(rt: &impl Print, a: Looked) -> io::Result<()> {
     match a {
         Looked::Found(h, _, at, n) => {
-            io::write_all(1, b"at ");
-            io::print_decimal(1, at.number() as u64);
-            io::write_all(1, b" after ");
-            io::print_decimal(1, n as u64);
-            io::write_all(1, b", ");
-            let sector = h.sector;
-            show_region(sector, h.size);
+            let number = at.number();
+            print!(rt; "at {number} after {n}, ")?;
+            show_region(rt, h.sector, h.size)
         }
-        Looked::BadRule => show_refusal(29),
-        Looked::BadByte => show_refusal(2),
-        Looked::DirectoryEmpty => show_refusal(21),
+        Looked::BadRule => show_refusal(rt, 29),
+        Looked::BadByte => show_refusal(rt, 2),
+        Looked::DirectoryEmpty => show_refusal(rt, 21),
         Looked::DoesNotExist(n) => {
-            show_refusal(22);
-            io::write_all(1, b" after ");
-            io::print_decimal(1, n as u64);
+            show_refusal(rt, 22)?;
+            print!(rt; " after {n}")
         }
-        Looked::OutOfBounds(_) => show_refusal(23),
-        Looked::Truncated(_) => show_refusal(24),
-        Looked::Looped => show_refusal(25),
+        Looked::OutOfBounds(_) => show_refusal(rt, 23),
+        Looked::Truncated(_) => show_refusal(rt, 24),
+        Looked::Looped => show_refusal(rt, 25),
     }
-    io::write_all(1, b"\n");
 }
 
-fn show_stop(n: u64) {
-    show_refusal(n);
-    io::write_all(1, b"\n");
+fn show_looked(rt: &impl Print, name: &[u8], a: Looked) -> io::Result<()> {
+    rt.write_all(name)?;
+    print!(rt; ": ")?;
+    show_finding(rt, a)?;
+    print!(rt; "\n")
+}
+
+fn show_stop(rt: &impl Print, n: u64) -> io::Result<()> {
+    show_refusal(rt, n)?;
+    print!(rt; "\n")
 }
 
 // A name in the directory at an offset of a table.
-fn show_within(w: &[u8], first: Sector, table: Region, at: Offset, name: &[u8], rule: u32) {
+fn show_within(
+    rt: &impl Print,
+    w: &[u8],
+    first: Sector,
+    table: Region,
+    at: Offset,
+    name: &[u8],
+    rule: u32,
+) -> io::Result<()> {
     match enter_at(w, first, table, at) {
-        Entered::Into(inner) => show_looked(name, find_within(w, first, table, inner, name, rule)),
-        Entered::DoesNotExist => show_stop(22),
-        Entered::OutOfBounds(_) => show_stop(23),
-        Entered::Truncated(_) => show_stop(24),
-        Entered::IsNotDirectory => show_stop(27),
+        Entered::Into(inner) => {
+            show_looked(rt, name, find_within(w, first, table, inner, name, rule))
+        }
+        Entered::DoesNotExist => show_stop(rt, 22),
+        Entered::OutOfBounds(_) => show_stop(rt, 23),
+        Entered::Truncated(_) => show_stop(rt, 24),
+        Entered::IsNotDirectory => show_stop(rt, 27),
     }
 }
 
 // A path of two names, as a loader goes it.
-fn show_path(w: &[u8], first: Sector, table: Region, dir: &[u8], name: &[u8], rule: u32) {
+fn show_path(
+    rt: &impl Print,
+    w: &[u8],
+    first: Sector,
+    table: Region,
+    dir: &[u8],
+    name: &[u8],
+    rule: u32,
+) -> io::Result<()> {
     match find(w, first, table, dir, rule) {
-        Looked::Found(_, _, at, _) => show_within(w, first, table, at, name, rule),
-        Looked::BadRule => show_stop(29),
-        Looked::BadByte => show_stop(2),
-        Looked::DirectoryEmpty => show_stop(21),
-        Looked::DoesNotExist(_) => show_stop(22),
-        Looked::OutOfBounds(_) => show_stop(23),
-        Looked::Truncated(_) => show_stop(24),
-        Looked::Looped => show_stop(25),
+        Looked::Found(_, _, at, _) => show_within(rt, w, first, table, at, name, rule),
+        Looked::BadRule => show_stop(rt, 29),
+        Looked::BadByte => show_stop(rt, 2),
+        Looked::DirectoryEmpty => show_stop(rt, 21),
+        Looked::DoesNotExist(_) => show_stop(rt, 22),
+        Looked::OutOfBounds(_) => show_stop(rt, 23),
+        Looked::Truncated(_) => show_stop(rt, 24),
+        Looked::Looped => show_stop(rt, 25),
     }
 }
 
-// A path in one call.
-fn show_found(path: &[u8], a: PathFound) {
-    io::write_all(1, path) {
-    match find(w, first, table, dir, rule) {
-        Looked::Found(_, _, at, _) => show_within(w, first, table, at, name, rule),
-        Looked::BadRule => show_stop(29),
-        Looked::BadByte => show_stop(2),
-        Looked::DirectoryEmpty => show_stop(21),
-        Looked::DoesNotExist(_) => show_stop(22),
-        Looked::OutOfBounds(_) => show_stop(23),
-        Looked::Truncated(_) => show_stop(24),
-        Looked::Looped => show_stop(25),
-    }
-}
-
-// A path in one call.
-fn show_found(path: &[u8], a: PathFound) {
-    io::write_all(1, path) {
-    io::write_all(1, path);
-    io::write_all(1, b": ");
+// What following a path answers.
+fn show_end(rt: &impl Print, a: PathFound) -> io::Result<()> {
     match a {
-        PathFound::Entry(h, _) => {
-            let sector = h.sector;
-            show_region(sector, h.size);
-        }
-        PathFound::BadRule => show_refusal(29),
-        PathFound::BadByte => show_refusal(2),
-        PathFound::DirectoryEmpty => show_refusal(21),
-        PathFound::DoesNotExist => show_refusal(22),
-        PathFound::OutOfBounds(_) => show_refusal(23),
-        PathFound::Truncated(_) => show_refusal(24),
-        PathFound::Looped => show_refusal(25),
-        PathFound::IsNotDirectory => show_refusal(27),
-        PathFound::NoDirent => show_refusal(28),
+        PathFound::Entry(h, _) => show_region(rt, h.sector, h.size),
+        PathFound::BadRule => show_refusal(rt, 29),
+        PathFound::BadByte => show_refusal(rt, 2),
+        PathFound::DirectoryEmpty => show_refusal(rt, 21),
+        PathFound::DoesNotExist => show_refusal(rt, 22),
+        PathFound::OutOfBounds(_) => show_refusal(rt, 23),
+        PathFound::Truncated(_) => show_refusal(rt, 24),
+        PathFound::Looped => show_refusal(rt, 25),
+        PathFound::IsNotDirectory => show_refusal(rt, 27),
+        PathFound::NoDirent => show_refusal(rt, 28),
     }
-    io::write_all(1, b"\n");
+}
+
+// A path in one call.
+fn show_found(rt: &impl Print, path: &[u8], a: PathFound) -> io::Result<()> {
+    rt.write_all(path)?;
+    print!(rt; ": ")?;
+    show_end(rt, a)?;
+    print!(rt; "\n")
 }
 
 // Names and paths under the rule of a number. The rules differ in the root, left of `art` and right of `media`, and
 // in the directory `media`, right of `default.xbe`.
-fn show_rule(w: &[u8], first: Sector, root: Region, rule: u32) {
-    io::write_all(1, b"rule ");
-    io::print_decimal(1, rule as u64);
-    io::write_all(1, b"\n");
-    show_looked(b"aaa", find(w, first, root, b"aaa", rule));
-    show_looked(b"zebra", find(w, first, root, b"zebra", rule));
-    show_path(w, first, root, b"media", b"zebra", rule);
-    show_within(w, first, root, Offset::new(0), b"Default.xbe", rule);
+fn show_rule(rt: &impl Print, w: &[u8], first: Sector, root: Region, rule: u32) -> io::Result<()> {
+    println!(rt; "rule {rule}")?;
+    show_looked(rt, b"aaa", find(w, first, root, b"aaa", rule))?;
+    show_looked(rt, b"zebra", find(w, first, root, b"zebra", rule))?;
+    show_path(rt, w, first, root, b"media", b"zebra", rule)?;
+    show_within(rt, w, first, root, Offset::new(0), b"Default.xbe", rule)?;
     show_found(
+        rt,
         b"media/zebra",
         find_by_path(w, first, root, b"media/zebra", rule),
-    );
-    show_found(b"/", find_by_path(w, first, root, b"/", rule));
+    )?;
+    show_found(rt, b"/", find_by_path(w, first, root, b"/", rule))
 }
 
-fn show_image(w: &[u8]) {
+fn show_root(rt: &impl Print, w: &[u8], first: Sector, root: Region) -> io::Result<()> {
+    show_place(rt, w, first, root, 0)?;
+    show_place(rt, w, first, root, 20)?;
+    show_place(rt, w, first, root, 40)?;
+    show_place(rt, w, first, root, 64)?;
+    show_looked(rt, b"ART", find(w, first, root, b"ART", 1))?;
+    show_looked(rt, b"aaa", find(w, first, root, b"aaa", 1))?;
+    show_looked(rt, b"zebra", find(w, first, root, b"zebra", 1))?;
+    show_path(rt, w, first, root, b"media", b"Default.xbe", 1)?;
+    show_path(rt, w, first, root, b"media", b"zebra", 1)?;
+    show_path(rt, w, first, root, b"art", b"zebra", 1)?;
+    show_found(
+        rt,
+        b"/Media/default.XBE",
+        find_by_path(w, first, root, b"/Media/default.XBE", 1),
+    )?;
+    show_found(
+        rt,
+        b"art/zebra",
+        find_by_path(w, first, root, b"art/zebra", 1),
+    )?;
+    show_found(rt, b"/", find_by_path(w, first, root, b"/", 1))?;
+    show_found(
+        rt,
+        b"media/zebra",
+        find_by_path(w, first, root, b"media/zebra", 1),
+    )?;
+    show_rule(rt, w, first, root, 2)?;
+    show_rule(rt, w, first, root, 3)
+}
+
+fn show_image(rt: &impl Print, w: &[u8]) -> io::Result<()> {
     match layout_volume::read_descriptor(w) {
-        DescriptorRead::Volume(d) => {
-            let first = Sector::new(32);
-            let root = d.root;
-            show_place(w, first, root, 0);
-            show_place(w, first, root, 20);
-            show_place(w, first, root, 40);
-            show_place(w, first, root, 64);
-            show_looked(b"ART", find(w, first, root, b"ART", 1));
-            show_looked(b"aaa", find(w, first, root, b"aaa", 1));
-            show_looked(b"zebra", find(w, first, root, b"zebra", 1));
-            show_path(w, first, root, b"media", b"Default.xbe", 1);
-            show_path(w, first, root, b"media", b"zebra", 1);
-            show_path(w, first, root, b"art", b"zebra", 1);
-            show_found(
-                b"/Media/default.XBE",
-                find_by_path(w, first, root, b"/Media/default.XBE", 1),
-            );
-            show_found(b"art/zebra", find_by_path(w, first, root, b"art/zebra", 1));
-            show_found(b"/", find_by_path(w, first, root, b"/", 1));
-            show_found(
-                b"media/zebra",
-                find_by_path(w, first, root, b"media/zebra", 1),
-            );
-            show_rule(w, first, root, 2);
-            show_rule(w, first, root, 3);
-        }
-        DescriptorRead::NoVolume => show_stop(20),
+        DescriptorRead::Volume(d) => show_root(rt, w, Sector::new(32), d.root),
+        DescriptorRead::NoVolume => show_stop(rt, 20),
     }
 }
 
-fn main() {
-    let file = os::open_read(b"tree");
-    if file < 0 {
-        io::write_all(1, b"not opened\n");
-        return;
-    }
-    let mut kept = io::large_buffer();
-    let n = io::read_full(file, &mut kept);
-    libc::close(file);
-    show_image(&kept[..n]);
+fn main(rt: HostRuntime) -> io::Result<()> {
+    let Ok(file) = fs::open(&rt, "tree") else {
+        return println!(rt; "not opened");
+    };
+    let mut kept = Vec::with_capacity(rt.alloc(), 65536)?;
+    file.take(65536).read_to_end(&mut kept)?;
+    show_image(&rt, kept.as_slice())
 }

@@ -37,6 +37,8 @@
 //         1 sector and 5 size of the root, 9 stamp (eight bytes), 17 the descriptor's 2,048 bytes.
 //   v     a descriptor read:
 //         1 number, 5 sector and 9 size of the root, 13 stamp (eight bytes), 21 the bytes that are read.
+#![tactic(auto)]
+
 mod names; // recorded names of tables, under both rules
 mod plan; // recorded plans
 mod read; // recorded lookups, paths and walks
@@ -45,9 +47,12 @@ mod table; // recorded tables
 mod volume; // recorded descriptors
 
 use record::{part, rest, short_at};
+use std::alloc::Global;
+use std::io::Read;
+use std::{fs, io};
 
 // How many records of each kind were run, and how many differ.
-#[derive(Drop)]
+#[derive(Clone, Copy)]
 struct Tally {
     tables: u32,
     plans: u32,
@@ -157,23 +162,20 @@ fn run_block(t: Tally, s: &[u8]) -> Tally {
 }
 
 // The next block of the file.
-fn run_next(t: Tally, file: i32) -> Tally {
-    let mut kept = io::large_buffer();
-    let n = io::read_full(file, &mut kept);
-    run_block(t, &kept[..n])
+fn run_next(alloc: Global, t: Tally, file: &mut impl Read) -> io::Result<Tally> {
+    let mut kept = Vec::with_capacity(alloc, 65536)?;
+    file.by_ref().take(65536).read_to_end(&mut kept)?;
+    Ok(run_block(t, kept.as_slice()))
 }
 
-fn show(n: u32, what: &[u8]) {
-    io::print_decimal(1, n as u64);
-    io::write_all(1, what);
+fn show(rt: &impl Print, n: u32, what: &str) -> io::Result<()> {
+    println!(rt; "{n} {what}")
 }
 
-fn main() {
-    let file = os::open_read(b"answers");
-    if file < 0 {
-        io::write_all(1, b"not opened\n");
-        return;
-    }
+fn main(rt: HostRuntime) -> io::Result<()> {
+    let Ok(mut file) = fs::open(&rt, "answers") else {
+        return println!(rt; "not opened");
+    };
     let mut t = Tally {
         tables: 0,
         plans: 0,
@@ -188,18 +190,17 @@ fn main() {
     };
     let mut i: u32 = 0;
     while i < 32 {
-        t = run_next(t, file);
+        t = run_next(rt.alloc(), t, &mut file)?;
         i += 1;
     }
-    libc::close(file);
-    show(t.tables, b" tables\n");
-    show(t.plans, b" plans\n");
-    show(t.lookups, b" lookups\n");
-    show(t.paths, b" paths\n");
-    show(t.walks, b" walks\n");
-    show(t.written, b" descriptors written\n");
-    show(t.volumes, b" descriptors read\n");
-    show(t.no_rule, b" under no rule\n");
-    show(t.names, b" names under both rules\n");
-    show(t.differ, b" differ\n");
+    show(&rt, t.tables, "tables")?;
+    show(&rt, t.plans, "plans")?;
+    show(&rt, t.lookups, "lookups")?;
+    show(&rt, t.paths, "paths")?;
+    show(&rt, t.walks, "walks")?;
+    show(&rt, t.written, "descriptors written")?;
+    show(&rt, t.volumes, "descriptors read")?;
+    show(&rt, t.no_rule, "under no rule")?;
+    show(&rt, t.names, "names under both rules")?;
+    show(&rt, t.differ, "differ")
 }

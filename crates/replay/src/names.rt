@@ -34,33 +34,6 @@ fn is_path_to(a: &[u8], r: PathFound, n: u32) -> bool {
 }
 
 fn same_under_two(s: &[u8], a: &[u8], w: &[u8], name: &[u8]) -> bool {
-    let first = Sector::new(number_at(s, 1)) -> bool {
-    match r {
-        Looked::DoesNotExist(headers) => is(a, 0, 22) && is(a, 36, headers),
-        _ => is_looked(a, r),
-    }
-}
-
-// Whether a path under a rule gives the listed entry, or 22 where that is the number.
-fn is_path_to(a: &[u8], r: PathFound, n: u32) -> bool {
-    match r {
-        PathFound::Entry(h, place) => n == 0 && is_entry(a, h, place),
-        PathFound::DoesNotExist => n == 22,
-        _ => false,
-    }
-}
-
-fn same_under_two(s: &[u8], a: &[u8], w: &[u8], name: &[u8]) -> bool {
-    let first = Sector::new(number_at(s, 1)) -> bool {
-    match r {
-        PathFound::Entry(h, place) => n == 0 && is_entry(a, h, place),
-        PathFound::DoesNotExist => n == 22,
-        _ => false,
-    }
-}
-
-fn same_under_two(s: &[u8], a: &[u8], w: &[u8], name: &[u8]) -> bool {
-    let first = Sector::new(number_at(s, 1)) -> bool {
     let first = Sector::new(number_at(s, 1));
     is_listed(a, xdvdfs::look_up(w, first, region_at(s, 5), name, 2))
         && is_path_to(a, xdvdfs::find_path(w, first, region_at(s, 5), name, 2), 0)

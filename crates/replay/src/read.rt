@@ -22,7 +22,6 @@ fn numbers_of(s: &[u8]) -> &[u8] {
 
 // Whether the recorded entry is this one.
 pub fn is_entry(a: &[u8], h: Header, place: usize) -> bool {
-    let left = h.left -> bool {
     let left = h.left;
     let right = h.right;
     let sector = h.sector;
@@ -81,64 +80,6 @@ fn is_followed(a: &[u8], r: PathFound) -> bool {
 
 // The recorded lookup under a rule, and the recorded path.
 fn look_up_by(s: &[u8], rule: u32) -> Looked {
-    let n = short_at(s, 13) -> bool {
-    match r {
-        Looked::Found(h, place, offset, headers) => is(a, 0, 0)
-            && is_entry(a, h, place)
-            && is(a, 32, offset.number())
-            && is(a, 36, headers),
-        Looked::BadRule => is_refusal(a, 29, 0, 0),
-        Looked::BadByte => is_refusal(a, 2, 0, 0),
-        Looked::DirectoryEmpty => is_refusal(a, 21, 0, 0),
-        Looked::DoesNotExist(headers) => is_refusal(a, 22, 0, headers),
-        Looked::OutOfBounds(o) => is_refusal(a, 23, o.number(), 0),
-        Looked::Truncated(o) => is_refusal(a, 24, o.number(), 0),
-        Looked::Looped => is_refusal(a, 25, 0, 0),
-    }
-}
-
-// Whether the recorded path is this one.
-fn is_followed(a: &[u8], r: PathFound) -> bool {
-    match r {
-        PathFound::Entry(h, place) => is(a, 0, 0)
-            && is_entry(a, h, place)
-            && is(a, 32, 0)
-            && is(a, 36, 0),
-        PathFound::BadRule => is_refusal(a, 29, 0, 0),
-        PathFound::BadByte => is_refusal(a, 2, 0, 0),
-        PathFound::DirectoryEmpty => is_refusal(a, 21, 0, 0),
-        PathFound::DoesNotExist => is_refusal(a, 22, 0, 0),
-        PathFound::OutOfBounds(o) => is_refusal(a, 23, o.number(), 0),
-        PathFound::Truncated(o) => is_refusal(a, 24, o.number(), 0),
-        PathFound::Looped => is_refusal(a, 25, 0, 0),
-        PathFound::IsNotDirectory => is_refusal(a, 27, 0, 0),
-        PathFound::NoDirent => is_refusal(a, 28, 0, 0),
-    }
-}
-
-// The recorded lookup under a rule, and the recorded path.
-fn look_up_by(s: &[u8], rule: u32) -> Looked {
-    let n = short_at(s, 13) -> bool {
-    match r {
-        PathFound::Entry(h, place) => is(a, 0, 0)
-            && is_entry(a, h, place)
-            && is(a, 32, 0)
-            && is(a, 36, 0),
-        PathFound::BadRule => is_refusal(a, 29, 0, 0),
-        PathFound::BadByte => is_refusal(a, 2, 0, 0),
-        PathFound::DirectoryEmpty => is_refusal(a, 21, 0, 0),
-        PathFound::DoesNotExist => is_refusal(a, 22, 0, 0),
-        PathFound::OutOfBounds(o) => is_refusal(a, 23, o.number(), 0),
-        PathFound::Truncated(o) => is_refusal(a, 24, o.number(), 0),
-        PathFound::Looped => is_refusal(a, 25, 0, 0),
-        PathFound::IsNotDirectory => is_refusal(a, 27, 0, 0),
-        PathFound::NoDirent => is_refusal(a, 28, 0, 0),
-    }
-}
-
-// The recorded lookup under a rule, and the recorded path.
-fn look_up_by(s: &[u8], rule: u32) -> Looked {
-    let n = short_at(s, 13) -> Looked {
     let n = short_at(s, 13);
     xdvdfs::look_up(
         rest(s, 55 + n),
@@ -184,54 +125,6 @@ pub fn refused_path(s: &[u8]) -> bool {
 }
 
 fn is_walk(s: &[u8], n: u32, offset: u32, list: &[u32]) -> bool
-    requires { length list.now ≤ 65536 }
- -> bool {
-    is_followed(numbers_of(s), find_path_by(s, 1))
-}
-
-// Whether what is recorded is refused under a number that is no rule.
-pub fn refused_lookup(s: &[u8]) -> bool {
-    match look_up_by(s, 3) {
-        Looked::BadRule => true,
-        _ => false,
-    }
-}
-
-pub fn refused_path(s: &[u8]) -> bool {
-    match find_path_by(s, 3) {
-        PathFound::BadRule => true,
-        _ => false,
-    }
-}
-
-fn is_walk(s: &[u8], n: u32, offset: u32, list: &[u32]) -> bool
-    requires { length list.now ≤ 65536 }
- -> bool {
-    match look_up_by(s, 3) {
-        Looked::BadRule => true,
-        _ => false,
-    }
-}
-
-pub fn refused_path(s: &[u8]) -> bool {
-    match find_path_by(s, 3) {
-        PathFound::BadRule => true,
-        _ => false,
-    }
-}
-
-fn is_walk(s: &[u8], n: u32, offset: u32, list: &[u32]) -> bool
-    requires { length list.now ≤ 65536 }
- -> bool {
-    match find_path_by(s, 3) {
-        PathFound::BadRule => true,
-        _ => false,
-    }
-}
-
-fn is_walk(s: &[u8], n: u32, offset: u32, list: &[u32]) -> bool
-    requires { length list.now ≤ 65536 }
- -> bool
     requires { length list.now ≤ 65536 }
 {
     short_at(s, 13) == 0 && is(s, 15, n) && is(s, 19, offset) && is_row(s, 23, list, 0, 0)

@@ -43,8 +43,6 @@ pub fn is(s: &[u8], at: usize, n: u32) -> bool {
 // The bytes from a place on, at most n of them.
 pub fn part(s: &[u8], from: usize, n: usize) -> &[u8]
     ensures { length result.now ≤ n }
- -> &[u8]
-    ensures { length result.now ≤ n }
 {
     if s.len() <= from {
         return &s[..0];

@@ -63,31 +63,6 @@ fn write_recorded(
     out: &mut [u8],
 ) -> bool
     requires { n < 65536 }
- -> bool {
-    match r {
-        ListWritten::Done(size, next) => is_written(s, 0, 0, size, next.number()),
-        ListWritten::Room => is_written(s, 6, 0, 0, 0),
-        ListWritten::Refused(cause, i) => is_written(s, cause_number(cause), i, 0, 0),
-        ListWritten::TooManyDirectoryEntries => is_written(s, 7, 0, 0, 0),
-        ListWritten::SectorOverflow => is_written(s, 8, 0, 0, 0),
-        ListWritten::BufferTooSmall => is_written(s, 9, 0, 0, 0),
-    }
-}
-
-// Writes the recorded list of n entries, whose names stand from `names` on and whose table's bytes after them.
-fn write_recorded(
-    s: &[u8],
-    n: usize,
-    start: &[u32],
-    len: &[u32],
-    size: &[u32],
-    kind: &[u8],
-    names: &[u8],
-    out: &mut [u8],
-) -> bool
-    requires { n < 65536 }
- -> bool
-    requires { n < 65536 }
 {
     let mut left = [7u16; 64];
     let mut right = [7u16; 64];

@@ -46,13 +46,6 @@ pub fn same_written(s: &[u8]) -> bool {
             size: number_at(s, 5),
         },
         stamp: long_at(s, 9),
-    } -> bool {
-    let d = Descriptor {
-        root: Region {
-            sector: Sector::new(number_at(s, 1)),
-            size: number_at(s, 5),
-        },
-        stamp: long_at(s, 9),
     };
     let bytes = rest(s, 17);
     let mut short = [7u8; 2047];
@@ -70,9 +63,6 @@ fn is_read(s: &[u8], n: u32, sector: u32, size: u32, stamp: u64) -> bool {
 }
 
 pub fn same_read(s: &[u8]) -> bool {
-    match xdvdfs::read_descriptor(rest(s, 21)) {
-        DescriptorRead::Volume(d) => {
-            let root = d.root -> bool {
     match xdvdfs::read_descriptor(rest(s, 21)) {
         DescriptorRead::Volume(d) => {
             let root = d.root;

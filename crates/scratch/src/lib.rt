@@ -1,4 +1,6 @@
 // Lent columns are cleared, whole or from a place on, and copied.
+#![tactic(auto)]
+
 ghost use Rattle.std.specs.Prelude.{◌≡◌, ◌++◌, ◌-◌, ◌≤◌, length, take, replicate};
 
 // Zero everywhere, in a column of bytes.

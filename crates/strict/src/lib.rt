@@ -2,6 +2,8 @@
 // listed before, and in a few whether it stands on one that was. A name is compared with two others: those of the
 // nearest entry above it in whose left subtree it stands, and of the nearest in whose right. The others above follow
 // (strict_rule/proofs/Nearest.antt).
+#![tactic(auto)]
+
 ghost use Rattle.std.specs.Prelude.{◌≡◌, List, ℕ, ◌+◌, ◌*◌, ◌/◌, ◌%◌, ◌^◌, ◌≤◌, ◌<◌, eqb, length, replicate};
 ghost use Rattle.std.proofs.Math.Option.{Option};
 ghost use Rattle.units.specs.Told.{Told};
@@ -23,7 +25,7 @@ use units::{Link, Offset, Region, Sector};
 use widths::u8_as_usize;
 
 // No fault in an entry, or the answer that its fault is.
-#[derive(Drop)]
+#[derive(Clone, Copy)]
 enum Verdict {
     Good,
     Bad(Checked),

@@ -1,5 +1,7 @@
 // A map of four-byte units, for the strict check: a mark for each unit, 1 where an entry starts, 2 on its other
 // units, 0 where none stands.
+#![tactic(auto)]
+
 ghost use Rattle.std.specs.Prelude.{◌≡◌, ◌≤◌, ◌<◌, eqb, length, get_or};
 ghost use Rattle.strict_map.specs.inner.Map.{Tested, Marked};
 

@@ -1,8 +1,10 @@
 // The strict check without its code: what it answers, by definition, and which tables it accepts.
+#![tactic(auto)]
+
 use units::Offset;
 
 // What the strict check answers.
-#[derive(Drop)]
+#[derive(Clone, Copy)]
 pub enum Checked {
     // So many offsets are listed: the table keeps the rule (specs/Accepts.antt).
     Done(usize),

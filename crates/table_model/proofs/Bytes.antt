@@ -1,5 +1,5 @@
 -- The bytes of items one after another, cut at a node: the gap, the entry, the left tree's bytes, the right tree's. Their lengths. Assumes nothing.
-use Prim.Native.Nat.{ℕ, ◌+◌, ◌-◌, ◌*◌, ◌/◌, ◌%◌, ◌≤◌}
+use Prim.Native.Nat.{ℕ, ◌+◌, ◌-◌, ◌≤◌}
 use mathlib.Core.Path.{◌≡◌, refl, ap, ◌∙◌}
 use mathlib.Core.List.{List, [], ◌∷◌, ◌++◌, append_assoc}
 use native.Mathlib.Omega.{arith}
@@ -8,11 +8,11 @@ use Rattle.layout_node.proofs.RoundTrip.{header_length}
 use Rattle.dirtab_entry.specs.Entry.{rounded}
 use Rattle.avl_model.specs.Tree.{Tree, leaf, node}
 use Rattle.avl_model.specs.Laws.{All}
-use Rattle.table_model.specs.Entry.{Entry, Item, length_of, header_for, entry_bytes}
+use Rattle.table_model.specs.Entry.{Entry, Item, length_of, entry_bytes}
 use Rattle.table_model.specs.Place.{start_of, stop_of, end_of, free_after, free_of, item_of, items}
 use Rattle.table_model.specs.Table.{stop, bytes_from, size_of, table_bytes}
 use Rattle.table_model.specs.inner.Writing.{end_over}
-use Rattle.table_model.proofs.Places.{Starts, FitsAt, start_at}
+use Rattle.table_model.proofs.Places.{FitsAt, start_at}
 
 -- an entry has as many bytes as its length says
 pub entry_length : (x : Item) → length (entry_bytes x) ≡ length_of x.entry

@@ -1,22 +1,20 @@
 -- Entries stand inside the reported size, cross no sector line and do not overlap; nor do their sectors. Assumes nothing.
-use Prim.Native.Nat.{ℕ, ◌+◌, ◌-◌, ◌*◌, ◌/◌, ◌%◌, ◌≤◌, ◌<◌}
+use Prim.Native.Nat.{ℕ, ◌+◌, ◌-◌, ◌*◌, ◌/◌, ◌%◌, ◌≤◌}
 use mathlib.Core.Path.{◌≡◌, refl, sym, ap, ap₂, ◌∙◌}
-use mathlib.Core.Bool.{Bool, true, false}
 use mathlib.Core.Logic.{◌⊎◌, inl, inr}
 use mathlib.Core.List.Memᴰ
 use mathlib.Core.List.{List, [], ◌∷◌, ◌++◌, map, map-append, Memᴰ}
 use native.Mathlib.Omega.{arith}
 use lib.ListN.{length, length-append}
-use Rattle.layout_sector.specs.Counter.{sectors_for, aligned_up}
 use Rattle.avl_model.specs.Tree.{Tree, leaf, node}
 use Rattle.avl_model.specs.Laws.{All, size}
 use Rattle.avl_model.specs.Order.{order}
-use Rattle.table_model.specs.Entry.{Entry, Item, length_of}
-use Rattle.table_model.specs.Place.{start_of, stop_of, end_of, free_after, free_of, link_to, item_of, items}
+use Rattle.table_model.specs.Entry.{Entry, Item}
+use Rattle.table_model.specs.Place.{stop_of, end_of, free_after, free_of, link_to, items}
 use Rattle.table_model.specs.Table.{stop, size_of}
 use Rattle.table_model.specs.Said.{AllIn, Stands, Apart, last_sector, SectorsApart}
 use Rattle.table_model.specs.inner.Writing.{Spaced}
-use Rattle.table_model.proofs.Places.{Starts, FitsAt, start_at, starts_first, stop_four, end_after, end_four, free_next, free_after_lem}
+use Rattle.table_model.proofs.Places.{FitsAt, start_at, stop_four, end_after, end_four, free_next, free_after_lem}
 use Rattle.table_model.proofs.Bytes.{end_size}
 
 -- what is said of every item, of lists of them

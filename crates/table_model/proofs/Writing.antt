@@ -2,7 +2,7 @@
 --     next_entry                       one turn of the writing loop, in the buffer
 --     written_none, written_next       THE LOOP'S START AND TURN, as `written_over` says them
 --     written_table                    the loop's end: a buffer with a table's items written is the table's bytes and the rest of the buffer
-use Prim.Native.Nat.{ℕ, ◌+◌, ◌-◌, ◌*◌, ◌/◌, ◌≤◌, ◌<◌}
+use Prim.Native.Nat.{ℕ, ◌+◌, ◌-◌, ◌≤◌}
 use mathlib.Core.Path.{◌≡◌, refl, sym, ap, ap₂, ◌∙◌}
 use mathlib.Core.List.{List, [], ◌∷◌, ◌++◌, append_assoc, append-nil}
 use native.Mathlib.Omega.{arith}
@@ -15,7 +15,7 @@ use Rattle.layout_node.proofs.RoundTrip.{header_length}
 use Rattle.dirtab_entry.specs.Entry.{rounded}
 use Rattle.avl_model.specs.Tree.{Tree}
 use Rattle.table_model.specs.Entry.{Entry, Item, length_of, header_for, entry_bytes}
-use Rattle.table_model.specs.Place.{end_of, items}
+use Rattle.table_model.specs.Place.{items}
 use Rattle.table_model.specs.Table.{stop, bytes_from, size_of, table_bytes}
 use Rattle.table_model.specs.inner.Writing.{stored, end_over, written_over, Spaced}
 use Rattle.table_model.proofs.Bytes.{entry_length, bytes_over, end_over_lem, end_items}

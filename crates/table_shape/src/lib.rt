@@ -1,1 +1,2 @@
 // No code: a table that the strict check accepts as a tree, and what a lookup in it answers.
+#![tactic(auto)]

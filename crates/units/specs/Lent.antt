@@ -1,26 +1,7 @@
--- How a contract names what its function is lent: `was x` is the value of the parameter x at the call, `is x` its
--- value at the return; and how it names an answer that is a part of a slice. Assumes nothing.
+-- How a contract names an answer that is a part of a slice, and what scratch holds at the return. Assumes nothing.
 use Rattle.std.specs.Prelude.{ℕ, ◌+◌, ◌≡◌, Bool, List, length, replicate}
 use Rattle.std.specs.Borrow.{Bor}
-use denote.Triple.Both.{Both}
 use Rattle.units.specs.Told.{pick}
-
--- a parameter that is a reference: `&` or `&mut`, to a value of A
-abbrev pub Lent : Type 0 → Type 0
-Lent A = Both (Bor A) (Bor A)
-
--- to a slice (of any numbers), and to one number
-abbrev pub Slice : Type 0
-Slice = Lent (List ℕ)
-
-abbrev pub Cell : Type 0
-Cell = Lent ℕ
-
-abbrev pub was : {A : Type 0} → Lent A → A
-was x = x.entry.now
-
-abbrev pub is : {A : Type 0} → Lent A → A
-is x = x.exit.now
 
 -- a part of a slice of bytes: the place of its first byte in the slice, and its bytes
 pub record Part : Type 0 where

@@ -1,19 +1,21 @@
 // The three kinds of count, each a tuple struct with a private field: code that takes one refuses to compile with
 // another, and no other crate can rewrap one as another. They are changed into each other only by the conversions
 // below: times 2,048 and times 4.
+#![tactic(auto)]
+
 ghost use Rattle.std.specs.Prelude.{◌≡◌, ◌*◌, ◌/◌, ◌≤◌};
 ghost use Rattle.units.specs.Region.{told, locate_of};
 
 // The number of a sector of 2,048 bytes.
-#[derive(Drop)]
+#[derive(Clone, Copy)]
 pub struct Sector(u32);
 
 // A byte offset in a directory table.
-#[derive(Drop)]
+#[derive(Clone, Copy)]
 pub struct Offset(u32);
 
 // A link: an offset in units of four bytes.
-#[derive(Drop)]
+#[derive(Clone, Copy)]
 pub struct Link(u16);
 
 impl Sector {
@@ -82,14 +84,14 @@ pub fn link_to(offset: Offset) -> Link
 }
 
 // A run of bytes on the image: a directory table, or a file's contents.
-#[derive(Drop)]
+#[derive(Clone, Copy)]
 pub struct Region {
     pub sector: Sector,
     pub size: u32,
 }
 
 // Where an offset of a region stands.
-#[derive(Drop)]
+#[derive(Clone, Copy)]
 pub enum Located {
     // The byte of the image.
     Byte(u64),
@@ -99,6 +101,7 @@ pub enum Located {
 
 impl Region {
     // The byte of the image at which an offset of the region stands.
+    #[tactic(auto, unfolding(crate::specs::Region::locate_of))]
     pub fn locate(self, offset: Offset) -> Located
         ensures { told result ≡ locate_of self offset }
     {

@@ -1,5 +1,7 @@
 // Numbers of one width as numbers of a wider one, an index among them: the number stays, and is below what its own
 // width holds.
+#![tactic(auto)]
+
 ghost use Rattle.std.specs.Prelude.{◌≡◌, ◌<◌};
 
 pub fn u8_as_u16(x: u8) -> u16

@@ -5,9 +5,11 @@
 // A contract `told r ≡ D` says that the answer r stands for what the definition D gives: `gives X`, or `refuses
 // NUMBER VALUES`. The definitions are in the specs/ of the crate that is named in each `ghost use`.
 //
-// `was x` is what the parameter x holds at the call, `is x` what it holds at the return. Where many columns are
-// lent, a contract names them as one value: `let m = memory ..`, of which `m.entry` is all of it at the call, `m
-// .exit` at the return.
+// `x.now` is what a `&` lends. Of a `&mut`, `x.old` is what it holds at the call, `x.new` what it holds at the return.
+// Where many columns are lent, a contract names them as one value: `before` is all of it at the call, `after` at the
+// return.
+#![tactic(auto)]
+
 ghost use Rattle.std.specs.Prelude.{◌≡◌, length};
 ghost use Rattle.units.specs.Lent.{IsPart};
 ghost use Rattle.dirtab.specs.Serialise as serialising;

@@ -1,8 +1,6 @@
 -- What each function does to the lists of numbers that it is lent. A store at a number that is no index changes
 -- nothing, and `get_or .. 0` reads 0 there, so that none of these asks whether a child is there.
 use Rattle.std.specs.Prelude.{ℕ, suc, ◌+◌, ◌<◌, max, Bool, true, false, ◌≡◌, List, length, get_or, set, ltb, eqb}
-use denote.Triple.Both.{Both}
-use Rattle.units.specs.Lent.{Cell, Slice, was, is}
 use Rattle.avl_model.specs.declared.Place.{Place}
 use Rattle.avl_model.specs.declared.Direction.{Direction}
 use Rattle.avl_model.specs.declared.Direction.TheVariants.{Left as ToLeft, Leaf, Right as ToRight}
@@ -52,13 +50,6 @@ tilt_by false false = Leaf
 -- the side that is more than one higher
 abbrev pub tilt_of : ℕ → ℕ → Direction
 tilt_of l r = tilt_by (ltb (suc r) l) (ltb (suc l) r)
-
--- the same as they are lent: at the call, and at the return
-abbrev pub lent_lists : Cell → Slice → Slice → Slice → Slice → Both Lists Lists
-lent_lists t l r p h = record {
-  entry = lists (was t) (was l) (was r) (was p) (was h);
-  exit = lists (is t) (is l) (is r) (is p) (is h);
-}
 
 -- the heights of three nodes made anew, one after the other
 abbrev pub risen3 : List ℕ → List ℕ → List ℕ → ℕ → ℕ → ℕ → List ℕ

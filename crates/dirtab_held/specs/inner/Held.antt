@@ -1,6 +1,5 @@
 -- Columns that hold the entries of a tree below a root, and a list of its numbers in preorder. Assumes nothing.
 use Rattle.std.specs.Prelude.{ℕ, ◌≤◌, ◌≡◌, List, [], length}
-use Rattle.units.specs.Lent.{Slice, was}
 use Rattle.avl_model.specs.Tree.{Tree, none, top, ht}
 use Rattle.avl_model.specs.Laws as laws
 use Rattle.avl_model.specs.Order.{order}
@@ -13,10 +12,6 @@ use Rattle.dirtab_write.specs.inner.Holds.{Holds}
 abbrev pub entries_in : List ℕ → List ℕ → List ℕ → List ℕ → List ℕ → ℕ → Entry
 entries_in start len size kind bytes = entry_by (cols [] [] [] start len size kind bytes)
 
--- the same of columns as they are lent, at the call
-abbrev pub lent_entries : Slice → Slice → Slice → Slice → Slice → ℕ → Entry
-lent_entries start len size kind bytes = entries_in (was start) (was len) (was size) (was kind) (was bytes)
-
 -- the first n places of two columns hold the links of t, which is below the root and no higher than balanced trees are
 pub record Hung (left right : List ℕ) (root n : ℕ) (t : Tree) : Type 0 where
   pub small : n ≤ none
@@ -27,9 +22,6 @@ pub record Hung (left right : List ℕ) (root n : ℕ) (t : Tree) : Type 0 where
   pub low : ht t ≤ 22
   pub size_is : laws.size t ≡ n
 
-abbrev pub HungIn : Slice → Slice → ℕ → ℕ → Tree → Type 0
-HungIn left right = Hung (was left) (was right)
-
 -- the first n places of the columns hold the entries of t, which is below the root
 pub record Rooted (left right start len size kind bytes : List ℕ) (root n : ℕ) (t : Tree) : Type 0 where
   pub holds : Holds left right start len size kind bytes n t
@@ -37,17 +29,8 @@ pub record Rooted (left right start len size kind bytes : List ℕ) (root n : �
   pub low : ht t ≤ 22
   pub size_is : laws.size t ≡ n
 
-abbrev pub RootedIn : Slice → Slice → Slice → Slice → Slice → Slice → Slice → ℕ → ℕ → Tree → Type 0
-RootedIn left right start len size kind bytes =
-    Rooted (was left) (was right) (was start) (was len) (was size) (was kind) (was bytes)
-
 -- the columns hold the entries of t, `listed` is its preorder, and there are so many places for its offsets
 pub record Listing (listed left right start len size kind bytes : List ℕ) (places : ℕ) (t : Tree) : Type 0 where
   pub listed_is : listed ≡ order t
   pub holds : Holds left right start len size kind bytes (length listed) t
   pub room : length listed ≤ places
-
-abbrev pub Listed : Slice → Slice → Slice → Slice → Slice → Slice → Slice → Slice → Slice → Tree → Type 0
-Listed listed left right start len size kind bytes place =
-    Listing (was listed) (was left) (was right) (was start) (was len) (was size) (was kind) (was bytes)
-    (length (was place))

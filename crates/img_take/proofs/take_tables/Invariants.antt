@@ -1,0 +1,20 @@
+-- `take_tables` meets its contract. The loop's invariant: the rest of the directories takes what all take.
+use mathlib.Core.Path.{◌≡◌}
+use Prim.Native.Nat.{◌+◌, ◌-◌}
+use lib.ListN.{length, get_or, drop}
+use Rattle.layout_sector.specs.Counter.{sectors_for}
+use Rattle.img_model.specs.Plan.{total}
+use Rattle.img_take.specs.inner.Forward.{taking}
+use Rattle.img_take.proofs.Turns.{TakenSo}
+use Rattle.img_take.proofs.take_tables.Given as goal
+
+abbrev pub invariant-loop-d : goal.invariant-loop-d
+invariant-loop-d l =
+    (l.to ≡ total (drop l.d l.share))
+    × ((length l.size ≡ length l.initial.size)
+    × ((length l.tables ≡ length l.from)
+    × ((length l.sectors ≡ length l.kind)
+    × TakenSo l.from l.share l.kind l.value l.sized l.order (length l.initial.size) l.d (taking l.initial.tables l.initial.sectors (33 + sectors_for (get_or l.sized 0 0))) (taking l.tables l.sectors l.counter.next.0))))
+
+abbrev pub decreases-loop-d : goal.decreases-loop-d
+decreases-loop-d l = length l.from - l.d
