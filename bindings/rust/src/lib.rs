@@ -1,6 +1,6 @@
 //! XDVDFS directory tables, read and written by proved code.
 //!
-//! A safe skin over libcapi.a (`rt staticlib capi`): slices in, `Result<_, Error>` out. Every number and every byte is accepted: bad input is an [`Error`], whose message
+//! A safe skin over libcapi.a (`(cd crates/capi && rt lib)`): slices in, `Result<_, Error>` out. Every number and every byte is accepted: bad input is an [`Error`], whose message
 //! says in words what is wrong. The date of a [`Stamp`], and the stamp of a date, is worked out in this crate, tested and not proved.
 //!
 //! ```
