@@ -9,8 +9,8 @@ use native.Mathlib.Decide.{ℕ_discrete}
 use lib.ListN.{length}
 use Rattle.units.specs.declared.Sector.{Sector}
 use Rattle.units.specs.declared.Region.{Region}
-use Rattle.layout_name.specs.declared.Order.{Order}
-use Rattle.layout_name.specs.declared.Order.TheVariants.{Less, Equal, Greater}
+use Rattle.std.specs.declared.cmp.Ordering.{Ordering}
+use Rattle.std.specs.declared.cmp.Ordering.TheVariants.{Less, Equal, Greater}
 use Rattle.layout_name.specs.inner.Order.{opposite}
 use Rattle.name_role.specs.Roles.{given_order, bad_sought}
 use Rattle.name_role.proofs.Storable.{is_storable}
@@ -40,7 +40,7 @@ use Rattle.agree.proofs.Sized.{as_reported}
 use Rattle.agree.proofs.Agrees.{agreement}
 
 -- what the test of an insertion says, of two names that differ
-told : (a b : List ℕ) (o : Order) → given_order a b ≡ o → (o ≡ Equal → ⊥) → (is_less o ≡ true → given_order a b ≡ Less) × (is_less o ≡ false → given_order b a ≡ Less)
+told : (a b : List ℕ) (o : Ordering) → given_order a b ≡ o → (o ≡ Equal → ⊥) → (is_less o ≡ true → given_order a b ≡ Less) × (is_less o ≡ false → given_order b a ≡ Less)
 told a b Less e d = (λ q. e, λ q. let z : ◌≡◌ {A = ℕ} 0 1 = cc in absurd (omega arith))
 told a b Equal e d = absurd (d refl)
 told a b Greater e d = (λ q. let z : ◌≡◌ {A = ℕ} 0 1 = cc in absurd (omega arith), λ q. given_opposite a b ∙ ap opposite e)

@@ -9,8 +9,8 @@ use mathlib.Core.List.{[], ◌∷◌}
 use lib.Dec.{ltb}
 use borrow.Author.Tests.{lt-ltb}
 use Rattle.units.specs.Told.{Told, gives, refuses, pick}
-use Rattle.layout_name.specs.declared.Order.{Order}
-use Rattle.layout_name.specs.declared.Order.TheVariants.{Equal}
+use Rattle.std.specs.declared.cmp.Ordering.{Ordering}
+use Rattle.std.specs.declared.cmp.Ordering.TheVariants.{Equal}
 use Rattle.name_role.specs.Roles.{given_order}
 use Rattle.name_role.proofs.Storable.{is_storable}
 use Rattle.dirtab_entry.specs.declared.Kind.{Kind}
@@ -45,7 +45,7 @@ module _ (N : Names) (check : ℕ → Told (Unit {0})) where
   abbrev T : ℕ → Tree
   T n = grown (name_at N) n
 
-  abbrev between : ℕ → ℕ → Order
+  abbrev between : ℕ → ℕ → Ordering
   between i j = given_order (name_at N i) (name_at N j)
 
   abbrev spot : ℕ → Spot

@@ -12,8 +12,8 @@ use Rattle.units.specs.Told.{gives}
 use Rattle.units.specs.declared.Sector.{Sector}
 use Rattle.units.specs.declared.Region.{Region}
 use Rattle.layout_bytes.specs.Bytes.{all}
-use Rattle.layout_name.specs.declared.Order.{Order}
-use Rattle.layout_name.specs.declared.Order.TheVariants.{Less, Greater}
+use Rattle.std.specs.declared.cmp.Ordering.{Ordering}
+use Rattle.std.specs.declared.cmp.Ordering.TheVariants.{Less, Greater}
 use Rattle.layout_name.specs.inner.Order.{opposite}
 use Rattle.name_role.specs.Roles.{stored_order}
 use Rattle.name_role.proofs.Roles.{stored_opposite}
@@ -93,7 +93,7 @@ module _ (F : Setting) where
       (a.0, all_append _ A B (all_items P l _ _ a.1) (all_items P r _ _ a.2))
 
   -- its names are in order: those of a subtree stand in one order to that of an item, and so where they are read
-  of_side : (c : Order) (z : Item) → Back F z → (x : Tree) (e s : ℕ) → Ready F x e s → All (λ j. stored_order (F.entry j).name z.entry.name ≡ c) x
+  of_side : (c : Ordering) (z : Item) → Back F z → (x : Tree) (e s : ℕ) → Ready F x e s → All (λ j. stored_order (F.entry j).name z.entry.name ≡ c) x
       → Every (λ p y. stored_order (name_in F.w y) (name_in F.w (placed_at F.place z)) ≡ c) (shape_of e s x)
   of_side c z d x e s g a =
       of_items _ x e s

@@ -4,8 +4,8 @@ use Rattle.std.specs.Prelude.{ℕ, ◌+◌, ◌/◌, ◌≡◌, length, replicat
 use mathlib.Core.List.{List, [], ◌∷◌, ◌++◌, map, Memᴰ}
 use Rattle.units.specs.Told.{Told, gives, refuses}
 use Rattle.units.specs.declared.Region.{Region}
-use Rattle.layout_name.specs.declared.Order.{Order}
-use Rattle.layout_name.specs.declared.Order.TheVariants.{Less}
+use Rattle.std.specs.declared.cmp.Ordering.{Ordering}
+use Rattle.std.specs.declared.cmp.Ordering.TheVariants.{Less}
 use Rattle.name_role.specs.Roles.{given_order}
 use Rattle.layout_node.specs.Header.{entry_length}
 use Rattle.dirtab_entry.specs.declared.Kind.{Kind}
@@ -70,7 +70,7 @@ pub data Case : Type 0 where
   -- after these entries, a name that is there already: the number of the entry that has it
   duplicate : List Given → List ℕ → ℕ → Case
   -- two names and their order
-  ordered : List ℕ → List ℕ → Order → Case
+  ordered : List ℕ → List ℕ → Ordering → Case
   -- a name's length and the entry's
   long : ℕ → ℕ → Case
   -- an entry by itself: what adding answers

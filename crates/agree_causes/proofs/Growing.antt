@@ -10,7 +10,7 @@ use mathlib.Core.List.{List, [], ◌∷◌}
 use lib.Dec.{ltb}
 use borrow.Author.Tests.{lt-ltb}
 use Rattle.units.specs.Told.{Told, gives, refuses, pick}
-use Rattle.layout_name.specs.declared.Order.{Order}
+use Rattle.std.specs.declared.cmp.Ordering.{Ordering}
 use Rattle.name_role.specs.Roles.{given_keys, given_order}
 use Rattle.name_role.proofs.Roles.{given_equal→}
 use Rattle.avl_model.specs.declared.Place.TheVariants.{Root}
@@ -32,7 +32,7 @@ pub data Grows (name : ℕ → List ℕ) (n c : ℕ) (Bad : ℕ → Type 0) : To
 
 module _ (name : ℕ → List ℕ) (check : ℕ → Told (Unit {0})) (n : ℕ) (few : n ≤ 16384)
     (differ : (i j : ℕ) → i < n → j < n → given_keys (name i) ≡ given_keys (name j) → i ≡ j) where
-  abbrev between : ℕ → ℕ → Order
+  abbrev between : ℕ → ℕ → Ordering
   between i j = given_order (name i) (name j)
 
   abbrev growing : ℕ → ℕ → Tree → Told Tree

@@ -15,8 +15,7 @@ use Rattle.layout_volume.proofs.Laws.{read_written}
 use Rattle.read_entry.specs.Entry.{Placed}
 use Rattle.read_entry.specs.Links.{is_in}
 use Rattle.read_path.specs.Path.{path_by, path_of}
-use Rattle.limits_rule.specs.declared.Limits.{Limits}
-use Rattle.limits_rule.specs.Limits.{volume_in, limits_of}
+use Rattle.limits_rule.specs.Limits.{Limits, volume_in, limits_of}
 use Rattle.limits_rule.specs.Outcome as outcomes
 use Rattle.limits_rule.specs.Outcome.{loaded, Outcome}
 use Rattle.limits_rule.proofs.Marks.{volume_marked}

@@ -4,7 +4,7 @@ use Rattle.units.specs.declared.Sector.{Sector}
 use Rattle.layout_volume.specs.declared.Descriptor.{Descriptor}
 use Rattle.layout_volume.specs.Descriptor.{descriptor_bytes}
 use Rattle.read_entry.specs.Links.{is_in}
-use Rattle.limits_rule.specs.declared.Limits.{Limits}
+use Rattle.limits_rule.specs.Limits.{Limits}
 use Rattle.img_model.specs.Shares.{Request, share_of, value_of}
 use Rattle.img_model.specs.Plan.{Plan}
 use Rattle.agree.specs.Written.{Stand}

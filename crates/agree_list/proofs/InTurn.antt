@@ -9,7 +9,7 @@ use lib.Dec.{ltb}
 use lib.ListN.{length, length-set}
 use borrow.Author.Tests.{le-leb, lt-ltb}
 use Rattle.units.specs.Told.{Told, gives, refuses, pick}
-use Rattle.layout_name.specs.declared.Order.{Order}
+use Rattle.std.specs.declared.cmp.Ordering.{Ordering}
 use Rattle.name_role.specs.Roles.{given_order}
 use Rattle.dirtab_entry.specs.declared.Entry as given
 use Rattle.dirtab_entry.specs.Entry.{name_in, check_of}
@@ -104,7 +104,7 @@ module _ (L : Listing) where
   abbrev check : ℕ → Told (Unit {0})
   check i = check_of L.bytes (given_in L i)
 
-  abbrev between : ℕ → ℕ → Order
+  abbrev between : ℕ → ℕ → Ordering
   between = order_in L.bytes (given_in L)
 
   -- the arena holds the first i entries

@@ -8,7 +8,7 @@ use lib.Dec.{ltb, leb, eqb}
 use lib.ListN.{length, get_or, set, replicate}
 use borrow.Author.Tests.{le-ltb}
 use Rattle.units.specs.Told.{Told, gives, refuses, pick}
-use Rattle.layout_name.specs.declared.Order.{Order}
+use Rattle.std.specs.declared.cmp.Ordering.{Ordering}
 use Rattle.dirtab_entry.specs.declared.Kind.TheVariants.{File, Directory}
 use Rattle.dirtab_entry.specs.Entry.{any_bad, name_in, check_of}
 use Rattle.dirtab_entry.specs.Entry as entries
@@ -73,7 +73,7 @@ room_other : (i : ℕ) (b : Bool) (x : Told Tree) → NotFive x → NotFive (pic
 room_other i true x h = h
 room_other i false x h = λ e. omega arith
 
-grow_other : (check : ℕ → Told (Unit {0})) (between : ℕ → ℕ → Order) → ((i : ℕ) → NotFive (check i)) → (k i : ℕ) (t : Tree) → NotFive (grow_from check between k i t)
+grow_other : (check : ℕ → Told (Unit {0})) (between : ℕ → ℕ → Ordering) → ((i : ℕ) → NotFive (check i)) → (k i : ℕ) (t : Tree) → NotFive (grow_from check between k i t)
 unfolding grow_from
 grow_other check between h zero i t = tt
 grow_other check between h (suc k) i t =

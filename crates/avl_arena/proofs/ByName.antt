@@ -1,16 +1,8 @@
 -- The order of nodes by name: it is strict, and that of the first n names is that of all names.
-use Prim.Native.Nat.{ℕ, ◌≤◌, ◌<◌}
-use native.Mathlib.Omega.{arith}
-use native.Mathlib.Decide.{dec_lt}
-use mathlib.Core.Path.{◌≡◌, refl, sym, ap, ap₂, ◌∙◌}
-use mathlib.Core.Bool.{true, ◌&&◌, ◌||◌}
-use mathlib.Core.Logic.{◌⊎◌}
-use lib.ListN.{take, drop}
-use lib.Seq.{get_or-take}
-use lib.Dec.{leb}
-use borrow.Author.Tests.{le-leb}
-use Rattle.layout_name.specs.declared.Order.{Order}
-use Rattle.layout_name.specs.declared.Order.TheVariants.{Less, Equal, Greater}
+use Rattle.std.proofs.Common.{ℕ, ◌≤◌, ◌<◌, arith, ◌≡◌, refl, sym, ap, ap₂, ◌∙◌, true, ◌&&◌, ◌||◌, ◌⊎◌, take, drop, get_or-take, leb, le-leb}
+use Rattle.std.proofs.Math.Decide.{dec_lt}
+use Rattle.std.specs.declared.cmp.Ordering.{Ordering}
+use Rattle.std.specs.declared.cmp.Ordering.TheVariants.{Less, Equal, Greater}
 use Rattle.name_role.specs.Roles.{given_order}
 use Rattle.name_role.proofs.Roles.{given_equal}
 use Rattle.avl_model.specs.Names.{Names, name_at, to_name, by_name, is_less, Before}
@@ -28,7 +20,7 @@ pub before_never : (N : Names) (a : ℕ) → Before N a a → ⊥
 unfolding to_name
 before_never N a e = let z : Equal ≡ Less = sym (given_equal (name_at N a) (name_at N a) refl) ∙ e in let k : ◌≡◌ {A = ℕ} 0 1 = cc in omega arith
 
-pub less_is : (o : Order) → is_less o ≡ true → o ≡ Less
+pub less_is : (o : Ordering) → is_less o ≡ true → o ≡ Less
 less_is Less e = refl
 less_is Equal e = let k : ◌≡◌ {A = ℕ} 0 1 = cc in absurd (omega arith)
 less_is Greater e = let k : ◌≡◌ {A = ℕ} 0 1 = cc in absurd (omega arith)
@@ -42,9 +34,9 @@ module _ (N : Names) (n : ℕ) where
   part_by i j h k = ap₂ given_order (part_name i h) (part_name j k)
 
   -- a bound is one of the n nodes, or none
-  part_bound : (b : ℕ) (o p : Order) → (b < n → o ≡ p) → (leb n b || is_less o) ≡ (leb n b || is_less p)
+  part_bound : (b : ℕ) (o p : Ordering) → (b < n → o ≡ p) → (leb n b || is_less o) ≡ (leb n b || is_less p)
   part_bound b o p e = elim (dec_lt b n) [
-    | yes h ↦ ap (λ (x : Order). leb n b || is_less x) (e h)
+    | yes h ↦ ap (λ (x : Ordering). leb n b || is_less x) (e h)
     | no h ↦ (λ q. le-leb n b (omega arith) q || is_less o) ∙ sym (λ q. le-leb n b (omega arith) q || is_less p)
   ]
 

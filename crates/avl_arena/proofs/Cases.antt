@@ -1,8 +1,5 @@
 -- Small arenas, tested by computing: the test neither takes all nor refuses all.
-use Prim.Native.Nat.{ℕ}
-use mathlib.Core.Path.{◌≡◌, refl}
-use mathlib.Core.Bool.{Bool, true, false}
-use mathlib.Core.List.{[], ◌∷◌}
+use Rattle.std.proofs.Common.{ℕ, ◌≡◌, refl, Bool, true, false, [], ◌∷◌}
 use Rattle.layout_name.specs.Order.{number_order, list_order, raised}
 use Rattle.name_role.specs.Roles.{given_keys, given_order}
 use Rattle.avl_model.specs.Lists.{lists}

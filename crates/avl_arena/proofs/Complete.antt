@@ -1,15 +1,8 @@
 -- The arena test takes every held tree of at most 65,535 nodes: with `Sound`, it says exactly that. And there is one such tree at most.
-use Prim.Native.Nat.{ℕ, suc, ◌+◌, ◌≤◌, ◌<◌, max}
-use native.Mathlib.Omega.{arith}
-use native.Mathlib.Decide.{dec_lt}
-use mathlib.Core.Path.{◌≡◌, refl, sym, ap, ◌∙◌}
-use mathlib.Core.Bool.{Bool, true, ◌||◌, or-true}
-use mathlib.Core.Logic.{◌⊎◌, inl, inr}
-use lib.ListN.{length, get_or, take}
-use lib.Seq.{length-take-le}
-use lib.Dec.{leb}
-use borrow.Author.Tests.{le-leb, eq-eqb}
-use Rattle.layout_name.specs.declared.Order.{Order}
+use Rattle.std.proofs.Common.{ℕ, suc, ◌+◌, ◌≤◌, ◌<◌, max, arith, ◌≡◌, refl, sym, ap, ◌∙◌, Bool, true, ◌||◌, ◌⊎◌, inl, inr, length, get_or, take, length-take-le, leb, le-leb, eq-eqb}
+use Rattle.std.proofs.Math.Decide.{dec_lt}
+use Rattle.std.proofs.Math.Bool.{or-true}
+use Rattle.std.specs.declared.cmp.Ordering.{Ordering}
 use Rattle.avl_model.specs.Lists.{Lists}
 use Rattle.avl_model.specs.Names.{Names, by_name, is_less, Before}
 use Rattle.avl_model.specs.Tree.{Tree, leaf, node, none, top, ht, cnt}
@@ -30,7 +23,7 @@ use Rattle.avl_arena.proofs.Decoded.{part_named, part_whole}
 module _ (S : Lists) (N : Names) (n : ℕ) where
   bound_ok : (b i j : ℕ) → (n ≤ b) ⊎ Before N i j → (leb n b || is_less (by_name N i j)) ≡ true
   bound_ok b i j (inl h) = ap (λ (x : Bool). x || is_less (by_name N i j)) (le-leb n b h)
-  bound_ok b i j (inr h) = ap (λ (o : Order). leb n b || is_less o) h ∙ or-true (leb n b)
+  bound_ok b i j (inr h) = ap (λ (o : Ordering). leb n b || is_less o) h ∙ or-true (leb n b)
 
   between_ok : (lo hi i : ℕ) → Lo N n lo i → Hi N n hi i → between N n lo hi i ≡ true
   unfolding between

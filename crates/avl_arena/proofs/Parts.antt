@@ -1,15 +1,8 @@
 -- The ways out of `is_tree`, which lends the first n places of each column.
-use Prim.Native.Nat.{ℕ, ◌≤◌, ◌<◌}
-use mathlib.Core.Path.{◌≡◌, refl, sym, ap, ◌∙◌}
-use mathlib.Core.Bool.{Bool, true, false}
-use mathlib.Core.List.{List}
-use lib.ListN.{length, take}
-use lib.Seq.{length-take-le}
-use lib.Dec.{leb}
-use borrow.Author.Tests.{leb-true}
-use Rattle.avl_model.specs.Lists.{Lists, lists}
-use Rattle.avl_model.specs.Names.{Names, names_in}
-use Rattle.avl_arena.specs.Test.{places, every, inside, whole_tree, holds_tree}
+use Rattle.std.proofs.Common.{ℕ, ◌≤◌, ◌≡◌, refl, sym, ap, ◌∙◌, Bool, true, false, List, length, take, length-take-le, leb, leb-true}
+use Rattle.avl_model.specs.Lists.{Lists}
+use Rattle.avl_model.specs.Names.{Names}
+use Rattle.avl_arena.specs.Test.{part_of, part_names, places, every, inside, whole_tree, holds_tree}
 use Rattle.avl_arena.specs.inner.Seeing.{Lent}
 use Rattle.avl_arena.specs.HeldTree.{Places}
 use Rattle.avl_arena.proofs.Tested.{and_l, and_r, and_first, and_second, each_inside}
@@ -31,58 +24,53 @@ places_of S N n e =
       len = leb-true n (length N.len) (and_r (leb n (length N.start)) _ e4);
     }
 
-module _ (root : ℕ) (L R P H B s l : List ℕ) (count n : ℕ) (en : (n ≡ count) × (n < 65536)) {p : Bool} (ep : p ≡ places (lists 0 L R P H) s l n) where
-  abbrev Answer : Bool → Type 0
-  Answer b = b ≡ holds_tree (lists root L R P H) (names_in B s l) count
+-- the first n places of each column are n
+pub record Firsts (S : Lists) (N : Names) (n : ℕ) : Type 0 where
+  pub l : n ≡ length (take n S.L)
+  pub r : n ≡ length (take n S.R)
+  pub p : n ≡ length (take n S.P)
+  pub h : n ≡ length (take n S.H)
+  pub start : n ≡ length (take n N.start)
+  pub len : n ≡ length (take n N.len)
 
-  -- the answer at n is the answer at the count
-  at_count : {b : Bool} → b ≡ holds_tree (lists root L R P H) (names_in B s l) n → Answer b
-  at_count e = e ∙ ap (holds_tree (lists root L R P H) (names_in B s l)) en.0
-
-  same_places : p ≡ places (lists root L R P H) s l n
-  unfolding places
-  same_places = ep
-
-  pub no_places : p ≡ false → Answer false
+module _ (S : Lists) (N : Names) (n : ℕ) {p : Bool} (ep : p ≡ places S N.start N.len n) where
+  pub no_places : p ≡ false → false ≡ holds_tree S N n
   unfolding holds_tree
-  no_places e = at_count (and_first _ same_places e)
+  no_places e = and_first _ ep e
 
   module _ (yes : p ≡ true) where
-    pub have : Places (lists 0 L R P H) (names_in B s l) n
-    have = places_of (lists 0 L R P H) (names_in B s l) n (sym ep ∙ yes)
+    pub firsts : Firsts S N n
+    firsts =
+        let w = places_of S N n (sym ep ∙ yes) in
+        let first : (x : List ℕ) → n ≤ length x → n ≡ length (take n x) = λ x h. sym (length-take-le n x h) in
+        record {
+          l = first S.L w.l;
+          r = first S.R w.r;
+          p = first S.P w.p;
+          h = first S.H w.h;
+          start = first N.start w.start;
+          len = first N.len w.len;
+        }
 
-    long : (x : List ℕ) → n ≤ length x → length (take n x) ≡ n
-    long x h = length-take-le n x h
+    module _ {b : Bool} (eb : b ≡ every (inside (part_names n N)) (length (take n N.start))) where
+      inside_is : b ≡ every (inside (part_names n N)) n
+      inside_is = eb ∙ ap (every (inside (part_names n N))) (sym firsts.start)
 
-    pub as_long : length (take n l) ≡ length (take n s)
-    as_long = long l have.len ∙ sym (long s have.start)
-
-    module _ {b : Bool} (eb : b ≡ every (inside (names_in B (take n s) (take n l))) (length (take n s))) where
-      inside_is : b ≡ every (inside (names_in B (take n s) (take n l))) n
-      inside_is = eb ∙ ap (every (inside (names_in B (take n s) (take n l)))) (long s have.start)
-
-      pub no_inside : b ≡ false → Answer false
+      pub no_inside : b ≡ false → b ≡ holds_tree S N n
       unfolding holds_tree
-      no_inside e = at_count (and_second same_places yes (and_first _ inside_is e))
+      no_inside e = e ∙ and_second ep yes (and_first _ inside_is e)
 
       module _ (all : b ≡ true) where
-        pub lent : Lent (lists 0 (take n L) (take n R) (take n P) (take n H)) (names_in B (take n s) (take n l)) (length (take n L))
+        pub lent : Lent (part_of n S) (part_names n N) (length (take n S.L))
         lent = record {
-          long = record {
-            l = refl;
-            r = long R have.r ∙ sym (long L have.l);
-            p = long P have.p ∙ sym (long L have.l);
-            h = long H have.h ∙ sym (long L have.l);
-          };
-          starts = long s have.start ∙ sym (long L have.l);
+          long = record { l = refl; r = sym firsts.r ∙ firsts.l; p = sym firsts.p ∙ firsts.l; h = sym firsts.h ∙ firsts.l };
+          starts = sym firsts.start ∙ firsts.l;
           named = record {
-            same = as_long;
-            in_bytes = each_inside (names_in B (take n s) (take n l)) (length (take n s)) (sym eb ∙ all);
+            same = sym firsts.len ∙ firsts.start;
+            in_bytes = each_inside (part_names n N) (length (take n N.start)) (sym eb ∙ all);
           };
         }
 
-        pub by_whole : {c : Bool} → c ≡ whole_tree (lists root (take n L) (take n R) (take n P) (take n H)) (names_in B (take n s) (take n l)) (length (take n L)) → Answer c
+        pub by_whole : {c : Bool} → c ≡ whole_tree (part_of n S) (part_names n N) (length (take n S.L)) → c ≡ holds_tree S N n
         unfolding holds_tree
-        by_whole {c} e =
-            at_count (and_second same_places yes (and_second inside_is all
-            (e ∙ ap (whole_tree (lists root (take n L) (take n R) (take n P) (take n H)) (names_in B (take n s) (take n l))) (long L have.l))))
+        by_whole {c} e = and_second ep yes (and_second inside_is all (e ∙ ap (whole_tree (part_of n S) (part_names n N)) (sym firsts.l)))

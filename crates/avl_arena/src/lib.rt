@@ -2,28 +2,25 @@
 #![tactic(auto)]
 
 ghost use Rattle.std.specs.Prelude.{◌≡◌, ◌||◌, ◌+◌, ◌<◌, ◌≤◌, max, length, leb};
-ghost use Rattle.avl_model.specs.Lists.{lists};
-ghost use Rattle.avl_model.specs.Names.{names_in, name_at, by_name, is_less};
+ghost use Rattle.avl_model.specs.Lent.{lists_in, names_of};
+ghost use Rattle.avl_model.specs.Names.{by_name, is_less};
 ghost use Rattle.avl_model.specs.Seek.{tree_at};
 ghost use Rattle.avl_arena.specs.Test.{places, every, inside, between, cell_ok, ok_tree, whole_tree, holds_tree};
-ghost use Rattle.avl_arena.specs.inner.Seeing.{Named, Lent, Judged};
+ghost use Rattle.avl_arena.specs.inner.Seeing.{NamedAt, Lent, Judged};
 
-use layout_name::{Order, compare};
-use widths::{u16_as_usize, u32_as_usize};
+use avl_model::{Links, NONE, Names};
+use layout_name::compare;
 
-// The number that stands for no node.
-const NONE: u16 = 65535;
-
-// What looking through a subtree finds: whether all is right, and its root, its height and its number of nodes.
+// What looking through a subtree finds: its root, its height and its number of nodes.
 #[derive(Clone, Copy)]
 pub struct Seen {
-    pub ok: bool,
     pub top: u16,
     pub high: u8,
     pub size: usize,
 }
 
-// Where a subtree hangs: by name between the nodes lo and hi, and below the node up. NONE is no bound.
+// Where a subtree hangs: by name between the nodes lo and hi, and below the node up. NONE is no bound, as every number
+// that is no index: the definition of the test reads them so, and an Option would have to be read back to it.
 #[derive(Clone, Copy)]
 pub struct Gap {
     pub lo: u16,
@@ -31,298 +28,181 @@ pub struct Gap {
     pub up: u16,
 }
 
-// The larger of two heights.
-fn choose_taller(x: u8, y: u8) -> u8
-    ensures { result ≡ max x y }
-{
-    if x < y { y } else { x }
-}
-
-// The name of the node i.
-fn read_name<'a>(names: &'a [u8], start: &[u32], len: &[u32], i: usize) -> &'a [u8]
-    requires { Named (names_in names.now start.now len.now) × (i < length start.now) }
-    ensures { result.now ≡ name_at (names_in names.now start.now len.now) i }
-{
-    let s = u32_as_usize(start[i]);
-    let e = s + u32_as_usize(len[i]);
-    &names[s..e]
-}
-
 // The name of i is less than that of j.
-fn is_less(names: &[u8], start: &[u32], len: &[u32], i: usize, j: usize) -> bool
-    requires { Named (names_in names.now start.now len.now) × (i < length start.now)
-        × (j < length start.now) }
-    ensures { result ≡ is_less (by_name (names_in names.now start.now len.now) i j) }
+// (`NamedAt`, here and below, is asked and no type holds it: C's columns may say anything until `are_inside` has
+// tested them.)
+fn is_less(names: Names<'_>, i: u16, j: u16) -> bool
+    requires { NamedAt (names_of names) i × (j < length names.start.now) }
+    ensures { result ≡ is_less (by_name (names_of names.entry) i j) }
 {
-    let a = read_name(names, start, len, i);
-    let b = read_name(names, start, len, j);
-    match compare(a, b) {
-        Order::Less => true,
-        Order::Equal => false,
-        Order::Greater => false,
-    }
+    compare(names.at(i), names.at(j)).is_lt()
 }
 
 // i comes after lo by name, if that is a node.
-fn is_after(names: &[u8], start: &[u32], len: &[u32], lo: u16, i: usize) -> bool
-    requires { Named (names_in names.now start.now len.now) × (i < length start.now) }
-    ensures { result ≡ (leb (length start.now) lo || is_less
-        (by_name (names_in names.now start.now len.now) lo i)) }
+fn is_after(names: Names<'_>, lo: u16, i: u16) -> bool
+    requires { NamedAt (names_of names) i }
+    ensures { let held = names_of names.entry in
+        result ≡ (leb (length names.entry.start.now) lo || is_less (by_name held lo i)) }
 {
-    let k = u16_as_usize(lo);
-    if start.len() <= k {
-        return true;
-    }
-    is_less(names, start, len, k, i)
+    names.start.len() <= (lo as usize) || is_less(names, lo, i)
 }
 
 // i comes before hi by name, if that is a node.
-fn is_before(names: &[u8], start: &[u32], len: &[u32], hi: u16, i: usize) -> bool
-    requires { Named (names_in names.now start.now len.now) × (i < length start.now) }
-    ensures { result ≡ (leb (length start.now) hi || is_less
-        (by_name (names_in names.now start.now len.now) i hi)) }
+// (Not one function with `is_after`: the bound is the first of the two names there, and the second here.)
+fn is_before(names: Names<'_>, hi: u16, i: u16) -> bool
+    requires { NamedAt (names_of names) i }
+    ensures { let held = names_of names.entry in
+        result ≡ (leb (length names.entry.start.now) hi || is_less (by_name held i hi)) }
 {
-    let k = u16_as_usize(hi);
-    if start.len() <= k {
-        return true;
-    }
-    is_less(names, start, len, i, k)
+    names.start.len() <= (hi as usize) || is_less(names, i, hi)
 }
 
 // i comes after lo and before hi by name.
-fn is_between(names: &[u8], start: &[u32], len: &[u32], lo: u16, hi: u16, i: usize) -> bool
-    requires { Named (names_in names.now start.now len.now) × (i < length start.now) }
-    ensures { result ≡ between (names_in names.now start.now len.now) (length start.now) lo hi i }
+#[tactic(auto, unfolding(crate::specs::Test::between))]
+fn is_between(names: Names<'_>, gap: Gap, i: u16) -> bool
+    requires { NamedAt (names_of names) i }
+    ensures { result ≡ between (names_of names.entry) (length names.entry.start.now) gap.lo gap.hi i }
 {
-    if is_after(names, start, len, lo, i) {
-        return is_before(names, start, len, hi, i);
-    }
-    false
+    is_after(names, gap.lo, i) && is_before(names, gap.hi, i)
 }
 
-// The links, the parent and the height of i, below `up` and over the subtrees l and r; and its balance.
-fn is_cell(
-    left: &[u16],
-    right: &[u16],
-    parent: &[u16],
-    height: &[u8],
-    i: usize,
-    up: u16,
-    l: Seen,
-    r: Seen,
-) -> bool
-    requires { (i < length left.now) × (i < length right.now) × (i < length parent.now)
-        × (i < length height.now) × (l.high ≤ 22) × (r.high ≤ 22) }
-    ensures { result ≡ cell_ok (lists 0 left.now right.now parent.now height.now) i up l.top r.top
-        l.high r.high }
+// The links, the parent and the height of `at`, below `up` and over the subtrees l and r; and its balance.
+#[tactic(auto, unfolding(crate::specs::Test::cell_ok))]
+fn is_cell(links: Links<'_>, at: u16, up: u16, l: Seen, r: Seen) -> bool
+    requires { (at < length links.left.now) × (at < length links.right.now) × (at < length links.parent.now)
+        × (at < length links.height.now) × (l.high ≤ 22) × (r.high ≤ 22) }
+    ensures { result ≡ cell_ok (lists_in links.entry) at up l.top r.top l.high r.high }
 {
-    if left[i] != l.top {
-        return false;
-    }
-    if right[i] != r.top {
-        return false;
-    }
-    let p = parent[i];
-    if p != up {
-        return false;
-    }
-    let h = height[i];
-    let m = choose_taller(l.high, r.high) + 1;
-    if h != m {
-        return false;
-    }
-    if r.high + 1 < l.high {
-        return false;
-    }
-    r.high <= l.high + 1
+    let i = at as usize;
+    links.left[i] == l.top
+        && links.right[i] == r.top
+        && links.parent[i] == up
+        && links.height[i] == l.high.max(r.high) + 1
+        && l.high <= r.high + 1
+        && r.high <= l.high + 1
 }
 
 // What is seen of the node `at`, over the subtrees l and r.
-fn join(ok: bool, at: u16, l: Seen, r: Seen) -> Seen
+fn join(at: u16, l: Seen, r: Seen) -> Seen
     requires { (l.high ≤ 22) × (r.high ≤ 22) × (l.size < 4194304) × (r.size < 4194304) }
-    ensures { (result.ok ≡ ok) × (result.top ≡ at) × (result.high ≡ max l.high r.high + 1)
-        × (result.size ≡ l.size + r.size + 1) }
+    ensures { (result.top ≡ at) × (result.high ≡ max l.high r.high + 1) × (result.size ≡ l.size + r.size + 1) }
 {
     Seen {
-        ok,
         top: at,
-        high: choose_taller(l.high, r.high) + 1,
+        high: l.high.max(r.high) + 1,
         size: l.size + r.size + 1,
     }
 }
 
-// What is seen where there is no node; or where something is wrong.
-fn see_none(ok: bool) -> Seen
-    ensures { (result.ok ≡ ok) × (result.top ≡ 65535) × (result.high ≡ 0) × (result.size ≡ 0) }
+// What is seen where there is no node.
+fn see_none() -> Seen
+    ensures { (result.top ≡ 65535) × (result.high ≡ 0) × (result.size ≡ 0) }
 {
     Seen {
-        ok,
         top: NONE,
         high: 0,
         size: 0,
     }
 }
 
-// Looks through the subtree of `at`, which hangs in the gap g, to a depth.
-fn look(
-    left: &[u16],
-    right: &[u16],
-    parent: &[u16],
-    height: &[u8],
-    names: &[u8],
-    start: &[u32],
-    len: &[u32],
-    g: Gap,
-    at: u16,
-    d: usize,
-) -> Seen
-    requires { Lent (lists 0 left.now right.now parent.now height.now)
-        (names_in names.now start.now len.now) (length left.now) × (d ≤ 22) }
-    ensures { Judged result (ok_tree (lists 0 left.now right.now parent.now height.now)
-        (names_in names.now start.now len.now) (length left.now) g.lo g.hi g.up
-        (tree_at d left.now right.now at)) (tree_at d left.now right.now at) }
+// Looks through the subtree of `at`, which hangs in the gap g, to a depth: None where something is wrong.
+fn look(links: Links<'_>, names: Names<'_>, g: Gap, at: u16, d: usize) -> Option<Seen>
+    requires { Lent (lists_in links) (names_of names) (length links.left.now) × (d ≤ 22) }
+    ensures { let held = links.entry in let tree = tree_at d held.left.now held.right.now at in
+        Judged result (ok_tree (lists_in held) (names_of names.entry) (length held.left.now) g.lo g.hi g.up tree) tree }
 {
-    if d == 0 {
-        return see_none(true);
+    let i = at as usize;
+    if d == 0 || links.left.len() <= i {
+        return Some(see_none());
     }
-    let k = u16_as_usize(at);
-    if left.len() <= k {
-        return see_none(true);
+    if !is_between(names, g, at) {
+        return None;
     }
-    if !is_between(names, start, len, g.lo, g.hi, k) {
-        return see_none(false);
-    }
-    let a = left[k];
-    let h = Gap {
+    let below = Gap {
         lo: g.lo,
         hi: at,
         up: at,
     };
-    let l = look(left, right, parent, height, names, start, len, h, a, d - 1);
-    if !l.ok {
-        return l;
-    }
-    let b = right[k];
-    let j = Gap {
+    let l = look(links, names, below, links.left[i], d - 1)?;
+    let above = Gap {
         lo: at,
         hi: g.hi,
         up: at,
     };
-    let r = look(left, right, parent, height, names, start, len, j, b, d - 1);
-    if !r.ok {
-        return r;
+    let r = look(links, names, above, links.right[i], d - 1)?;
+    if is_cell(links, at, g.up, l, r) {
+        Some(join(at, l, r))
+    } else {
+        None
     }
-    let ok = is_cell(left, right, parent, height, k, g.up, l, r);
-    join(ok, at, l, r)
 }
 
 // The columns, of equally many places, hold one tree of all the places.
-fn is_whole(
-    left: &[u16],
-    right: &[u16],
-    parent: &[u16],
-    height: &[u8],
-    names: &[u8],
-    start: &[u32],
-    len: &[u32],
-    root: u16,
-) -> bool
-    requires { Lent (lists 0 left.now right.now parent.now height.now)
-        (names_in names.now start.now len.now) (length left.now) }
-    ensures { result ≡ whole_tree (lists root left.now right.now parent.now height.now)
-        (names_in names.now start.now len.now) (length left.now) }
+#[tactic(auto, unfolding(crate::specs::Test::whole_tree))]
+fn is_whole(links: Links<'_>, names: Names<'_>) -> bool
+    requires { Lent (lists_in links) (names_of names) (length links.left.now) }
+    ensures { let held = links.entry in
+        result ≡ whole_tree (lists_in held) (names_of names.entry) (length held.left.now) }
 {
-    let g = Gap {
+    let everything = Gap {
         lo: NONE,
         hi: NONE,
         up: NONE,
     };
-    let s = look(left, right, parent, height, names, start, len, g, root, 22);
-    if s.ok {
-        if s.top == root {
-            return s.size == left.len();
-        }
+    match look(links, names, everything, links.root, 22) {
+        Some(seen) => seen.top == links.root && seen.size == links.left.len(),
+        None => false,
     }
-    false
 }
 
 // The name of each node lies inside the lent bytes.
-fn are_inside(names: &[u8], start: &[u32], len: &[u32]) -> bool
-    requires { length len.now ≡ length start.now }
-    ensures { result ≡ every (inside (names_in names.now start.now len.now)) (length start.now) }
+fn are_inside(names: Names<'_>) -> bool
+    requires { length names.len.now ≡ length names.start.now }
+    ensures { result ≡ every (inside (names_of names.entry)) (length names.entry.start.now) }
 {
-    let mut i = 0;
-    while i < start.len() {
-        if names.len() < u32_as_usize(start[i]) + u32_as_usize(len[i]) {
+    for (i, &start) in names.start.iter().enumerate() {
+        if names.bytes.len() < (start as usize) + (names.len[i] as usize) {
             return false;
         }
-        i += 1;
     }
     true
 }
 
 // Each column has n places.
-fn have_places(
-    left: &[u16],
-    right: &[u16],
-    parent: &[u16],
-    height: &[u8],
-    start: &[u32],
-    len: &[u32],
-    n: usize,
-) -> bool
-    ensures { result ≡ places (lists 0 left.now right.now parent.now height.now) start.now len.now n }
+// (A test for each column: their elements are of different types, so there is no loop over them.)
+#[tactic(auto, unfolding(crate::specs::Test::places))]
+fn have_places(links: Links<'_>, names: Names<'_>, n: usize) -> bool
+    ensures { let held = names.entry in
+        result ≡ places (lists_in links.entry) held.start.now held.len.now n }
 {
-    if left.len() < n {
-        return false;
-    }
-    if right.len() < n {
-        return false;
-    }
-    if parent.len() < n {
-        return false;
-    }
-    if height.len() < n {
-        return false;
-    }
-    if start.len() < n {
-        return false;
-    }
-    n <= len.len()
+    n <= links.left.len()
+        && n <= links.right.len()
+        && n <= links.parent.len()
+        && n <= links.height.len()
+        && n <= names.start.len()
+        && n <= names.len.len()
 }
 
 // The first `count` places of the columns hold one ordered, balanced tree of as many nodes, with true parents and
-// heights and each name inside `names`.
-pub fn is_tree(
-    left: &[u16],
-    right: &[u16],
-    parent: &[u16],
-    height: &[u8],
-    names: &[u8],
-    start: &[u32],
-    len: &[u32],
-    root: u16,
-    count: u16,
-) -> bool
-    ensures { result ≡ holds_tree (lists root left.now right.now parent.now height.now)
-        (names_in names.now start.now len.now) count }
+// heights and each name inside the bytes.
+pub fn is_tree(links: Links<'_>, names: Names<'_>, count: u16) -> bool
+    ensures { result ≡ holds_tree (lists_in links.entry) (names_of names.entry) count }
 {
-    let n = u16_as_usize(count);
-    if have_places(left, right, parent, height, start, len, n) {
-        let s = &start[..n];
-        let e = &len[..n];
-        if are_inside(names, s, e) {
-            return is_whole(
-                &left[..n],
-                &right[..n],
-                &parent[..n],
-                &height[..n],
-                names,
-                s,
-                e,
-                root,
-            );
-        }
+    let n = count as usize;
+    if !have_places(links, names, n) {
+        return false;
     }
-    false
+    let named = Names {
+        bytes: names.bytes,
+        start: &names.start[..n],
+        len: &names.len[..n],
+    };
+    let linked = Links {
+        root: links.root,
+        left: &links.left[..n],
+        right: &links.right[..n],
+        parent: &links.parent[..n],
+        height: &links.height[..n],
+    };
+    are_inside(named) && is_whole(linked, named)
 }

@@ -1,3 +1,2 @@
 -- Laws that the functions of this crate cite.
 mod FirstStep
-mod Parts

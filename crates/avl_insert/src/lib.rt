@@ -1,71 +1,50 @@
-// Insertion by name into the balanced tree that lent columns hold. The name of node i is the part of `names` that
-// starts at start[i] and has len[i] bytes; nothing is asked of what the columns hold for numbers that are not in
-// the tree.
+// Insertion by name into the balanced tree that lent columns hold; nothing is asked of what the columns hold for
+// numbers that are not in the tree.
 #![tactic(auto)]
 
 ghost use Rattle.std.specs.Prelude.{◌≡◌, ◌≤◌, ◌<◌, length, get_or};
 ghost use Rattle.layout_name.specs.inner.Order.{raised_copy};
 ghost use Rattle.avl_model.specs.declared.Place.TheVariants.{Root};
-ghost use Rattle.avl_model.specs.Tree.{bal, ins};
+ghost use Rattle.avl_model.specs.Tree.{bal, ins, none};
 ghost use Rattle.avl_model.specs.inner.Rep.{climb};
 ghost use Rattle.avl_model.specs.Lists.{lists};
+ghost use Rattle.avl_model.specs.Lent.{IsSame, lists_of, names_of};
 ghost use Rattle.avl_model.specs.inner.Lists.{above_of, attached};
 ghost use Rattle.avl_model.specs.inner.Held.{Ready, Whole};
-ghost use Rattle.avl_model.specs.Names.{names_in, name_at, to_name, is_less};
-ghost use Rattle.avl_model.specs.inner.Names.{Inside};
+ghost use Rattle.avl_model.specs.Names.{to_name, is_less};
 ghost use Rattle.avl_model.specs.Seek.{spot_in};
 ghost use Rattle.avl_model.specs.inner.Seek.{Sought};
 ghost use Rattle.avl_model.specs.inner.Insert.{Placed};
 
-use avl_model::{Place, Spot};
+use avl_model::{Branches, LinksMut, NONE, Names, Place, Spot};
 use avl_turn::{put, settle};
-use layout_name::{Order, compare_raised, raise_name};
-use widths::{u16_as_usize, u32_as_usize};
-
-// The number that stands for no node.
-pub const NONE: u16 = 65535;
-
-// The name of a node.
-pub fn name_of<'a>(names: &'a [u8], start: &[u32], len: &[u32], at: u16) -> &'a [u8]
-    requires { Inside (names_in names.now start.now len.now) at }
-    ensures { result.now ≡ name_at (names_in names.now start.now len.now) at }
-{
-    let i = u16_as_usize(at);
-    let from = u32_as_usize(start[i]);
-    let to = from + u32_as_usize(len[i]);
-    &names[from..to]
-}
+use layout_name::{compare_raised, raise_name};
+use std::cmp::Ordering;
 
 // Where a name, of which `copy` is the raised copy, stands or would hang.
-fn descend(
-    left: &[u16],
-    right: &[u16],
-    names: &[u8],
-    start: &[u32],
-    len: &[u32],
-    root: u16,
-    copy: &[u8; 255],
-    name: &[u8],
-) -> Spot
-    requires sought { Sought left.now right.now root (names_in names.now start.now len.now) }
+// (`Sought`, as `KeySought` and `Ready`, is a named fact and no invariant of the columns, which may hold anything
+// when C lends them.)
+fn descend(branches: Branches<'_>, names: Names<'_>, copy: &[u8; 255], name: &[u8]) -> Spot
+    requires sought { Sought branches.left.now branches.right.now branches.root (names_of names) }
     requires name_len_bound { (length name.now ≤ 255) × (copy.now ≡ raised_copy name.now) }
-    ensures { (w : Sought left.now right.now root (names_in names.now start.now len.now)) →
-        result ≡ spot_in (to_name (names_in names.now start.now len.now) name.now) w.linked.t Root }
+    ensures { let b = branches.entry in let names_held = names_of names.entry in
+        (w : Sought b.left.now b.right.now b.root names_held) →
+        result ≡ spot_in (to_name names_held name.now) w.linked.t Root }
 {
-    let mut at = root;
+    let mut at = branches.root;
     let mut place = Place::Root;
+    // A walk along links, and no count.
     while at < NONE {
-        let other = name_of(names, start, len, at);
-        let i = u16_as_usize(at);
-        match compare_raised(copy, name, other) {
-            Order::Equal => return Spot::Same(at),
-            Order::Less => {
+        let i = at as usize;
+        match compare_raised(copy, name, names.at(at)) {
+            Ordering::Equal => return Spot::Same(at),
+            Ordering::Less => {
                 place = Place::Left(at);
-                at = left[i];
+                at = branches.left[i];
             }
-            Order::Greater => {
+            Ordering::Greater => {
                 place = Place::Right(at);
-                at = right[i];
+                at = branches.right[i];
             }
         }
     }
@@ -73,25 +52,19 @@ fn descend(
 }
 
 // Where a name stands in the tree, or would hang.
-pub fn find_spot(
-    left: &[u16],
-    right: &[u16],
-    names: &[u8],
-    start: &[u32],
-    len: &[u32],
-    root: u16,
-    name: &[u8],
-) -> Spot
-    requires sought { Sought left.now right.now root (names_in names.now start.now len.now) }
+pub fn find_spot(branches: Branches<'_>, names: Names<'_>, name: &[u8]) -> Spot
+    requires sought { Sought branches.left.now branches.right.now branches.root (names_of names) }
     requires name_len_bound { length name.now ≤ 255 }
-    ensures { (w : Sought left.now right.now root (names_in names.now start.now len.now)) →
-        result ≡ spot_in (to_name (names_in names.now start.now len.now) name.now) w.linked.t Root }
+    ensures { let b = branches.entry in let names_held = names_of names.entry in
+        (w : Sought b.left.now b.right.now b.root names_held) →
+        result ≡ spot_in (to_name names_held name.now) w.linked.t Root }
 {
     let copy = raise_name(name);
-    descend(left, right, names, start, len, root, &copy, name)
+    descend(branches, names, &copy, name)
 }
 
 // The parent at a place.
+// (No From: it is what the column of parents holds for the place, NONE for the root's.)
 fn above(place: Place) -> u16
     ensures { result ≡ above_of place }
 {
@@ -103,84 +76,70 @@ fn above(place: Place) -> u16
 }
 
 // A node with no children, at a place. Its height is made as the climb starts.
-fn attach(
-    root: &mut u16,
-    left: &mut [u16],
-    right: &mut [u16],
-    parent: &mut [u16],
-    height: &mut [u8],
-    place: Place,
-    new: u16,
-)
-    requires { (new < length left.old) × (new < length right.old) × (new < length parent.old)
-        × (new < length height.old) }
-    ensures { let before = lists root.old left.old right.old parent.old height.old in let after = lists root.new
-        left.new right.new parent.new height.new in after ≡ attached before place new }
+fn attach(links: &mut LinksMut<'_>, place: Place, new: u16)
+    requires { let old = links.old in (new < length old.left.now) × (new < length old.right.now)
+        × (new < length old.parent.now) × (new < length old.height.now) }
+    ensures same { IsSame links.old links.new }
+    ensures attached { lists_of links.new ≡ attached (lists_of links.old) place new }
 {
-    put(root, left, right, place, new);
-    let i = u16_as_usize(new);
-    left[i] = NONE;
-    right[i] = NONE;
-    parent[i] = above(place);
-    height[i] = 0;
+    put(links, place, new);
+    let i = new as usize;
+    links.left[i] = NONE;
+    links.right[i] = NONE;
+    links.parent[i] = above(place);
+    links.height[i] = 0;
 }
 
 // From a node whose child has changed upwards: heights, and rotations where they are needed, as far as a height
 // changes.
-fn rebalance(
-    root: &mut u16,
-    left: &mut [u16],
-    right: &mut [u16],
-    parent: &mut [u16],
-    height: &mut [u8],
-    from: u16,
-)
-    requires { Ready (lists root.old left.old right.old parent.old height.old) from }
-    ensures { let before = lists root.old left.old right.old parent.old height.old in
-        let after = lists root.new left.new right.new parent.new height.new in
-        ((w : Ready before from) → Whole after (length left.old)
-        (climb w.k (bal w.l from w.r))) }
+fn rebalance(links: &mut LinksMut<'_>, from: u16)
+    requires { Ready (lists_of links.old) from }
+    ensures same { IsSame links.old links.new }
+    ensures balanced { (w : Ready (lists_of links.old) from) →
+        Whole (lists_of links.new) (length links.old.left.now) (climb w.k (bal w.l from w.r)) }
 {
     let mut at = from;
+    // A walk along links, and no count.
     while at < NONE {
-        let i = u16_as_usize(at);
-        let old = height[i];
-        let t = settle(root, left, right, parent, height, at);
-        let j = u16_as_usize(t);
-        if height[j] == old {
+        let old = links.height[at as usize];
+        let top = settle(links, at) as usize;
+        if links.height[top] == old {
             return;
         }
-        at = parent[j];
+        at = links.parent[top];
     }
 }
 
 // The climb from a node that has just been hung and has no children: its height is 1, and the way up begins at its
 // parent.
-fn rise(
-    root: &mut u16,
-    left: &mut [u16],
-    right: &mut [u16],
-    parent: &mut [u16],
-    height: &mut [u8],
-    new: u16,
-)
-    requires ready { Ready (lists root.old left.old right.old parent.old height.old) new }
-    requires value { (get_or left.old new 0 ≡ 65535) × (get_or right.old new 0 ≡ 65535) }
-    ensures { let before = lists root.old left.old right.old parent.old height.old in
-        let after = lists root.new left.new right.new parent.new height.new in
-        ((w : Ready before new) → Whole after (length left.old)
-        (climb w.k (bal w.l new w.r))) }
+fn rise(links: &mut LinksMut<'_>, new: u16)
+    requires ready { Ready (lists_of links.old) new }
+    requires childless { (get_or links.old.left.now new 0 ≡ none) × (get_or links.old.right.now new 0 ≡ none) }
+    ensures same { IsSame links.old links.new }
+    ensures balanced { (w : Ready (lists_of links.old) new) →
+        Whole (lists_of links.new) (length links.old.left.now) (climb w.k (bal w.l new w.r)) }
 {
-    let i = u16_as_usize(new);
-    height[i] = 1;
-    let p = parent[i];
-    if p == NONE {
-        return;
+    let i = new as usize;
+    links.height[i] = 1;
+    let parent = links.parent[i];
+    if parent != NONE {
+        rebalance(links, parent);
     }
-    rebalance(root, left, right, parent, height, p);
 }
 
 // Puts the node `new` in at the place that its name's spot is, and climbs from it.
+fn put_into(links: &mut LinksMut<'_>, place: Place, new: u16)
+    requires { Placed (lists_of links.old) place new }
+    ensures same { IsSame links.old links.new }
+    ensures grown { (w : Placed (lists_of links.old) place new) → Whole (lists_of links.new)
+        (length links.old.left.now) (ins (λ i. is_less (w.by i)) new w.arena.t) }
+{
+    attach(links, place, new);
+    rise(links, new);
+}
+
+// The same in columns that are no struct: callers lend the first places of longer columns, and only of a slice that is
+// lent by itself does a proof know what becomes of the rest.
 pub fn put_in(
     root: &mut u16,
     left: &mut [u16],
@@ -196,6 +155,13 @@ pub fn put_in(
         ((w : Placed before place new) →
         Whole after (length left.old) (ins (λ i. is_less (w.by i)) new w.arena.t)) }
 {
-    attach(root, left, right, parent, height, place, new);
-    rise(root, left, right, parent, height, new);
+    let mut links = LinksMut {
+        root: *root,
+        left,
+        right,
+        parent,
+        height,
+    };
+    put_into(&mut links, place, new);
+    *root = links.root;
 }

@@ -1,15 +1,8 @@
 -- A smaller key is a smaller name. Assumes nothing.
-use Prim.Native.Nat.{ℕ, suc, ◌+◌, ◌*◌, ◌-◌, ◌≤◌, ◌<◌}
-use native.Mathlib.Omega.{arith}
-use native.Mathlib.Nat.{mul-suc, mul-zero, mul-le-mul_left}
-use mathlib.Core.Path.{◌≡◌, refl, sym, ap, ap₂, subst, ◌∙◌}
-use mathlib.Core.Bool.{Bool, true, false}
-use mathlib.Core.List.{List, [], ◌∷◌}
-use lib.Dec.{leb}
-use lib.ListN.{get_or}
+use Rattle.std.proofs.Common.{ℕ, suc, ◌+◌, ◌*◌, ◌-◌, ◌≤◌, ◌<◌, arith, mul-suc, mul-zero, mul-le-mul_left, ◌≡◌, refl, sym, ap, ap₂, subst, ◌∙◌, Bool, true, false, List, [], ◌∷◌, leb, get_or}
 use Rattle.units.specs.Told.{pick}
-use Rattle.layout_name.specs.declared.Order.{Order}
-use Rattle.layout_name.specs.declared.Order.TheVariants.{Less, Greater}
+use Rattle.std.specs.declared.cmp.Ordering.{Ordering}
+use Rattle.std.specs.declared.cmp.Ordering.TheVariants.{Less, Greater}
 use Rattle.layout_name.specs.Order.{raised, number_order, and_then, list_order}
 use Rattle.layout_name.specs.inner.Order.{raised_copy, opposite}
 use Rattle.layout_name.proofs.Laws.{Three, less, equal, greater, three, number_less, number_equal}
@@ -44,7 +37,7 @@ module _ (m : ℕ) (K : List ℕ → ℕ) (nil : K [] ≡ 0) (low : (xs : List �
   more_nil = omega (arith, mul-zero m, nil)
 
   by_three : (x y : ℕ) (xs ys : List ℕ) → Bytes (x ∷ xs) → Bytes (y ∷ ys) → m * x + K xs < m * y + K ys → Three x y → and_then (number_order x y) (list_order xs ys) ≡ Less
-  by_three x y xs ys a b h (less q) = ap (λ (o : Order). and_then o (list_order xs ys)) (number_less x y q)
+  by_three x y xs ys a b h (less q) = ap (λ (o : Ordering). and_then o (list_order xs ys)) (number_less x y q)
   by_three x y xs ys a b h (equal e) =
       let f : m * x ≡ m * y = ap (λ (v : ℕ). m * v) e in
       ap₂ and_then (number_equal x y e) (law xs ys (λ i. a (suc i)) (λ i. b (suc i)) (omega arith))
@@ -65,7 +58,7 @@ unfolding list_order
 head_law [] [] a b h = absurd (omega arith)
 head_law [] (y ∷ ys) a b h = refl
 head_law (x ∷ xs) [] a b h = absurd (omega arith)
-head_law (x ∷ xs) (y ∷ ys) a b h = ap (λ (o : Order). and_then o (list_order xs ys)) (number_less x y h)
+head_law (x ∷ xs) (y ∷ ys) a b h = ap (λ (o : Ordering). and_then o (list_order xs ys)) (number_less x y h)
 
 head_low : (xs : List ℕ) → Bytes xs → head xs < 256
 head_low [] h = omega arith

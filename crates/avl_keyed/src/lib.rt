@@ -6,23 +6,23 @@ ghost use Rattle.units.specs.Told.{pick};
 ghost use Rattle.layout_name.specs.inner.Order.{raised_copy};
 ghost use Rattle.avl_model.specs.declared.Place.TheVariants.{Root};
 ghost use Rattle.avl_model.specs.declared.Spot.TheVariants.{Free};
-ghost use Rattle.avl_model.specs.Names.{names_in, to_name};
+ghost use Rattle.avl_model.specs.Lent.{names_of};
+ghost use Rattle.avl_model.specs.Names.{to_name};
 ghost use Rattle.avl_model.specs.Seek.{spot_in};
 ghost use Rattle.avl_keyed.specs.inner.Key.{key_for, KeySought, place_from};
 
-use avl_insert::{NONE, name_of};
-use avl_model::{Place, Spot};
-use layout_name::{Order, compare, raise};
-use widths::{u8_as_u32, u16_as_usize};
+use avl_model::{Branches, NONE, Names, Place, Spot};
+use layout_name::{compare, raise};
+use std::cmp::Ordering;
 
 // The byte of a name at a place, raised; 0 past its end.
+#[tactic(auto, using(layout_name::proofs::Raised::copy_at, layout_name::proofs::Raised::copy_past))]
 fn raised_at(name: &[u8], i: usize) -> u32
     ensures { (result ≡ get_or (raised_copy name.now) i 0) × (result < 256) }
 {
-    if i < name.len() {
-        u8_as_u32(raise(name[i]))
-    } else {
-        0
+    match name.get(i) {
+        Some(&byte) => u32::from(raise(byte)),
+        None => 0,
     }
 }
 
@@ -35,6 +35,7 @@ fn join(a: u32, b: u32, c: u32, d: u32) -> u32
 }
 
 // The key of a name, looked for byte by byte.
+#[tactic(auto, unfolding(crate::specs::inner::Key::key_for))]
 fn key_by_bytes(name: &[u8]) -> u32
     ensures { result ≡ key_for name.now }
 {
@@ -64,63 +65,58 @@ fn choose(less: bool, l: u16, r: u16) -> u16
 }
 
 // The place below the last node that was looked at.
-fn place_below(above: u16, less: bool) -> Spot
-    ensures { result ≡ Free (place_from above less) }
+// (The node above and the side are two numbers until the search has ended: made a `Place` at each node, as in
+// `avl_insert`, the child would be chosen by a branch.)
+fn place_below(above: u16, less: bool) -> Place
+    ensures { result ≡ place_from above less }
 {
     if above == NONE {
-        return Spot::Free(Place::Root);
+        return Place::Root;
     }
     if less {
-        Spot::Free(Place::Left(above))
+        Place::Left(above)
     } else {
-        Spot::Free(Place::Right(above))
+        Place::Right(above)
     }
 }
 
 // Where a name, of which k is the key, stands or would hang. What a node says is read
 // before it is tested, so that the child is chosen without a branch where the keys differ.
-pub fn seek(
-    left: &[u16],
-    right: &[u16],
-    key: &[u32],
-    names: &[u8],
-    start: &[u32],
-    len: &[u32],
-    root: u16,
-    name: &[u8],
-    k: u32,
-) -> Spot
-    requires key_sought { KeySought left.now right.now key.now root (names_in names.now start.now len.now) }
-    requires k_value { k ≡ key_for name.now }
-    ensures { (w : KeySought left.now right.now key.now root (names_in names.now start.now len.now)) →
-        result ≡ spot_in (to_name (names_in names.now start.now len.now) name.now) w.linked.t Root }
+pub fn seek(branches: Branches<'_>, key: &[u32], names: Names<'_>, name: &[u8], k: u32) -> Spot
+    requires key_sought { KeySought branches.left.now branches.right.now key.now branches.root (names_of names) }
+    requires key_is { k ≡ key_for name.now }
+    ensures { let b = branches.entry in let names_held = names_of names.entry in
+        (w : KeySought b.left.now b.right.now key.now b.root names_held) →
+        result ≡ spot_in (to_name names_held name.now) w.linked.t Root }
 {
-    let mut at = root;
+    let mut at = branches.root;
     let mut above = NONE;
     let mut less = false;
+    // A walk along links, and no count.
     while at < NONE {
-        let i = u16_as_usize(at);
+        let i = at as usize;
         let q = key[i];
-        let l = left[i];
-        let r = right[i];
+        let l = branches.left[i];
+        let r = branches.right[i];
         above = at;
         if k == q {
-            let other = name_of(names, start, len, at);
-            match compare(name, other) {
-                Order::Equal => return Spot::Same(at),
-                Order::Less => {
+            match compare(name, names.at(at)) {
+                Ordering::Equal => return Spot::Same(at),
+                Ordering::Less => {
                     less = true;
                     at = l;
                 }
-                Order::Greater => {
+                Ordering::Greater => {
                     less = false;
                     at = r;
                 }
             }
         } else {
+            // For the proof alone: `at` ensures that a name is bytes, by which the keys tell the order.
+            let _other = names.at(at);
             less = k < q;
             at = choose(less, l, r);
         }
     }
-    place_below(above, less)
+    Spot::Free(place_below(above, less))
 }

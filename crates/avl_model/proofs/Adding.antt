@@ -1,15 +1,9 @@
 -- From the whole tree down to the place of a new node, the node put there, and the climb from it.
-use Prim.Native.Nat.{ℕ, suc, ◌+◌, ◌≤◌, ◌<◌, max}
-use native.Mathlib.Omega.{arith}
-use native.Mathlib.Decide.{ℕ_discrete}
-use mathlib.Core.Path.{◌≡◌, refl, sym, ap, subst, ◌∙◌}
-use mathlib.Core.Bool.{Bool, true, false}
-use mathlib.Core.List.{List}
-use lib.ListN.{length, get_or, set, take, length-set}
-use lib.Seq.{get_or-set_same, get_or-set_other, get_or-take}
-use Rattle.layout_name.specs.declared.Order.{Order}
-use Rattle.layout_name.specs.declared.Order.TheVariants.{Less, Equal, Greater}
-use Rattle.avl_model.specs.declared.Inserted.TheVariants.{Done, Duplicate}
+use Rattle.std.proofs.Common.{ℕ, suc, ◌+◌, ◌≤◌, ◌<◌, max, arith, ◌≡◌, refl, sym, ap, subst, ◌∙◌, Bool, true, false, List, length, get_or, set, take, length-set, get_or-set_same, get_or-set_other, get_or-take}
+use Rattle.std.proofs.Math.Decide.{ℕ_discrete}
+use Rattle.std.specs.declared.cmp.Ordering.{Ordering}
+use Rattle.std.specs.declared.cmp.Ordering.TheVariants.{Less, Equal, Greater}
+use Rattle.avl_model.specs.inner.Insert.{Done, Duplicate}
 use Rattle.avl_model.specs.Names.{Names, is_less}
 use Rattle.avl_model.specs.Laws.{Avl, All}
 use Rattle.avl_model.specs.declared.Place.{Place}
@@ -114,11 +108,11 @@ module _ (less : ℕ → Bool) where
   ]
 
 -- where a name goes is the end of the path to it
-module _ (by : ℕ → Order) where
+module _ (by : ℕ → Ordering) where
   abbrev less_by : ℕ → Bool
   less_by i = is_less (by i)
 
-  spot_turn : (o : Order) (l : Tree) (i : ℕ) (r : Tree) (k : Ctx) (q : Place) (x y : Spot)
+  spot_turn : (o : Ordering) (l : Tree) (i : ℕ) (r : Tree) (k : Ctx) (q : Place) (x y : Spot)
       → (x ≡ Free q → q ≡ place_in (path less_by l (in_l i r k))) → (y ≡ Free q → q ≡ place_in (path less_by r (in_r l i k)))
       → spot_by o (Same i) x y ≡ Free q → q ≡ place_in (path_by (is_less o) (path less_by l (in_l i r k)) (path less_by r (in_r l i k)))
   spot_turn Less l i r k q x y f g e = f e
@@ -240,7 +234,7 @@ module _ (S : Lists) (new : ℕ) (w : Arena S new) where
     bound = omega (arith, low);
   }
 
-  module _ (by : ℕ → Order) (q : Place) (e : spot_in by w.t Root ≡ Free q) where
+  module _ (by : ℕ → Ordering) (q : Place) (e : spot_in by w.t Root ≡ Free q) where
     abbrev less : ℕ → Bool
     less = λ i. is_less (by i)
 
@@ -297,7 +291,7 @@ module _ (S : Lists) (N : Names) (new : ℕ) (w : Filled S N new) where
   unfolding linked
   sought = record { linked = linked S new w.arena; named = w.named }
 
-  module _ (by : ℕ → Order) {s : Spot} (f : (v : Sought S.L S.R S.root N) → s ≡ spot_in by v.linked.t Root) where
+  module _ (by : ℕ → Ordering) {s : Spot} (f : (v : Sought S.L S.R S.root N) → s ≡ spot_in by v.linked.t Root) where
     spot_is : s ≡ spot_in by w.arena.t Root
     unfolding sought linked
     spot_is = f sought

@@ -1,8 +1,6 @@
 -- What the search, the insertion and the order say depends on the names of the tree's own nodes alone.
-use Prim.Native.Nat.{ℕ}
-use mathlib.Core.Path.{◌≡◌, refl}
-use mathlib.Core.Bool.{Bool}
-use Rattle.layout_name.specs.declared.Order.{Order}
+use Rattle.std.proofs.Common.{ℕ, ◌≡◌, refl, Bool}
+use Rattle.std.specs.declared.cmp.Ordering.{Ordering}
 use Rattle.avl_model.specs.declared.Place.{Place}
 use Rattle.avl_model.specs.declared.Place.TheVariants.{Left, Right}
 use Rattle.avl_model.specs.declared.Spot.TheVariants.{Same}
@@ -16,7 +14,7 @@ ins_alike f g new leaf a = refl
 ins_alike f g new (node l i r) a = λ d. ins_by (a.0 d) l (ins_alike f g new l a.1 d) i r (ins_alike f g new r a.2 d)
 
 -- the search by two orders that agree on them
-pub spot_alike : (f g : ℕ → Order) (t : Tree) (q : Place) → All (λ j. f j ≡ g j) t → spot_in f t q ≡ spot_in g t q
+pub spot_alike : (f g : ℕ → Ordering) (t : Tree) (q : Place) → All (λ j. f j ≡ g j) t → spot_in f t q ≡ spot_in g t q
 spot_alike f g leaf q a = refl
 spot_alike f g (node l i r) q a = λ d. spot_by (a.0 d) (Same i) (spot_alike f g l (Left i) a.1 d) (spot_alike f g r (Right i) a.2 d)
 

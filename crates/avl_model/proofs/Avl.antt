@@ -1,10 +1,6 @@
 -- Insertion keeps the balance and the order; how few nodes a height takes.
-use Prim.Native.Nat.{ℕ, zero, suc, ◌+◌, ◌≤◌, ◌<◌, max}
-use native.Mathlib.Omega.{arith}
-use native.Mathlib.Decide.{dec_le, ℕ_discrete}
-use mathlib.Core.Path.{◌≡◌, refl, sym, ap, subst, ◌∙◌}
-use mathlib.Core.Bool.{Bool, true, false}
-use mathlib.Core.Logic.{◌⊎◌, inl, inr}
+use Rattle.std.proofs.Common.{ℕ, zero, suc, ◌+◌, ◌≤◌, ◌<◌, max, arith, ◌≡◌, refl, sym, ap, subst, ◌∙◌, Bool, true, false, ◌⊎◌, inl, inr}
+use Rattle.std.proofs.Math.Decide.{dec_le, ℕ_discrete}
 use Rattle.avl_model.specs.Tree.{Tree, leaf, node, ht, δ, cnt, bal, ins, ins_by}
 use Rattle.avl_model.specs.Laws.{Avl, All, Ordered, size, least}
 use Rattle.avl_model.proofs.Bal.{bal_ind}

@@ -1,10 +1,5 @@
 -- What `bal` keeps: the nodes, and the height but for one.
-use Prim.Native.Nat.{ℕ, suc, ◌+◌, ◌≤◌, ◌<◌, max}
-use native.Mathlib.Omega.{arith}
-use mathlib.Core.Path.{◌≡◌, refl, sym, ap}
-use mathlib.Core.Bool.{Bool, true, false}
-use lib.Dec.{ltb}
-use borrow.Author.Tests.{ltb-true, ltb-false}
+use Rattle.std.proofs.Common.{ℕ, suc, ◌+◌, ◌≤◌, ◌<◌, max, arith, ◌≡◌, refl, sym, ap, Bool, true, false, ltb, ltb-true, ltb-false}
 use Rattle.avl_model.specs.Tree.{Tree, leaf, node, ht, δ, cnt, turn_left_by, turn_right_by, bal, bal_by, ins, ins_by}
 
 -- A property that the node l i r has where the heights are near, and that each rotation has where it is made, `bal l i r` has.

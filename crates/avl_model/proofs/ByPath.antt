@@ -1,12 +1,6 @@
 -- The Rust chooses the rotation by the way that the climb came, and not by the heights of the grandchildren. On an AVL tree that is the same choice.
-use Prim.Native.Nat.{ℕ, suc, ◌≤◌, ◌<◌}
-use native.Mathlib.Omega.{arith}
-use native.Mathlib.Decide.{dec_lt}
-use mathlib.Core.Path.{◌≡◌, refl, sym, ap, ◌∙◌}
-use mathlib.Core.Bool.{Bool, true, false, not}
-use mathlib.Core.Logic.{◌⊎◌, inl, inr}
-use lib.Dec.{ltb}
-use borrow.Author.Tests.{lt-ltb, le-ltb}
+use Rattle.std.proofs.Common.{ℕ, suc, ◌≤◌, ◌<◌, arith, ◌≡◌, refl, sym, ap, ◌∙◌, Bool, true, false, not, ◌⊎◌, inl, inr, ltb, lt-ltb, le-ltb}
+use Rattle.std.proofs.Math.Decide.{dec_lt}
 use Rattle.avl_model.specs.Tree.{Tree, leaf, node, ht, bal, ins, ins_by, turn_left_by, turn_right_by}
 use Rattle.avl_model.specs.Laws.{Avl}
 use Rattle.avl_model.specs.Rust.{rust, rust_by, ins_rust}

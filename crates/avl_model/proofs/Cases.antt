@@ -1,6 +1,5 @@
 -- The worked cases of trees: three names in two orders, and a name that differs by case alone.
-use mathlib.Core.Path.{◌≡◌, refl}
-use mathlib.Core.List.{[], ◌∷◌, map}
+use Rattle.std.proofs.Common.{◌≡◌, refl, [], ◌∷◌, map}
 use Rattle.layout_name.specs.Order.{list_order, number_order, raised}
 use Rattle.name_role.specs.Roles.{given_keys, given_order}
 use Rattle.avl_model.specs.declared.Place.TheVariants.{Root}

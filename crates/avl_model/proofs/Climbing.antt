@@ -1,12 +1,5 @@
 -- From one node on the way up to the next. The measure: the height that is held for the node, which rises.
-use Prim.Native.Nat.{ℕ, suc, ◌+◌, ◌-◌, ◌≤◌, ◌<◌, max}
-use native.Mathlib.Omega.{arith}
-use mathlib.Core.Path.{◌≡◌, refl, sym, ap, subst, ◌∙◌}
-use mathlib.Core.Bool.{Bool, true, false}
-use mathlib.Core.Logic.{◌⊎◌, inl, inr}
-use lib.ListN.{length, get_or}
-use lib.Dec.{ltb}
-use borrow.Author.Tests.{lt-ltb, le-ltb}
+use Rattle.std.proofs.Common.{ℕ, suc, ◌+◌, ◌-◌, ◌≤◌, ◌<◌, max, arith, ◌≡◌, refl, sym, ap, subst, ◌∙◌, Bool, true, false, ◌⊎◌, inl, inr, length, get_or, ltb, lt-ltb, le-ltb}
 use Rattle.avl_model.specs.Lists.{Lists}
 use Rattle.avl_model.specs.Tree.{Tree, leaf, node, none, top, ht, δ, cnt, bal}
 use Rattle.avl_model.specs.Rep.{Arr, Rep}
@@ -186,7 +179,7 @@ module _ (S T : Lists) (at t : ℕ) (w : Ready S at) (U : Up T (length S.L) t (b
         (plug_held (arr_of T) (length S.L) w.k s (subst (λ (g : ℕ). Held (arr_of T) (length S.L) s w.k g) high U.held));
   }
 
--- ---- the loop's turn, said of its state. i is the node and j what came up, as they are read as indices
+-- ---- the loop's turn, said of its state
 
 pub going : {S : Lists} {n at : ℕ} {goal : Tree} → State S n at goal → at < none → Going S n at goal
 going (inl g) h = g
@@ -196,19 +189,20 @@ pub ended : {S : Lists} {n at : ℕ} {goal : Tree} → State S n at goal → non
 ended (inl g) h = absurd (omega (arith, g.ready.at.fits, g.ready.small))
 ended (inr e) h = e.whole
 
-module _ {S T : Lists} {n at t : ℕ} {goal : Tree} (g : Going S n at goal) (f : (w : Ready S at) → Up T (length S.L) t (bal w.l at w.r) w.k w.hh) {j : ℕ} (js : j ≡ t) where
-  pub risen : j < n
-  risen = subst (λ (m : ℕ). j < m) g.n_is (subst (λ (v : ℕ). v < length S.L) (sym js) (inside S T at t g.ready (f g.ready)))
+module _ {S T : Lists} {n at t : ℕ} {goal : Tree} (g : Going S n at goal) (f : (w : Ready S at) → Up T (length S.L) t (bal w.l at w.r) w.k w.hh) where
+  pub has_height : t < length T.H
+  has_height = omega (arith, inside S T at t g.ready (f g.ready), (f g.ready).long.h)
 
-  pub again : State T n (get_or T.P j 0) goal
-  again = subst (λ (v : ℕ). State T n (get_or T.P v 0) goal) (sym js)
-      (subst (λ (m : ℕ). State T m (get_or T.P t 0) goal) g.n_is
-      (subst (λ (q : Tree). State T (length S.L) (get_or T.P t 0) q) (sym g.goal_is) (next S T at t g.ready (f g.ready))))
+  pub has_parent : t < length T.P
+  has_parent = omega (arith, inside S T at t g.ready (f g.ready), (f g.ready).long.p)
 
-  pub nearer : mu T (get_or T.P j 0) < mu S at
-  nearer = subst (λ (v : ℕ). mu T (get_or T.P v 0) < mu S at) (sym js) (less S T at t g.ready (f g.ready))
+  pub again : State T n (get_or T.P t 0) goal
+  again = subst (λ (m : ℕ). State T m (get_or T.P t 0) goal) g.n_is
+      (subst (λ (q : Tree). State T (length S.L) (get_or T.P t 0) q) (sym g.goal_is) (next S T at t g.ready (f g.ready)))
 
-  pub stopped : {i : ℕ} → i ≡ at → get_or T.H j 0 ≡ get_or S.H i 0 → Whole T n goal
-  stopped {i} is e = subst (λ (m : ℕ). Whole T m goal) g.n_is
-      (subst (λ (q : Tree). Whole T (length S.L) q) (sym g.goal_is)
-      (settled S T at t g.ready (f g.ready) (ap (λ (v : ℕ). get_or T.H v 0) (sym js) ∙ e ∙ ap (λ (v : ℕ). get_or S.H v 0) is)))
+  pub nearer : mu T (get_or T.P t 0) < mu S at
+  nearer = less S T at t g.ready (f g.ready)
+
+  pub stopped : get_or T.H t 0 ≡ get_or S.H at 0 → Whole T n goal
+  stopped e = subst (λ (m : ℕ). Whole T m goal) g.n_is
+      (subst (λ (q : Tree). Whole T (length S.L) q) (sym g.goal_is) (settled S T at t g.ready (f g.ready) e))

@@ -1,8 +1,6 @@
 -- How often a number stands in an ordered tree, how many nodes a tree of n numbers has, and how high it is.
-use Prim.Native.Nat.{ℕ, zero, suc, ◌+◌, ◌≤◌, ◌<◌}
-use native.Mathlib.Omega.{arith}
-use native.Mathlib.Decide.{dec_le, ℕ_discrete}
-use mathlib.Core.Path.{◌≡◌, refl, sym, subst, ◌∙◌}
+use Rattle.std.proofs.Common.{ℕ, zero, suc, ◌+◌, ◌≤◌, ◌<◌, arith, ◌≡◌, refl, sym, subst, ◌∙◌}
+use Rattle.std.proofs.Math.Decide.{dec_le, ℕ_discrete}
 use Rattle.avl_model.specs.Tree.{Tree, leaf, node, ht, δ, cnt}
 use Rattle.avl_model.specs.Rep.{Arr, Rep}
 use Rattle.avl_model.specs.Laws.{Avl, All, Ordered, size}

@@ -1,8 +1,5 @@
 -- What does not touch a tree's nodes leaves the tree held.
-use Prim.Native.Nat.{ℕ, suc, ◌≤◌, max}
-use native.Mathlib.Omega.{arith}
-use mathlib.Core.Path.{◌≡◌, refl, ap, subst, ◌∙◌}
-use borrow.Author.Tests.{eq-eqb, ne_eqb}
+use Rattle.std.proofs.Common.{ℕ, suc, ◌≤◌, max, arith, ◌≡◌, refl, ap, subst, ◌∙◌, eq-eqb, ne_eqb}
 use Rattle.avl_model.specs.Tree.{Tree, leaf, node, top, ht, one, δ, cnt}
 use Rattle.avl_model.specs.Rep.{Arr, Rep}
 use Rattle.avl_model.specs.inner.Rep.{Ctx, hole, in_l, in_r, cnt_k, Link, Step, RepK}

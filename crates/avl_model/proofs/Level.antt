@@ -1,16 +1,8 @@
 -- One step of the climb: the node's own height, and the turn to either side.
-use Prim.Native.Nat.{ℕ, suc, ◌+◌, ◌≤◌, ◌<◌, max}
-use native.Mathlib.Omega.{arith}
-use mathlib.Core.Path.{◌≡◌, refl, sym, ap, subst, ◌∙◌}
-use mathlib.Core.List.{List}
-use mathlib.Core.Bool.{Bool, true, false}
-use lib.ListN.{length, get_or, set, length-set}
-use lib.Seq.{get_or-set_other}
-use lib.Dec.{ltb}
-use borrow.Author.Tests.{lt-ltb, le-ltb, ltb-true, ltb-false}
+use Rattle.std.proofs.Common.{ℕ, suc, ◌+◌, ◌≤◌, ◌<◌, max, arith, ◌≡◌, refl, sym, ap, subst, ◌∙◌, List, Bool, true, false, length, get_or, set, length-set, get_or-set_other, ltb, lt-ltb, le-ltb, ltb-true, ltb-false}
 use Rattle.avl_model.specs.declared.Direction.TheVariants.{Left as ToLeft, Leaf, Right as ToRight}
 use Rattle.avl_model.specs.Lists.{Lists, lists}
-use Rattle.avl_model.specs.inner.Lists.{risen, tilt_of, tilt_by}
+use Rattle.avl_model.specs.inner.Lists.{risen, mirrored, tilt_of, tilt_by}
 use Rattle.avl_model.specs.Tree.{Tree, leaf, node, none, top, ht, δ, cnt, turn_left, turn_right, bal}
 use Rattle.avl_model.specs.Rep.{Arr, arr, Rep}
 use Rattle.avl_model.specs.inner.Rep.{Ctx, cnt_k, At}
@@ -88,13 +80,9 @@ turnable S n i b l (node y c z) k hh en W small low e T h =
       λ T t U. U,
     ))
 
--- left and right exchanged
-abbrev pub swap : Lists → Lists
-swap S = lists S.root S.R S.L S.P S.H
-
-up_unmir : (T : Lists) (n t i : ℕ) (l r : Tree) (k : Ctx) (hh : ℕ) → Up (swap T) n t (turn_left (mir r) i (mir l)) (mir_k k) hh → Up T n t (turn_right l i r) k hh
+up_unmir : (T : Lists) (n t i : ℕ) (l r : Tree) (k : Ctx) (hh : ℕ) → Up (mirrored T) n t (turn_left (mir r) i (mir l)) (mir_k k) hh → Up T n t (turn_right l i r) k hh
 up_unmir T n t i l r k hh U =
-    let W : Up (swap T) n t (mir (turn_right l i r)) (mir_k k) hh = subst (λ (s : Tree). Up (swap T) n t s (mir_k k) hh) (turn_mir l i r) U in
+    let W : Up (mirrored T) n t (mir (turn_right l i r)) (mir_k k) hh = subst (λ (s : Tree). Up (mirrored T) n t s (mir_k k) hh) (turn_mir l i r) U in
     record {
       long = record { l = W.long.r; r = W.long.l; p = W.long.p; h = W.long.h };
       held = held_unmir (arr_of T) n (turn_right l i r) k hh W.held;
@@ -165,17 +153,17 @@ module _ (S : Lists) (i : ℕ) (w : Ready S i) where
         rw (le-ltb (suc (ht w.r)) (ht w.l) (omega arith), lt-ltb (suc (ht w.l)) (ht w.r) h) ((right_turnable e).1 T t U)
 
     -- to the left: the same with left and right exchanged
-    pub left_turnable : tilt_of a b ≡ ToLeft → Turnable (swap S1) n i (get_or S.L i 0) (turn_left (mir w.r) i (mir w.l)) (mir_k w.k) w.hh
-    left_turnable e = turnable (swap S1) n i (get_or S.L i 0) (mir w.r) (mir w.l) (mir_k w.k) w.hh w.long.r
+    pub left_turnable : tilt_of a b ≡ ToLeft → Turnable (mirrored S1) n i (get_or S.L i 0) (turn_left (mir w.r) i (mir w.l)) (mir_k w.k) w.hh
+    left_turnable e = turnable (mirrored S1) n i (get_or S.L i 0) (mir w.r) (mir w.l) (mir_k w.k) w.hh w.long.r
         (record { l = long1.r; r = long1.l; p = long1.p; h = long1.h }) w.small low1 (w.at.left ∙ sym (top-mir w.l))
         (at_mir (arr_of S1) n i i w.l w.r w.k w.hh T1) (omega (arith, left_tall e, ht-mir w.l, ht-mir w.r))
 
     pub left_done : (e : tilt_of a b ≡ ToLeft) (T : Lists) (t : ℕ)
-        → Up (swap T) (length S.R) t (turn_left (left_turnable e).0.x i (node (left_turnable e).0.y (get_or S.L i 0) (left_turnable e).0.z)) (left_turnable e).0.k (left_turnable e).0.hh → Left T t
+        → Up (mirrored T) (length S.R) t (turn_left (left_turnable e).0.x i (node (left_turnable e).0.y (get_or S.L i 0) (left_turnable e).0.z)) (left_turnable e).0.k (left_turnable e).0.hh → Left T t
     unfolding bal
     left_done e T t U =
         let h : suc (ht w.r) < ht w.l = left_tall e in
-        rw (lt-ltb (suc (ht w.r)) (ht w.l) h) (up_unmir T n t i w.l w.r w.k w.hh ((left_turnable e).1 (swap T) t U))
+        rw (lt-ltb (suc (ht w.r)) (ht w.l) h) (up_unmir T n t i w.l w.r w.k w.hh ((left_turnable e).1 (mirrored T) t U))
 
     -- not at all
     pub leaf_done : tilt_of a b ≡ Leaf → Left S1 i
@@ -187,37 +175,30 @@ module _ (S : Lists) (i : ℕ) (w : Ready S i) where
         rw (le-ltb (suc (ht w.r)) (ht w.l) (omega (arith, is_l, is_r)), le-ltb (suc (ht w.l)) (ht w.r) (omega (arith, is_l, is_r)))
         (record { long = long1; held = held (arr_of S1) n i w.l w.r w.k w.hh (T1, hi); root = refl })
 
-  -- the same of a list of heights that is known to be `h1`, as a call leaves it; g is i, as it is read as an index
-  module _ (hs : List ℕ) (e : hs ≡ h1) (g : ℕ) (is : g ≡ i) (a b : ℕ) (ea : a ≡ get_or hs (get_or S.L g 0) 0) (eb : b ≡ get_or hs (get_or S.R g 0) 0) where
-    abbrev Ss : Lists
-    Ss = lists S.root S.L S.R S.P hs
-
+  -- the same of the lists T that a call leaves
+  module _ (T : Lists) (e : T ≡ S1) (a b : ℕ) (ea : a ≡ get_or T.H (get_or T.L i 0) 0) (eb : b ≡ get_or T.H (get_or T.R i 0) 0) where
     a1 : a ≡ get_or h1 (get_or S.L i 0) 0
-    a1 = ea ∙ λ d. get_or (e d) (get_or S.L (is d) 0) 0
+    a1 = ea ∙ λ d. get_or (e d).H (get_or (e d).L i 0) 0
 
     b1 : b ≡ get_or h1 (get_or S.R i 0) 0
-    b1 = eb ∙ λ d. get_or (e d) (get_or S.R (is d) 0) 0
+    b1 = eb ∙ λ d. get_or (e d).H (get_or (e d).R i 0) 0
 
-    pub right_asks : tilt_of a b ≡ ToRight → Heavy Ss i (get_or S.R g 0)
-    right_asks q = subst (λ (v : ℕ). Heavy Ss i (get_or S.R v 0)) (sym is)
-        (subst (λ (u : List ℕ). Heavy (lists S.root S.L S.R S.P u) i (get_or S.R i 0)) (sym e) (right_turnable a b a1 b1 q).0)
+    pub right_asks : tilt_of a b ≡ ToRight → Heavy T i (get_or T.R i 0)
+    right_asks q = subst (λ (U : Lists). Heavy U i (get_or U.R i 0)) (sym e) (right_turnable a b a1 b1 q).0
 
-    pub right_leaves : tilt_of a b ≡ ToRight → {T : Lists} {t : ℕ}
-        → ((v : Heavy Ss i (get_or S.R g 0)) → Up T n t (turn_left v.x i (node v.y (get_or S.R g 0) v.z)) v.k v.hh) → Left T t
-    right_leaves q {T} {t} = subst (λ (m : ℕ). ((v : Heavy Ss i (get_or S.R m 0)) → Up T n t (turn_left v.x i (node v.y (get_or S.R m 0) v.z)) v.k v.hh) → Left T t) (sym is)
-        (subst (λ (u : List ℕ). ((v : Heavy (lists S.root S.L S.R S.P u) i (get_or S.R i 0)) → Up T n t (turn_left v.x i (node v.y (get_or S.R i 0) v.z)) v.k v.hh) → Left T t)
-        (sym e) (λ f. right_done a b a1 b1 q T t (f (right_turnable a b a1 b1 q).0)))
+    pub right_leaves : tilt_of a b ≡ ToRight → {V : Lists} {t : ℕ}
+        → ((v : Heavy T i (get_or T.R i 0)) → Up V (length T.L) t (turn_left v.x i (node v.y (get_or T.R i 0) v.z)) v.k v.hh) → Left V t
+    right_leaves q {V} {t} = subst (λ (U : Lists). ((v : Heavy U i (get_or U.R i 0)) → Up V (length U.L) t (turn_left v.x i (node v.y (get_or U.R i 0) v.z)) v.k v.hh) → Left V t)
+        (sym e) (λ f. right_done a b a1 b1 q V t (f (right_turnable a b a1 b1 q).0))
 
-    pub left_asks : tilt_of a b ≡ ToLeft → Heavy (swap Ss) i (get_or S.L g 0)
-    left_asks q = subst (λ (v : ℕ). Heavy (swap Ss) i (get_or S.L v 0)) (sym is)
-        (subst (λ (u : List ℕ). Heavy (lists S.root S.R S.L S.P u) i (get_or S.L i 0)) (sym e) (left_turnable a b a1 b1 q).0)
+    pub left_asks : tilt_of a b ≡ ToLeft → Heavy (mirrored T) i (get_or T.L i 0)
+    left_asks q = subst (λ (U : Lists). Heavy (mirrored U) i (get_or U.L i 0)) (sym e) (left_turnable a b a1 b1 q).0
 
-    pub left_leaves : tilt_of a b ≡ ToLeft → {T : Lists} {t : ℕ}
-        → ((v : Heavy (swap Ss) i (get_or S.L g 0)) → Up (swap T) (length S.R) t (turn_left v.x i (node v.y (get_or S.L g 0) v.z)) v.k v.hh) → Left T t
-    left_leaves q {T} {t} = subst (λ (m : ℕ). ((v : Heavy (swap Ss) i (get_or S.L m 0)) → Up (swap T) (length S.R) t (turn_left v.x i (node v.y (get_or S.L m 0) v.z)) v.k v.hh) → Left T t) (sym is)
-        (subst (λ (u : List ℕ). ((v : Heavy (lists S.root S.R S.L S.P u) i (get_or S.L i 0))
-        → Up (swap T) (length S.R) t (turn_left v.x i (node v.y (get_or S.L i 0) v.z)) v.k v.hh) → Left T t)
-        (sym e) (λ f. left_done a b a1 b1 q T t (f (left_turnable a b a1 b1 q).0)))
+    pub left_leaves : tilt_of a b ≡ ToLeft → {V : Lists} {t : ℕ}
+        → ((v : Heavy (mirrored T) i (get_or T.L i 0)) → Up (mirrored V) (length T.R) t (turn_left v.x i (node v.y (get_or T.L i 0) v.z)) v.k v.hh) → Left V t
+    left_leaves q {V} {t} = subst (λ (U : Lists). ((v : Heavy (mirrored U) i (get_or U.L i 0))
+        → Up (mirrored V) (length U.R) t (turn_left v.x i (node v.y (get_or U.L i 0) v.z)) v.k v.hh) → Left V t)
+        (sym e) (λ f. left_done a b a1 b1 q V t (f (left_turnable a b a1 b1 q).0))
 
-    pub leaf_leaves : tilt_of a b ≡ Leaf → Left Ss i
-    leaf_leaves q = subst (λ (u : List ℕ). Left (lists S.root S.L S.R S.P u) i) (sym e) (leaf_done a b a1 b1 q)
+    pub leaf_leaves : tilt_of a b ≡ Leaf → Left T i
+    leaf_leaves q = subst (λ (U : Lists). Left U i) (sym e) (leaf_done a b a1 b1 q)

@@ -2,8 +2,6 @@
 pub mod Frame
 pub mod Rotate
 pub mod Mirror
-pub mod Placed
-pub mod Signed
 pub mod Low
 pub mod Joined
 pub mod Hung

@@ -1,11 +1,7 @@
 -- Bounds on the heights that are held, so that one more fits.
-use Prim.Native.Nat.{ℕ, ◌+◌, ◌<◌, max}
-use native.Mathlib.Omega.{arith}
-use native.Mathlib.Decide.{dec_lt, ℕ_discrete}
-use mathlib.Core.Path.{sym, subst}
-use mathlib.Core.List.{List}
-use lib.ListN.{length, get_or, set}
-use lib.Seq.{get_or-set_same, get_or-set_other, set_out}
+use Rattle.std.proofs.Common.{ℕ, ◌+◌, ◌<◌, max, arith, sym, subst, List, length, get_or, set, get_or-set_same, get_or-set_other}
+use Rattle.std.proofs.Math.Decide.{dec_lt, ℕ_discrete}
+use Rattle.std.proofs.Math.Seq.{set_out}
 use Rattle.avl_model.specs.inner.Lists.{risen}
 
 -- what is read after a store is what was stored, or what was there

@@ -1,7 +1,5 @@
 -- Left and right exchanged: the other two rotations come from the first two.
-use Prim.Native.Nat.{ℕ, suc, max}
-use native.Mathlib.Omega.{arith}
-use mathlib.Core.Path.{◌≡◌, refl, sym, ◌∙◌}
+use Rattle.std.proofs.Common.{ℕ, suc, max, arith, ◌≡◌, refl, sym, ◌∙◌}
 use Rattle.avl_model.specs.Tree.{Tree, leaf, node, top, ht, cnt}
 use Rattle.avl_model.specs.Rep.{Arr, Rep}
 use Rattle.avl_model.specs.inner.Rep.{Ctx, hole, in_l, in_r, over, cnt_k, Link, Step, RepK, At}

@@ -1,7 +1,5 @@
 -- How long the preorder of a tree is.
-use native.Mathlib.Omega.{arith}
-use mathlib.Core.Path.{◌≡◌, refl}
-use lib.ListN.{length, length-append}
+use Rattle.std.proofs.Common.{arith, ◌≡◌, refl, length, length-append}
 use Rattle.avl_model.specs.Tree.{Tree, leaf, node}
 use Rattle.avl_model.specs.Laws.{size}
 use Rattle.avl_model.specs.Order.{order}

@@ -1,10 +1,7 @@
 -- No height that is held passes that of the whole tree: so one more fits.
-use Prim.Native.Nat.{ℕ, suc, ◌+◌, ◌≤◌, ◌<◌, max}
-use native.Mathlib.Omega.{arith}
-use native.Mathlib.Decide.{dec_le, dec_lt, ℕ_discrete}
-use mathlib.Core.Path.{◌≡◌, ap}
-use lib.ListN.{length, get_or, get_or-eq_default}
-use borrow.Author.Tests.{ne_eqb}
+use Rattle.std.proofs.Common.{ℕ, suc, ◌+◌, ◌≤◌, ◌<◌, max, arith, ◌≡◌, ap, length, get_or, ne_eqb}
+use Rattle.std.proofs.Math.Decide.{dec_le, dec_lt, ℕ_discrete}
+use Rattle.std.proofs.Math.ListN.{get_or-eq_default}
 use Rattle.avl_model.specs.Lists.{Lists}
 use Rattle.avl_model.specs.Tree.{Tree, leaf, node, ht, one, δ, cnt}
 use Rattle.avl_model.specs.Rep.{Arr, Rep}

@@ -1,7 +1,5 @@
 -- The rotations, on arrays taken as functions: from what the stores changed, and where, to the rotated tree.
-use Prim.Native.Nat.{ℕ, suc, ◌+◌, ◌≤◌, max}
-use native.Mathlib.Omega.{arith}
-use mathlib.Core.Path.{◌≡◌, ◌∙◌}
+use Rattle.std.proofs.Common.{ℕ, suc, ◌+◌, ◌≤◌, max, arith, ◌≡◌, ◌∙◌}
 use Rattle.avl_model.specs.Tree.{Tree, node, top, ht, δ, cnt}
 use Rattle.avl_model.specs.Rep.{Arr}
 use Rattle.avl_model.specs.inner.Rep.{Ctx, cnt_k, At}

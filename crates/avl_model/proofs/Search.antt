@@ -1,11 +1,7 @@
 -- The search by name: what it finds has the name, and where it finds none no node has it; so insertion keeps the order of names.
-use Prim.Native.Nat.{ℕ, ◌+◌, ◌≤◌}
-use native.Mathlib.Omega.{arith}
-use mathlib.Core.Path.{◌≡◌, refl, sym, ap, subst, ◌∙◌}
-use mathlib.Core.Bool.{true, false}
-use mathlib.Core.List.{List}
-use Rattle.layout_name.specs.declared.Order.{Order}
-use Rattle.layout_name.specs.declared.Order.TheVariants.{Less, Equal, Greater}
+use Rattle.std.proofs.Common.{ℕ, ◌+◌, ◌≤◌, arith, ◌≡◌, refl, sym, ap, subst, ◌∙◌, true, false, List}
+use Rattle.std.specs.declared.cmp.Ordering.{Ordering}
+use Rattle.std.specs.declared.cmp.Ordering.TheVariants.{Less, Equal, Greater}
 use Rattle.layout_name.specs.inner.Order.{opposite}
 use Rattle.name_role.specs.Roles.{given_order}
 use Rattle.name_role.proofs.Roles.{given_opposite, given_trans}
@@ -21,10 +17,10 @@ use Rattle.avl_model.proofs.Frame.{δ-same}
 use Rattle.avl_model.proofs.Avl.{all_map, ins_ordered, two}
 use Rattle.avl_model.proofs.Counted.{all_at}
 
-differ : {o : Order} → o ≡ Less → o ≡ Equal → ⊥
+differ : {o : Ordering} → o ≡ Less → o ≡ Equal → ⊥
 differ e f = let z : ◌≡◌ {A = ℕ} 0 1 = cc in omega arith
 
-differ_more : {o : Order} → o ≡ Greater → o ≡ Equal → ⊥
+differ_more : {o : Ordering} → o ≡ Greater → o ≡ Equal → ⊥
 differ_more e f = let z : ◌≡◌ {A = ℕ} 0 1 = cc in omega arith
 
 pub before_trans : (N : Names) (i j k : ℕ) → Before N i j → Before N j k → Before N i k
@@ -33,7 +29,7 @@ before_trans N i j k = given_trans (name_at N i) (name_at N j) (name_at N k)
 
 -- ---- what is found
 
-same_turn : (by : ℕ → Order) (o : Order) (l : Tree) (i : ℕ) (r : Tree) (j : ℕ) (x y : Spot) → by i ≡ o
+same_turn : (by : ℕ → Ordering) (o : Ordering) (l : Tree) (i : ℕ) (r : Tree) (j : ℕ) (x y : Spot) → by i ≡ o
     → (x ≡ Same j → (by j ≡ Equal) × (1 ≤ cnt j l)) → (y ≡ Same j → (by j ≡ Equal) × (1 ≤ cnt j r))
     → spot_by o (Same i) x y ≡ Same j → (by j ≡ Equal) × (1 ≤ cnt j l + (δ i j + cnt j r))
 same_turn by Less l i r j x y b f g e = ((f e).0, omega (arith, (f e).1))
@@ -44,7 +40,7 @@ same_turn by Equal l i r j x y b f g e =
 same_turn by Greater l i r j x y b f g e = ((g e).0, omega (arith, (g e).1))
 
 -- the node that is found stands in the tree and has the name
-pub same_found : (by : ℕ → Order) (t : Tree) (p : Place) (j : ℕ) → spot_in by t p ≡ Same j → (by j ≡ Equal) × (1 ≤ cnt j t)
+pub same_found : (by : ℕ → Ordering) (t : Tree) (p : Place) (j : ℕ) → spot_in by t p ≡ Same j → (by j ≡ Equal) × (1 ≤ cnt j t)
 same_found by leaf p j e = let z : ◌≡◌ {A = ℕ} 0 1 = cc in absurd (omega arith)
 same_found by (node l i r) p j e =
     same_turn by (by i) l i r j (spot_in by l (Left i)) (spot_in by r (Right i)) refl (same_found by l (Left i) j) (same_found by r (Right i) j) e
@@ -63,7 +59,7 @@ module _ (N : Names) (a : List ℕ) where
   unfolding to_name
   more_on i j e b = given_opposite (name_at N j) a ∙ ap opposite (given_trans (name_at N j) (name_at N i) a b (turned i e))
 
-  free_turn : (o : Order) (l : Tree) (i : ℕ) (r : Tree) (q : Place) (x y : Spot) → to_name N a i ≡ o → Ordered (Before N) (node l i r)
+  free_turn : (o : Ordering) (l : Tree) (i : ℕ) (r : Tree) (q : Place) (x y : Spot) → to_name N a i ≡ o → Ordered (Before N) (node l i r)
       → (x ≡ Free q → All (λ j. to_name N a j ≡ Equal → ⊥) l) → (y ≡ Free q → All (λ j. to_name N a j ≡ Equal → ⊥) r)
       → spot_by o (Same i) x y ≡ Free q → All (λ j. to_name N a j ≡ Equal → ⊥) (node l i r)
   free_turn Less l i r q x y b s f g e = (differ b, f e, all_map (λ j. Before N i j) (λ j. to_name N a j ≡ Equal → ⊥) r (λ j h. differ (less_on i j b h)) s.1)
@@ -85,7 +81,7 @@ module _ (N : Names) (a : List ℕ) where
     unfolding to_name
     new_after j e = ap (given_order (name_at N j)) is ∙ turned j e
 
-    tells : (j : ℕ) (o : Order) → to_name N a j ≡ o → (to_name N a j ≡ Equal → ⊥) → (is_less o ≡ true → Before N new j) × (is_less o ≡ false → Before N j new)
+    tells : (j : ℕ) (o : Ordering) → to_name N a j ≡ o → (to_name N a j ≡ Equal → ⊥) → (is_less o ≡ true → Before N new j) × (is_less o ≡ false → Before N j new)
     tells j Less e n = (λ h. new_before j e, λ h. two true refl h)
     tells j Equal e n = absurd (n e)
     tells j Greater e n = (λ h. two false h refl, λ h. new_after j e)

@@ -1,11 +1,5 @@
 -- The functional rotations are what the array rotations make, on both sides.
-use Prim.Native.Nat.{ℕ, ◌≤◌, ◌<◌}
-use native.Mathlib.Omega.{arith}
-use mathlib.Core.Path.{◌≡◌, refl, sym, ap, subst, ◌∙◌}
-use mathlib.Core.Bool.{Bool, true, false}
-use lib.ListN.{get_or, length-set}
-use lib.Dec.{ltb}
-use borrow.Author.Tests.{lt-ltb, le-ltb}
+use Rattle.std.proofs.Common.{ℕ, ◌≤◌, ◌<◌, arith, ◌≡◌, refl, sym, ap, subst, ◌∙◌, Bool, true, false, get_or, length-set, ltb, lt-ltb, le-ltb}
 use Rattle.avl_model.specs.Lists.{Lists}
 use Rattle.avl_model.specs.inner.Lists.{l_rotated, rl_rotated}
 use Rattle.avl_model.specs.Tree.{Tree, leaf, node, none, top, ht, turn_left, turn_left_by, turn_right, turn_right_by}

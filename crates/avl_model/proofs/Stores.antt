@@ -1,10 +1,7 @@
 -- From the lists that a rotation leaves to the rotated tree: what stands at each index after the stores, as `Single` and `Double` ask it.
-use Prim.Native.Nat.{ℕ, suc, ◌+◌, ◌≤◌, ◌<◌, max}
-use native.Mathlib.Omega.{arith}
-use mathlib.Core.Path.{◌≡◌, refl, sym, ap, subst, ◌∙◌}
-use mathlib.Core.List.{List}
-use lib.ListN.{length, get_or, set, length-set, get_or-eq_default}
-use lib.Seq.{get_or-set_same, get_or-set_other, set_out, set-get_or}
+use Rattle.std.proofs.Common.{ℕ, suc, ◌+◌, ◌≤◌, ◌<◌, max, arith, ◌≡◌, refl, sym, ap, subst, ◌∙◌, List, length, get_or, set, length-set, get_or-set_same, get_or-set_other}
+use Rattle.std.proofs.Math.ListN.{get_or-eq_default}
+use Rattle.std.proofs.Math.Seq.{set_out, set-get_or}
 use Rattle.avl_model.specs.Lists.{Lists}
 use Rattle.avl_model.specs.inner.Lists.{risen, risen3, place_of, put_root, put_left, put_right, l_rotated, rl_rotated}
 use Rattle.avl_model.specs.declared.Place.{Place}

@@ -1,10 +1,6 @@
 -- A tree written into columns: they hold it, and what stands beyond its numbers is untouched.
-use Prim.Native.Nat.{ℕ, suc, ◌+◌, ◌≤◌, ◌<◌, max}
-use native.Mathlib.Omega.{arith}
-use mathlib.Core.Path.{◌≡◌, refl, sym, ap, subst, ◌∙◌}
-use mathlib.Core.List.{List, ◌++◌}
-use lib.ListN.{length, set, take, drop, take-append-drop}
-use lib.Seq.{get_or-set_same, get_or-set_other, set-append_left, length-take-le}
+use Rattle.std.proofs.Common.{ℕ, suc, ◌≤◌, ◌<◌, max, arith, ◌≡◌, refl, sym, ap, subst, ◌∙◌, List, ◌++◌, length, set, take, drop, take-append-drop, get_or-set_same, get_or-set_other, length-take-le}
+use Rattle.std.proofs.Math.Seq.{set-append_left}
 use Rattle.avl_model.specs.Lists.{Lists, lists}
 use Rattle.avl_model.specs.Tree.{Tree, leaf, node, none, top, ht, δ, cnt}
 use Rattle.avl_model.specs.Rep.{Rep}

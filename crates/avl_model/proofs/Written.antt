@@ -1,14 +1,9 @@
 -- Lists that hold a tree of all their indices are the lists with the tree written into them.
-use Prim.Native.Nat.{ℕ, suc, ◌≤◌, ◌<◌, max}
-use native.Mathlib.Omega.{arith}
-use native.Mathlib.Decide.{dec_le, ℕ_discrete}
-use mathlib.Core.Path.{◌≡◌, refl, sym, ap, subst, ◌∙◌}
-use mathlib.Core.List.{List}
-use lib.ListN.{length, get_or, set, length-set}
-use lib.Seq.{get_or-set_same, get_or-set_other, ext_get_or}
+use Rattle.std.proofs.Common.{ℕ, suc, ◌≤◌, ◌<◌, max, arith, ◌≡◌, refl, sym, ap, subst, ◌∙◌, List, length, get_or, set, length-set, get_or-set_same, get_or-set_other, ext_get_or}
+use Rattle.std.proofs.Math.Decide.{dec_le, ℕ_discrete}
 use Rattle.avl_model.specs.Lists.{Lists, lists}
-use Rattle.layout_name.specs.declared.Order.{Order}
-use Rattle.avl_model.specs.declared.Inserted.{Inserted}
+use Rattle.std.specs.declared.cmp.Ordering.{Ordering}
+use Rattle.avl_model.specs.inner.Insert.{Inserted}
 use Rattle.avl_model.specs.declared.Spot.{Spot}
 use Rattle.avl_model.specs.declared.Spot.TheVariants.{Same, Free}
 use Rattle.avl_model.specs.declared.Place.TheVariants.{Root}
@@ -73,7 +68,7 @@ whole_written S T n s W H full =
     λ i. lists (H.held.link i) (el i) (er i) (ep i) (eh i)
 
 -- what an insertion leaves, as equations: the answer, and every number of the lists
-pub out_after_lem : (S T : Lists) (new : ℕ) (w : Arena S new) (by : ℕ → Order) (r : Inserted) → Out S T by new w.t r
+pub out_after_lem : (S T : Lists) (new : ℕ) (w : Arena S new) (by : ℕ → Ordering) (r : Inserted) → Out S T by new w.t r
     → (r ≡ answered (spot_in by w.t Root)) × (T ≡ after by new w.t S)
 unfolding after
 out_after_lem S T new w by r o = go (spot_in by w.t Root) o

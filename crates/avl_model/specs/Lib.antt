@@ -4,6 +4,7 @@ pub mod Laws
 pub mod Names
 pub mod Rep
 pub mod Lists
+pub mod Lent
 pub mod Seek
 pub mod Columns
 pub mod Rust

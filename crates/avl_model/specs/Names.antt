@@ -1,7 +1,7 @@
 -- The names of nodes: each by its place in lent bytes, and how two of them stand. Assumes nothing.
 use Rattle.std.specs.Prelude.{ℕ, ◌≡◌, List, get_or, take, drop}
-use Rattle.layout_name.specs.declared.Order.{Order}
-use Rattle.layout_name.specs.declared.Order.TheVariants.{Less}
+use Rattle.std.specs.declared.cmp.Ordering.{Ordering}
+use Rattle.std.specs.declared.cmp.Ordering.TheVariants.{Less}
 pub use Rattle.layout_name.specs.Order.{is_less}
 use Rattle.name_role.specs.Roles.{given_order}
 
@@ -20,11 +20,11 @@ abbrev pub name_at : Names → ℕ → List ℕ
 name_at N i = take (get_or N.len i 0) (drop (get_or N.start i 0) N.bytes)
 
 -- the order of a name to that of a node
-unfoldable pub to_name : Names → List ℕ → ℕ → Order
+unfoldable pub to_name : Names → List ℕ → ℕ → Ordering
 to_name N a i = given_order a (name_at N i)
 
 -- the order of the names of two nodes
-abbrev pub by_name : Names → ℕ → ℕ → Order
+abbrev pub by_name : Names → ℕ → ℕ → Ordering
 by_name N i j = to_name N (name_at N i) j
 
 -- the name of node i is before that of node j

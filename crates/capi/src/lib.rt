@@ -45,9 +45,13 @@ use capi_cells::{
 use capi_written::{
     number_of_written, store_added, store_planned, store_serialised, store_taken, store_written,
 };
-use xdvdfs::{Descriptor, Entry, Held, Offset, Region, Sector, SectorCounter};
+use xdvdfs::{
+    Arena, Columns, ColumnsMut, Descriptor, Entries, Entry, Held, Kind, ListScratch, Names, Offset,
+    PlanOut, PlanScratch, Region, Request, Scratch, Sector, SectorCounter, Table,
+};
 
 // The sector, and the table, that numbers stand for.
+// (By a name of its own, as `region_of` and `table_of`.)
 fn sector_of(n: u32) -> Sector
     ensures { result ≡ sector_of n }
 {
@@ -58,8 +62,20 @@ fn region_of(sector: u32, size: u32) -> Region
     ensures { result ≡ region_of sector size }
 {
     Region {
-        sector: Sector::new(sector),
-        size: size,
+        sector: sector_of(sector),
+        size,
+    }
+}
+
+// The table in its window.
+fn table_of(w: &[u8], first: u32, sector: u32, size: u32) -> Table<'_>
+    ensures { (result.window.now ≡ w.now) × (result.first ≡ sector_of first)
+        × (result.region ≡ region_of sector size) }
+{
+    Table {
+        window: w,
+        first: sector_of(first),
+        region: region_of(sector, size),
     }
 }
 
@@ -73,13 +89,13 @@ pub extern "C" fn xdvdfs_read_descriptor(
     size: &mut u32,
     stamp: &mut u64,
 ) -> u32
-    ensures value { let answer = volume.read_of s.now in
+    ensures number { let answer = volume.read_of s.now in
         result ≡ number_of answer }
-    ensures sector_value { let answer = volume.read_of s.now in
+    ensures sector { let answer = volume.read_of s.now in
         sector.new ≡ of_given root_sector answer sector.old }
-    ensures size_value { let answer = volume.read_of s.now in
+    ensures size { let answer = volume.read_of s.now in
         size.new ≡ of_given root_size answer size.old }
-    ensures stamp_value { let answer = volume.read_of s.now in
+    ensures stamp { let answer = volume.read_of s.now in
         stamp.new ≡ of_given stamp_of answer stamp.old }
 {
     store_descriptor(xdvdfs::read_descriptor(s), sector, size, stamp)
@@ -98,22 +114,22 @@ pub extern "C" fn xdvdfs_read_entry(
     fields: &mut [u32; 6],
     place: &mut usize,
 ) -> u32
-    ensures value { let answer = entry.read_at w.now (sector_of first) (region_of sector size) offset in
+    ensures number { let answer = entry.read_at w.now (sector_of first) (region_of sector size) offset in
         result ≡ number_of answer }
-    ensures found_value { let answer = entry.read_at w.now (sector_of first) (region_of sector size) offset in
+    ensures found { let answer = entry.read_at w.now (sector_of first) (region_of sector size) offset in
         found.new ≡ of_given is_some answer found.old }
-    ensures fields_value { let answer = entry.read_at w.now (sector_of first) (region_of sector size) offset in
+    ensures fields { let answer = entry.read_at w.now (sector_of first) (region_of sector size) offset in
         fields.new ≡ of_some placed_fields answer fields.old }
-    ensures place_value { let answer = entry.read_at w.now (sector_of first) (region_of sector size) offset in
+    ensures place { let answer = entry.read_at w.now (sector_of first) (region_of sector size) offset in
         place.new ≡ of_some placed_at answer place.old }
 {
-    let r = xdvdfs::read_entry(
-        w,
-        sector_of(first),
-        region_of(sector, size),
-        Offset::new(offset),
-    );
-    store_entry(r, found, fields, place)
+    let table = table_of(w, first, sector, size);
+    store_entry(
+        xdvdfs::read_entry(table, Offset::new(offset)),
+        found,
+        fields,
+        place,
+    )
 }
 
 // The name of an entry whose first byte stands at a place of the window: where in the window it starts, and its
@@ -126,9 +142,9 @@ pub extern "C" fn xdvdfs_entry_name(
     start: &mut usize,
     len: &mut usize,
 )
-    ensures start_value { start.new ≡ start_of_name w.now place }
-    ensures len_value { len.new ≡ length (entry.name_of w.now place name_len) }
-    ensures w_value { take len.new (drop start.new w.now) ≡ entry.name_of w.now place name_len }
+    ensures start { start.new ≡ start_of_name w.now place }
+    ensures len { len.new ≡ length (entry.name_of w.now place name_len) }
+    ensures part { take len.new (drop start.new w.now) ≡ entry.name_of w.now place name_len }
 {
     store_name(w, place, name_len, start, len)
 }
@@ -150,22 +166,22 @@ pub extern "C" fn xdvdfs_look_up(
     offset: &mut u32,
     headers: &mut u32,
 ) -> u32
-    ensures value { let answer = lookup.lookup_of rule w.now (sector_of first) (region_of sector size) name.now in
+    ensures number { let answer = lookup.lookup_of rule w.now (sector_of first) (region_of sector size) name.now in
         result ≡ number_of answer }
-    ensures fields_value { let answer = lookup.lookup_of rule w.now (sector_of first)
+    ensures fields { let answer = lookup.lookup_of rule w.now (sector_of first)
         (region_of sector size) name.now in
         fields.new ≡ of_given found_fields answer fields.old }
-    ensures place_value { let answer = lookup.lookup_of rule w.now (sector_of first) (region_of sector size) name.now in
+    ensures place { let answer = lookup.lookup_of rule w.now (sector_of first) (region_of sector size) name.now in
         place.new ≡ of_given found_place answer place.old }
-    ensures offset_value { let answer = lookup.lookup_of rule w.now (sector_of first)
+    ensures offset { let answer = lookup.lookup_of rule w.now (sector_of first)
         (region_of sector size) name.now in
         offset.new ≡ of_refusal at_offset answer (of_given found_offset answer offset.old) }
-    ensures headers_value { let answer = lookup.lookup_of rule w.now (sector_of first)
+    ensures headers { let answer = lookup.lookup_of rule w.now (sector_of first)
         (region_of sector size) name.now in
         headers.new ≡ of_refusal after_headers answer (of_given found_headers answer headers.old) }
 {
-    let r = xdvdfs::look_up(w, sector_of(first), region_of(sector, size), name, rule);
-    store_looked(r, fields, place, offset, headers)
+    let found = xdvdfs::look_up(table_of(w, first, sector, size), name, rule);
+    store_looked(found, fields, place, offset, headers)
 }
 
 // Follows a path from a table, under the rule of a number: the entry's fields and its place in the window. 29, 2, 28,
@@ -183,20 +199,20 @@ pub extern "C" fn xdvdfs_find_path(
     place: &mut usize,
     offset: &mut u32,
 ) -> u32
-    ensures value { let answer = following.path_of rule w.now (sector_of first) (region_of sector size) path.now in
+    ensures number { let answer = following.path_of rule w.now (sector_of first) (region_of sector size) path.now in
         result ≡ number_of answer }
-    ensures fields_value { let answer = following.path_of rule w.now (sector_of first)
+    ensures fields { let answer = following.path_of rule w.now (sector_of first)
         (region_of sector size) path.now in
         fields.new ≡ of_given placed_fields answer fields.old }
-    ensures place_value { let answer = following.path_of rule w.now (sector_of first)
+    ensures place { let answer = following.path_of rule w.now (sector_of first)
         (region_of sector size) path.now in
         place.new ≡ of_given placed_at answer place.old }
-    ensures offset_value { let answer = following.path_of rule w.now (sector_of first)
+    ensures offset { let answer = following.path_of rule w.now (sector_of first)
         (region_of sector size) path.now in
         offset.new ≡ of_refusal at_offset answer offset.old }
 {
-    let r = xdvdfs::find_path(w, sector_of(first), region_of(sector, size), path, rule);
-    store_path(r, fields, place, offset)
+    let found = xdvdfs::find_path(table_of(w, first, sector, size), path, rule);
+    store_path(found, fields, place, offset)
 }
 
 // Lists the offsets of a table's entries in preorder, and says how many they are. 6, then 23, 24 with the offset, 26
@@ -213,21 +229,21 @@ pub extern "C" fn xdvdfs_walk(
     count: &mut usize,
     offset: &mut u32,
 ) -> u32
-    ensures value { let table = region_of sector size in
+    ensures number { let table = region_of sector size in
         let answer = walking.walk_answer w.now (sector_of first) table (length list.old) (length scratch.old) in
         result ≡ number_of answer }
-    ensures count_value { let table = region_of sector size in
+    ensures count { let table = region_of sector size in
         let answer = walking.walk_answer w.now (sector_of first) table (length list.old) (length scratch.old) in
         count.new ≡ of_given itself answer count.old }
-    ensures offset_value { let table = region_of sector size in
+    ensures offset { let table = region_of sector size in
         let answer = walking.walk_answer w.now (sector_of first) table (length list.old) (length scratch.old) in
         offset.new ≡ of_refusal at_offset answer offset.old }
-    ensures list_value { let table = region_of sector size in
+    ensures list { let table = region_of sector size in
         list.new ≡ walking.list_after w.now (sector_of first) table list.old (length scratch.old) }
-    ensures scratch_value { scratch.new ≡ walking.scratch_after (length list.old) scratch.old }
+    ensures scratch { scratch.new ≡ walking.scratch_after (length list.old) scratch.old }
 {
-    let r = xdvdfs::walk(w, sector_of(first), region_of(sector, size), list, scratch);
-    store_walked(r, count, offset)
+    let walked = xdvdfs::walk(table_of(w, first, sector, size), list, scratch);
+    store_walked(walked, count, offset)
 }
 
 // Checks a table by the strict rule of `xdvdfs::check_table`, and lists it. 6, then 23, 24, 30, 26, 32, 31, all but 6
@@ -244,21 +260,21 @@ pub extern "C" fn xdvdfs_check_table(
     count: &mut usize,
     offset: &mut u32,
 ) -> u32
-    ensures value { let table = region_of sector size in
+    ensures number { let table = region_of sector size in
         let answer = checking.strict_answer w.now (sector_of first) table (length list.old) (length scratch.old) in
         result ≡ number_of answer }
-    ensures count_value { let table = region_of sector size in
+    ensures count { let table = region_of sector size in
         let answer = checking.strict_answer w.now (sector_of first) table (length list.old) (length scratch.old) in
         count.new ≡ of_given itself answer count.old }
-    ensures offset_value { let table = region_of sector size in
+    ensures offset { let table = region_of sector size in
         let answer = checking.strict_answer w.now (sector_of first) table (length list.old) (length scratch.old) in
         offset.new ≡ of_refusal at_fault answer offset.old }
-    ensures list_value { let table = region_of sector size in
+    ensures list { let table = region_of sector size in
         list.new ≡ checking.list_after w.now (sector_of first) table list.old (length scratch.old) }
-    ensures scratch_value { scratch.new ≡ checking.scratch_after (length list.old) scratch.old }
+    ensures scratch { scratch.new ≡ checking.scratch_after (length list.old) scratch.old }
 {
-    let r = xdvdfs::check_table(w, sector_of(first), region_of(sector, size), list, scratch);
-    store_checked(r, count, offset)
+    let checked = xdvdfs::check_table(table_of(w, first, sector, size), list, scratch);
+    store_checked(checked, count, offset)
 }
 
 // THE LIMITS LOADER
@@ -277,17 +293,17 @@ pub extern "C" fn xdvdfs_load_limits(
     size: &mut u32,
     stamp: &mut u64,
 ) -> u32
-    ensures value { let answer = loading.limits_of w.now (sector_of first) path.now time age in
+    ensures number { let answer = loading.limits_of w.now (sector_of first) path.now time age in
         result ≡ answer.number }
-    ensures sector_value { let answer = loading.limits_of w.now (sector_of first) path.now time age in
+    ensures sector { let answer = loading.limits_of w.now (sector_of first) path.now time age in
         sector.new ≡ answer.sector.0 }
-    ensures size_value { let answer = loading.limits_of w.now (sector_of first) path.now time age in
+    ensures size { let answer = loading.limits_of w.now (sector_of first) path.now time age in
         size.new ≡ answer.size }
-    ensures stamp_value { let answer = loading.limits_of w.now (sector_of first) path.now time age in
+    ensures stamp { let answer = loading.limits_of w.now (sector_of first) path.now time age in
         stamp.new ≡ answer.stamp }
 {
-    let r = limits::load_limits(w, sector_of(first), path, time, age);
-    store_limits(r, sector, size, stamp)
+    let limits = limits::load_limits(w, sector_of(first), path, time, age);
+    store_limits(limits, sector, size, stamp)
 }
 
 // WRITING
@@ -295,12 +311,12 @@ pub extern "C" fn xdvdfs_load_limits(
 // Writes a volume descriptor, with its stamp, into the first 2,048 bytes of the output. 9.
 #[unsafe(no_mangle)]
 pub extern "C" fn xdvdfs_write_descriptor(out: &mut [u8], sector: u32, size: u32, stamp: u64) -> u32
-    ensures value { result ≡ number_of (volume.write_of out.old) }
-    ensures out_value { out.new ≡ volume.bytes_after out.old (descriptor_of sector size stamp) }
+    ensures number { result ≡ number_of (volume.write_of out.old) }
+    ensures out { out.new ≡ volume.bytes_after out.old (descriptor_of sector size stamp) }
 {
     let d = Descriptor {
         root: region_of(sector, size),
-        stamp: stamp,
+        stamp,
     };
     number_of_written(xdvdfs::write_descriptor(out, d))
 }
@@ -324,11 +340,11 @@ pub extern "C" fn xdvdfs_required_sectors(length: u64) -> u64
 // Takes the sectors of a length from the next free one on: the first of them, and the next free one after them. 8.
 #[unsafe(no_mangle)]
 pub extern "C" fn xdvdfs_take_sectors(next: &mut u32, length: u64, start: &mut u32) -> u32
-    ensures value { let answer = sectors.take_of 1 next.old length in
+    ensures number { let answer = sectors.take_of 1 next.old length in
         result ≡ number_of answer }
-    ensures next_value { let answer = sectors.take_of 1 next.old length in
+    ensures next { let answer = sectors.take_of 1 next.old length in
         next.new ≡ of_given run_free answer next.old }
-    ensures start_value { let answer = sectors.take_of 1 next.old length in
+    ensures start { let answer = sectors.take_of 1 next.old length in
         start.new ≡ of_given run_start answer start.old }
 {
     let counter = SectorCounter::starting_at(sector_of(*next));
@@ -355,17 +371,17 @@ pub extern "C" fn xdvdfs_add(
     entry_kind: u8,
     entry_size: u32,
 ) -> u32
-    ensures value { let A = arena_in root.old count.old left.old right.old parent.old height.old start.old len.old
+    ensures number { let A = arena_in root.old count.old left.old right.old parent.old height.old start.old len.old
         size.old kind.old names.now in
         let entry = entry_of name_start name_len entry_kind entry_size in
         let answer = adding.add_of A entry in
         result ≡ number_of answer }
-    ensures root_value { let A = arena_in root.old count.old left.old right.old parent.old height.old start.old len.old
+    ensures root { let A = arena_in root.old count.old left.old right.old parent.old height.old start.old len.old
         size.old kind.old names.now in
         let entry = entry_of name_start name_len entry_kind entry_size in
         let answer = adding.add_of A entry in
         root.new ≡ of_given grown_root answer root.old }
-    ensures count_value { let A = arena_in root.old count.old left.old right.old parent.old height.old start.old len.old
+    ensures count { let A = arena_in root.old count.old left.old right.old parent.old height.old start.old len.old
         size.old kind.old names.now in
         let entry = entry_of name_start name_len entry_kind entry_size in
         let answer = adding.add_of A entry in
@@ -383,13 +399,21 @@ pub extern "C" fn xdvdfs_add(
     let entry = Entry {
         start: name_start,
         len: name_len,
-        kind: xdvdfs::kind_of(entry_kind),
+        kind: Kind::from(entry_kind),
         size: entry_size,
     };
-    let r = xdvdfs::add(
-        tree, left, right, parent, height, start, len, size, kind, names, entry,
-    );
-    store_added(r, root, count)
+    let mut columns = ColumnsMut {
+        left,
+        right,
+        parent,
+        height,
+        start,
+        len,
+        size,
+        kind,
+    };
+    let added = xdvdfs::add(tree, &mut columns, names, entry);
+    store_added(added, root, count)
 }
 
 // Writes the table that an arena holds, with sectors from `first` on: the reported size, and the next free sector.
@@ -414,17 +438,17 @@ pub extern "C" fn xdvdfs_serialise(
     table_size: &mut u32,
     free: &mut u32,
 ) -> u32
-    ensures value { let A = arena_in root count left.now right.now parent.now height.now start.now len.now
+    ensures number { let A = arena_in root count left.now right.now parent.now height.now start.now len.now
         size.now kind.now names.now in
         let before = serialising.lent order.old place.old out.old in
         let answer = serialising.answer_in A first before in
         result ≡ number_of answer }
-    ensures table_size_value { let A = arena_in root count left.now right.now parent.now height.now start.now len.now
+    ensures table_size { let A = arena_in root count left.now right.now parent.now height.now start.now len.now
         size.now kind.now names.now in
         let before = serialising.lent order.old place.old out.old in
         let answer = serialising.answer_in A first before in
         table_size.new ≡ of_given size_of_table answer table_size.old }
-    ensures free_value { let A = arena_in root count left.now right.now parent.now height.now start.now len.now
+    ensures free { let A = arena_in root count left.now right.now parent.now height.now start.now len.now
         size.now kind.now names.now in
         let before = serialising.lent order.old place.old out.old in
         let answer = serialising.answer_in A first before in
@@ -435,27 +459,23 @@ pub extern "C" fn xdvdfs_serialise(
         let after = serialising.lent order.new place.new out.new in
         after ≡ serialising.lent_after A first before }
 {
-    let tree = Held {
-        root: root,
-        count: count,
-    };
-    let r = xdvdfs::serialise(
-        tree,
-        left,
-        right,
-        parent,
-        height,
-        start,
-        len,
-        size,
-        kind,
+    let arena = Arena {
+        tree: Held { root, count },
+        columns: Columns {
+            left,
+            right,
+            parent,
+            height,
+            start,
+            len,
+            size,
+            kind,
+        },
         names,
-        sector_of(first),
-        order,
-        place,
-        out,
-    );
-    store_serialised(r, table_size, free)
+    };
+    let mut scratch = Scratch { order, place };
+    let written = xdvdfs::serialise(arena, sector_of(first), &mut scratch, out);
+    store_serialised(written, table_size, free)
 }
 
 // Writes the table of the first `count` entries of a list in one call, with sectors from `first` on: the reported
@@ -482,19 +502,19 @@ pub extern "C" fn xdvdfs_write_list(
     free: &mut u32,
     entry: &mut u32,
 ) -> u32
-    ensures value { let list = whole.listing count start.now len.now size.now kind.now names.now in
+    ensures number { let list = whole.listing count start.now len.now size.now kind.now names.now in
         let before = whole.lent left.old right.old parent.old height.old key.old order.old place.old out.old in
         let answer = whole.answer_in list first before in
         result ≡ number_of answer }
-    ensures table_size_value { let list = whole.listing count start.now len.now size.now kind.now names.now in
+    ensures table_size { let list = whole.listing count start.now len.now size.now kind.now names.now in
         let before = whole.lent left.old right.old parent.old height.old key.old order.old place.old out.old in
         let answer = whole.answer_in list first before in
         table_size.new ≡ of_given size_of_table answer table_size.old }
-    ensures free_value { let list = whole.listing count start.now len.now size.now kind.now names.now in
+    ensures free { let list = whole.listing count start.now len.now size.now kind.now names.now in
         let before = whole.lent left.old right.old parent.old height.old key.old order.old place.old out.old in
         let answer = whole.answer_in list first before in
         free.new ≡ of_given next_free answer free.old }
-    ensures entry_value { let list = whole.listing count start.now len.now size.now kind.now names.now in
+    ensures entry { let list = whole.listing count start.now len.now size.now kind.now names.now in
         let before = whole.lent left.old right.old parent.old height.old key.old order.old place.old out.old in
         let answer = whole.answer_in list first before in
         entry.new ≡ of_refusal of_entry answer entry.old }
@@ -503,14 +523,16 @@ pub extern "C" fn xdvdfs_write_list(
         let after = whole.lent left.new right.new parent.new height.new key.new order.new place.new out.new in
         after ≡ whole.lent_after list first before }
 {
-    let r = xdvdfs::write_list(
-        count,
-        start,
-        len,
+    let entries = Entries {
+        names: Names {
+            bytes: names,
+            start,
+            len,
+        },
         size,
         kind,
-        names,
-        sector_of(first),
+    };
+    let mut scratch = ListScratch {
         left,
         right,
         parent,
@@ -518,9 +540,9 @@ pub extern "C" fn xdvdfs_write_list(
         key,
         order,
         place,
-        out,
-    );
-    store_written(r, table_size, free, entry)
+    };
+    let written = xdvdfs::write_list(count, entries, sector_of(first), &mut scratch, out);
+    store_written(written, table_size, free, entry)
 }
 
 // Plans an image: the reported size and the sector of each directory's table, and the sector of each entry; the
@@ -554,25 +576,25 @@ pub extern "C" fn xdvdfs_plan(
     entry: &mut u32,
     directory: &mut u32,
 ) -> u32
-    ensures value { let a = image.asked directories entries from.now share.now start.now len.now kind.now
+    ensures number { let a = image.asked directories entries from.now share.now start.now len.now kind.now
         value.now names.now in
         let before = image.lent sizes.old tables.old sectors.old sized.old left.old right.old parent.old height.old
         key.old size.old order.old in
         let answer = image.answer_in a before in
         result ≡ number_of answer }
-    ensures free_value { let a = image.asked directories entries from.now share.now start.now len.now kind.now
+    ensures free { let a = image.asked directories entries from.now share.now start.now len.now kind.now
         value.now names.now in
         let before = image.lent sizes.old tables.old sectors.old sized.old left.old right.old parent.old height.old
         key.old size.old order.old in
         let answer = image.answer_in a before in
         free.new ≡ of_given itself answer free.old }
-    ensures entry_value { let a = image.asked directories entries from.now share.now start.now len.now kind.now
+    ensures entry { let a = image.asked directories entries from.now share.now start.now len.now kind.now
         value.now names.now in
         let before = image.lent sizes.old tables.old sectors.old sized.old left.old right.old parent.old height.old
         key.old size.old order.old in
         let answer = image.answer_in a before in
         entry.new ≡ of_refusal of_planned answer entry.old }
-    ensures directory_value { let a = image.asked directories entries from.now share.now start.now len.now kind.now
+    ensures directory { let a = image.asked directories entries from.now share.now start.now len.now kind.now
         value.now names.now in
         let before = image.lent sizes.old tables.old sectors.old sized.old left.old right.old parent.old height.old
         key.old size.old order.old in
@@ -586,19 +608,23 @@ pub extern "C" fn xdvdfs_plan(
         key.new size.new order.new in
         after ≡ image.lent_after a before }
 {
-    let r = xdvdfs::plan(
-        directories,
-        entries,
+    let request = Request {
         from,
         share,
-        start,
-        len,
+        names: Names {
+            bytes: names,
+            start,
+            len,
+        },
         kind,
         value,
-        names,
+    };
+    let mut out = PlanOut {
         sizes,
         tables,
         sectors,
+    };
+    let mut scratch = PlanScratch {
         sized,
         left,
         right,
@@ -607,6 +633,7 @@ pub extern "C" fn xdvdfs_plan(
         key,
         size,
         order,
-    );
-    store_planned(r, free, entry, directory)
+    };
+    let planned = xdvdfs::plan(directories, entries, request, &mut out, &mut scratch);
+    store_planned(planned, free, entry, directory)
 }

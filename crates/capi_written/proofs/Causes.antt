@@ -1,6 +1,5 @@
 -- What the number of a cause carries. Assumes nothing.
-use mathlib.Core.Path.{◌≡◌, refl}
-use mathlib.Core.Bool.{true, false}
+use Rattle.std.proofs.Common.{◌≡◌, refl, true, false}
 use Rattle.read_entry.specs.Links.{is_in}
 use Rattle.dirtab_entry.specs.declared.Cause.{Cause}
 use Rattle.dirtab_entry.specs.Entry as given

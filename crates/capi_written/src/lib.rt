@@ -1,5 +1,7 @@
 // An answer of writing as a number and cells, as crate capi_cells has those of reading. Each contract is over what the
 // answer is told as (capi_cells/specs/Cells.antt).
+// They are for C, which has no Result; the rows of cells are those that the C function has. A line that ends in a
+// remark is the place of an edit in must-fail/.
 #![tactic(auto)]
 
 ghost use Rattle.std.specs.Prelude.{◌≡◌};
@@ -15,133 +17,136 @@ ghost use Rattle.capi_cells.specs.Parts.{itself};
 ghost use Rattle.capi_written.specs.Parts.{of_entry, of_planned, of_directory, grown_root, grown_count, size_of_table};
 ghost use Rattle.capi_written.specs.Parts.{next_free, run_start, run_free};
 
-use dirtab::Serialised;
-use dirtab_add::Added;
-use dirtab_entry::cause_number;
-use dirtab_list::ListWritten;
-use img_model::Planned;
-use layout_sector::Taken;
-use layout_volume::DescriptorWritten;
+use dirtab::{SerialiseError, Written};
+use dirtab_add::AddError;
+use dirtab_arena::Held;
+use dirtab_list::ListError;
+use img_model::PlanError;
+use layout_sector::{SectorCounter, SectorOverflow};
+use layout_volume::BufferTooSmall;
+use units::Sector;
 
 // Writing a descriptor has no values.
-pub fn number_of_written(r: DescriptorWritten) -> u32
-    ensures { result ≡ number_of (volume.write_told r) }
+pub fn number_of_written(answer: Result<(), BufferTooSmall>) -> u32
+    ensures { result ≡ number_of (volume.write_told answer) }
 {
-    match r {
-        DescriptorWritten::Done => 0,
-        DescriptorWritten::BufferTooSmall => 9,
+    match answer {
+        Ok(()) => 0,
+        Err(e) => e.number(), // of a descriptor
     }
 }
 
 // The next free sector, and the first of the sectors taken.
-pub fn store_taken(r: Taken, next: &mut u32, start: &mut u32) -> u32
-    ensures value { result ≡ number_of (sectors.told r) }
-    ensures next_value { next.new ≡ of_given run_free (sectors.told r) next.old }
-    ensures start_value { start.new ≡ of_given run_start (sectors.told r) start.old }
+pub fn store_taken(
+    answer: Result<(Sector, SectorCounter), SectorOverflow>,
+    next: &mut u32,
+    start: &mut u32,
+) -> u32
+    ensures number { result ≡ number_of (sectors.told answer) }
+    ensures next { next.new ≡ of_given run_free (sectors.told answer) next.old }
+    ensures start { start.new ≡ of_given run_start (sectors.told answer) start.old }
 {
-    match r {
-        Taken::Start(s, c) => {
-            let free = c.next_free();
-            *next = free.number();
-            *start = s.number();
+    match answer {
+        Ok((first, counter)) => {
+            *next = counter.next_free().number();
+            *start = first.number();
             0
         }
-        Taken::SectorOverflow => 8,
+        Err(e) => e.number(), // of sectors
     }
 }
 
 // Root and count of the held tree.
-pub fn store_added(r: Added, root: &mut u16, count: &mut u16) -> u32
-    ensures value { result ≡ number_of (adding.told r) }
-    ensures root_value { root.new ≡ of_given grown_root (adding.told r) root.old }
-    ensures count_value { count.new ≡ of_given grown_count (adding.told r) count.old }
+pub fn store_added(answer: Result<Held, AddError>, root: &mut u16, count: &mut u16) -> u32
+    ensures number { result ≡ number_of (adding.told answer) }
+    ensures root { root.new ≡ of_given grown_root (adding.told answer) root.old }
+    ensures count { count.new ≡ of_given grown_count (adding.told answer) count.old }
 {
-    match r {
-        Added::Done(tree) => {
+    match answer {
+        Ok(tree) => {
             *root = tree.root;
             *count = tree.count;
             0
         }
-        Added::BadArena => 12,
-        Added::Refused(cause) => cause_number(cause),
+        Err(e) => e.number(), // of adding
     }
 }
 
 // The reported size and the next free sector.
-pub fn store_serialised(r: Serialised, table_size: &mut u32, free: &mut u32) -> u32
-    ensures value { result ≡ number_of (serialising.told r) }
-    ensures table_size_value { table_size.new ≡ of_given size_of_table (serialising.told r) table_size.old }
-    ensures free_value { free.new ≡ of_given next_free (serialising.told r) free.old }
+pub fn store_serialised(
+    answer: Result<Written, SerialiseError>,
+    table_size: &mut u32,
+    free: &mut u32,
+) -> u32
+    ensures number { result ≡ number_of (serialising.told answer) }
+    ensures table_size { table_size.new ≡ of_given size_of_table (serialising.told answer) table_size.old }
+    ensures free { free.new ≡ of_given next_free (serialising.told answer) free.old }
 {
-    match r {
-        Serialised::Done(z, f) => {
-            *table_size = z;
-            *free = f.number();
+    match answer {
+        Ok(table) => {
+            *table_size = table.size;
+            *free = table.free.number();
             0
         }
-        Serialised::BadArena => 12,
-        Serialised::Room => 6,
-        Serialised::TooManyDirectoryEntries => 7,
-        Serialised::SectorOverflow => 8,
-        Serialised::BufferTooSmall => 9,
+        Err(e) => e.number(), // of an arena
     }
 }
 
 // The same of a whole list; of a refusal the number of the entry.
 #[tactic(auto, unfolding(read_entry::specs::Links::is_in), using(crate::proofs::Causes::cause_listed))]
-pub fn store_written(r: ListWritten, table_size: &mut u32, free: &mut u32, entry: &mut u32) -> u32
-    ensures value { result ≡ number_of (whole.told r) }
-    ensures table_size_value { table_size.new ≡ of_given size_of_table (whole.told r) table_size.old }
-    ensures free_value { free.new ≡ of_given next_free (whole.told r) free.old }
-    ensures entry_value { entry.new ≡ of_refusal of_entry (whole.told r) entry.old }
+pub fn store_written(
+    answer: Result<Written, ListError>,
+    table_size: &mut u32,
+    free: &mut u32,
+    entry: &mut u32,
+) -> u32
+    ensures number { result ≡ number_of (whole.told answer) }
+    ensures table_size { table_size.new ≡ of_given size_of_table (whole.told answer) table_size.old }
+    ensures free { free.new ≡ of_given next_free (whole.told answer) free.old }
+    ensures entry { entry.new ≡ of_refusal of_entry (whole.told answer) entry.old }
 {
-    match r {
-        ListWritten::Done(z, f) => {
-            *table_size = z;
-            *free = f.number();
+    match answer {
+        Ok(table) => {
+            *table_size = table.size;
+            *free = table.free.number();
             0
         }
-        ListWritten::Room => 6,
-        ListWritten::Refused(cause, i) => {
-            *entry = i;
-            cause_number(cause)
+        Err(e) => {
+            if let ListError::Refused(_, i) = e {
+                *entry = i;
+            }
+            e.number() // of a list
         }
-        ListWritten::TooManyDirectoryEntries => 7,
-        ListWritten::SectorOverflow => 8,
-        ListWritten::BufferTooSmall => 9,
     }
 }
 
 // The next free sector of a plan; of a refusal the entry's place in the list, or the directory's number.
 #[tactic(auto, unfolding(read_entry::specs::Links::is_in), using(crate::proofs::Causes::causes_of_plan))]
-pub fn store_planned(r: Planned, free: &mut u32, entry: &mut u32, directory: &mut u32) -> u32
-    ensures value { result ≡ number_of (planning.told r) }
-    ensures free_value { free.new ≡ of_given itself (planning.told r) free.old }
-    ensures entry_value { entry.new ≡ of_refusal of_planned (planning.told r) entry.old }
-    ensures directory_value { directory.new ≡ of_refusal of_directory (planning.told r) directory.old }
+pub fn store_planned(
+    answer: Result<Sector, PlanError>,
+    free: &mut u32,
+    entry: &mut u32,
+    directory: &mut u32,
+) -> u32
+    ensures number { result ≡ number_of (planning.told answer) }
+    ensures free { free.new ≡ of_given itself (planning.told answer) free.old }
+    ensures entry { entry.new ≡ of_refusal of_planned (planning.told answer) entry.old }
+    ensures directory { directory.new ≡ of_refusal of_directory (planning.told answer) directory.old }
 {
-    match r {
-        Planned::Done(f) => {
-            *free = f.number();
+    match answer {
+        Ok(sector) => {
+            *free = sector.number();
             0
         }
-        Planned::Room => 6,
-        Planned::BadTree => 11,
-        Planned::TooManyDirectoryEntries(d) => {
-            *directory = d;
-            7
-        }
-        Planned::SectorOverflow(d) => {
-            *directory = d;
-            8
-        }
-        Planned::FileTooLarge(large) => {
-            *entry = large;
-            10
-        }
-        Planned::Refused(cause, j) => {
-            *entry = j;
-            cause_number(cause)
+        Err(e) => {
+            match e {
+                PlanError::FileTooLarge(i) => *entry = i,
+                PlanError::Refused(_, i) => *entry = i,
+                PlanError::TooManyDirectoryEntries(d) | PlanError::SectorOverflow(d) => *directory =
+                    d,
+                PlanError::Room | PlanError::BadTree => {}
+            }
+            e.number() // of a plan
         }
     }
 }

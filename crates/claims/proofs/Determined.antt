@@ -9,6 +9,7 @@ use Rattle.read_path.proofs.Told as following
 use Rattle.read_walk.proofs.Told as walking
 use Rattle.read_place.proofs.Told as place
 use Rattle.strict_rule.proofs.Told as checking
+use Rattle.limits_rule.proofs.Told as loading
 use Rattle.dirtab_add.proofs.Told as adding
 use Rattle.dirtab.proofs.Told as serialising
 use Rattle.dirtab_list.proofs.Told as whole
@@ -32,6 +33,7 @@ determined = record {
   right = λ w first t o r q a b. place.linked_one r q (a ∙ sym b);
   walk = λ w first t list scratch r q m n a b. (walking.told_one r q (a.0 ∙ sym b.0), λ k. ((a.1.0 ∙ sym b.1.0) k, (a.1.1 ∙ sym b.1.1) k));
   check_table = λ w first t list scratch r q m n a b. (checking.told_one r q (a.0 ∙ sym b.0), λ k. ((a.1.0 ∙ sym b.1.0) k, (a.1.1 ∙ sym b.1.1) k));
+  load_limits = λ w first path time age r q a b. loading.told_one r q (a ∙ sym b);
   add = λ A e r q m n a b. (adding.told_one r q (a.0 ∙ sym b.0), a.1 ∙ sym b.1);
   serialise = λ A s m r q i j a b. (serialising.told_one r q (a.0 ∙ sym b.0), a.1 ∙ sym b.1);
   write_list = λ L s m r q i j a b. (whole.told_one r q (a.0 ∙ sym b.0), a.1 ∙ sym b.1);

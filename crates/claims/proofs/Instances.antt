@@ -18,7 +18,8 @@ use Rattle.layout_name.specs.Order.{raised, number_order, list_order}
 use Rattle.name_role.specs.Roles.{given_keys, stored_of, given_order}
 use Rattle.layout_sector.specs.Counter.{sectors_for}
 use Rattle.dirtab_entry.specs.Entry.{rounded, any_bad, check_of}
-use Rattle.read_lookup.specs.declared.Looked.TheVariants as looked
+use Rattle.std.specs.Prelude.{Err}
+use Rattle.read_lookup.specs.declared.LookupError.TheVariants as error
 use Rattle.read_lookup.specs.Lookup as lookup
 use Rattle.read_lookup.specs.Lookup.{lookup_of}
 use Rattle.read_lookup.proofs.Cases.{file, first, of_size}
@@ -347,7 +348,7 @@ pub itself_bytes : (i : ℕ) → get_or itself i 0 < 256
 unfolding below
 itself_bytes = all_bytes itself refl
 
-pub itself_looped : lookup.told looked.Looped ≡ lookup_of 1 itself first (of_size 32) (122 ∷ [])
+pub itself_looped : lookup.told (Err error.Looped) ≡ lookup_of 1 itself first (of_size 32) (122 ∷ [])
 itself_looped = sym loops.itself_looped
 
 -- ---- a window of bytes with a table that the strict check accepts: the root m, its left child c, and c's right child g

@@ -6,7 +6,8 @@ use mathlib.Core.List.{[]}
 use lib.ListN.{length}
 use Rattle.units.specs.Told.{refuses}
 use Rattle.name_role.specs.Roles.{bad_sought}
-use Rattle.read_lookup.specs.declared.Looked.TheVariants as looked
+use Rattle.std.specs.Prelude.{Err}
+use Rattle.read_lookup.specs.declared.LookupError.TheVariants as error
 use Rattle.read_lookup.specs.Lookup as lookup
 use Rattle.read_lookup.specs.Lookup.{step_at, lookup_by}
 use Rattle.read_lookup.proofs.Rules.{lookup_by_rule}
@@ -22,8 +23,8 @@ use Rattle.claims.specs.Reading.{Looped, LoopedExactly, Counted, StrictExactly}
 pub looped_exactly : LoopedExactly
 looped_exactly w bytes first t name rule absent named r c =
     let by_links_lem = c ∙ (lookup_by_rule w first t name).under rule absent named in
-    let said : r ≡ looked.Looped → lookup_by absent w first t name ≡ refuses 25 [] = λ q. sym by_links_lem ∙ ap lookup.told q in
-    let endless : bad_sought name ≡ false → Endless (step_at absent w first t name) 0 → r ≡ looked.Looped = λ low e. told_one r looked.Looped (by_links_lem ∙ endless_looped absent w first t name low (λ z. empty_ends absent w first t name z e) e) in
+    let said : r ≡ Err error.Looped → lookup_by absent w first t name ≡ refuses 25 [] = λ q. sym by_links_lem ∙ ap lookup.told q in
+    let endless : bad_sought name ≡ false → Endless (step_at absent w first t name) 0 → r ≡ Err error.Looped = λ low e. told_one r (Err error.Looped) (by_links_lem ∙ endless_looped absent w first t name low (λ z. empty_ends absent w first t name z e) e) in
     record {
       never_ends = λ q. looped_endless absent w first t name bytes (said q);
       reads_again = λ q. looped_again absent w first t name bytes (said q);

@@ -1,6 +1,6 @@
 -- DETERMINED: no two differing answers satisfy a contract, nor do two differing contents of the lent memory. For
--- each public operation whose answer is an enum, and for a name, which is a part of the window; the contract of every
--- other reads `r ≡ D`, with D of the arguments alone. Assumes nothing.
+-- each public operation whose answer is a Result or an Option, and for a name, which is a part of the window; the
+-- contract of every other reads `r ≡ D`, with D of the arguments alone. Assumes nothing.
 use Rattle.std.specs.Prelude.{ℕ, ◌≡◌, List, length}
 use Rattle.std.specs.Borrow.{Bor}
 use Rattle.units.specs.Lent.{IsPart}
@@ -18,6 +18,7 @@ use Rattle.read_path.specs.Path as following
 use Rattle.read_walk.specs.Walk as walking
 use Rattle.read_place.specs.Place as place
 use Rattle.strict_rule.specs.Strict as checking
+use Rattle.limits_rule.specs.Limits as loading
 use Rattle.dirtab_arena.specs.Arena.{Arena}
 use Rattle.dirtab_add.specs.Add as adding
 use Rattle.dirtab.specs.Serialise as serialising
@@ -67,6 +68,8 @@ pub record Determined : Type 0 where
       (checking.told r ≡ checking.strict_answer w first t (length list) (length scratch))
       × ((m.0 ≡ checking.list_after w first t list (length scratch))
       × (m.1 ≡ checking.scratch_after (length list) scratch)))
+  pub load_limits : (w : List ℕ) (first : Sector) (path : List ℕ) (time age : ℕ)
+      → One (λ r. loading.told r ≡ loading.load_of w first path time age)
   pub add : (A : Arena) (e : Entry)
       → OneAndMemory (λ r c. (adding.told r ≡ adding.add_of A e) × (c ≡ adding.columns_after A e))
   pub serialise : (A : Arena) (s : ℕ) (m : serialising.Lent)

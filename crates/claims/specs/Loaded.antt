@@ -7,8 +7,7 @@ use Rattle.units.specs.declared.Sector.{Sector}
 use Rattle.layout_volume.specs.declared.Descriptor.{Descriptor}
 use Rattle.read_entry.specs.Entry.{Placed}
 use Rattle.read_entry.specs.Links.{is_in}
-use Rattle.limits_rule.specs.declared.Limits.{Limits}
-use Rattle.limits_rule.specs.Limits.{volume_in, limits_of}
+use Rattle.limits_rule.specs.Limits.{Limits, volume_in, limits_of}
 use Rattle.limits_rule.specs.Outcome.{Marked, loaded, Accepts, Outcome}
 use Rattle.img_model.specs.Shares.{share_of, is_directory}
 use Rattle.img_model.specs.Image.{Asked, Lent, request_in}

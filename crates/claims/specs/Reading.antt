@@ -1,29 +1,34 @@
 -- WHAT 25, A COUNT AND THE STRICT CHECK MEAN, of what `look_up` and `check_table` are proved to answer: r is any
 -- answer that the contract allows. Assumes nothing.
-use Rattle.std.specs.Prelude.{ℕ, ◌-◌, ◌≤◌, ◌<◌, ◌≡◌, false, List, ◌++◌, length, get_or, replicate}
+use Rattle.std.specs.Prelude.{ℕ, ◌-◌, ◌≤◌, ◌<◌, ◌≡◌, false, List, ◌++◌, length, get_or, replicate, Result, Err}
 use Rattle.std.proofs.Math.Option.{some}
 use Rattle.units.specs.Told.{gives}
 use Rattle.units.specs.declared.Sector.{Sector}
 use Rattle.units.specs.declared.Region.{Region}
 use Rattle.name_role.specs.Roles.{bad_sought}
 use Rattle.read_entry.specs.Links.{absent_under}
-use Rattle.read_lookup.specs.declared.Looked.{Looked}
-use Rattle.read_lookup.specs.declared.Looked.TheVariants as looked
+use Rattle.read_lookup.specs.declared.Found.{Found}
+use Rattle.read_lookup.specs.declared.LookupError.{LookupError}
+use Rattle.read_lookup.specs.declared.LookupError.TheVariants as error
 use Rattle.read_lookup.specs.Lookup as lookup
 use Rattle.read_lookup.specs.Lookup.{step_at, lookup_of}
 use Rattle.read_lookup.specs.Chain.{Endless, ReadsAgain, LengthIs, count_of}
 use Rattle.strict_rule.specs.Strict as checking
 use Rattle.strict_rule.specs.Accepts.{Accepts}
 
+-- what a lookup of the code answers
+abbrev pub Looked : Type 0
+Looked = Result Found LookupError
+
 -- 25 EXACTLY WHERE THE CHAIN NEVER ENDS, which is exactly where it would read an offset again: the chain along links
 -- of which those in `absent` are taken for absent. (29 and 2 come before it; a chain in a table of size 0, which is 21,
 -- ends.) w is a list of bytes: each element is below 256, as those of a `&[u8]` are (claims_bytes)
 pub record Looped (absent w : List ℕ) (first : Sector) (t : Region) (name : List ℕ) (r : Looked) : Type 0 where
-  pub never_ends : r ≡ looked.Looped → Endless (step_at absent w first t name) 0
-  pub reads_again : r ≡ looked.Looped → ReadsAgain (step_at absent w first t name) 0
-  pub let_through : r ≡ looked.Looped → bad_sought name ≡ false
-  pub where_endless : bad_sought name ≡ false → Endless (step_at absent w first t name) 0 → r ≡ looked.Looped
-  pub where_again : bad_sought name ≡ false → ReadsAgain (step_at absent w first t name) 0 → r ≡ looked.Looped
+  pub never_ends : r ≡ Err error.Looped → Endless (step_at absent w first t name) 0
+  pub reads_again : r ≡ Err error.Looped → ReadsAgain (step_at absent w first t name) 0
+  pub let_through : r ≡ Err error.Looped → bad_sought name ≡ false
+  pub where_endless : bad_sought name ≡ false → Endless (step_at absent w first t name) 0 → r ≡ Err error.Looped
+  pub where_again : bad_sought name ≡ false → ReadsAgain (step_at absent w first t name) 0 → r ≡ Err error.Looped
 
 -- under either rule, with its absent links
 abbrev pub LoopedExactly : Type 0

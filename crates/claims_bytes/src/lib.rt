@@ -11,9 +11,9 @@ ghost use Rattle.strict_rule.specs.Strict.{told};
 ghost use Rattle.claims.specs.Reading.{Looped};
 ghost use Rattle.claims.specs.Accepted.{Readable};
 
-use read_lookup::Looked;
-use strict_rule::Checked;
-use units::{Region, Sector};
+use read_entry::Table;
+use read_lookup::{Found, LookupError};
+use strict_rule::CheckError;
 
 // Every element of a slice of bytes is below 256. (An element has to be read for the prover to know it of them.)
 pub fn know_bytes(w: &[u8])
@@ -28,25 +28,27 @@ pub fn know_bytes(w: &[u8])
 // Looks a name up under a rule, as `xdvdfs::look_up` does. It answers 25 exactly where neither 29 nor 2 is answered
 // and the chain of headers, by the links that are absent under the rule, never ends, which is exactly where it would
 // read an offset again.
-pub fn look_up(w: &[u8], first: Sector, table: Region, name: &[u8], rule: u32) -> Looked
-    ensures { (absent : List ℕ) → absent_under rule ≡ some absent → Looped absent w.now first table name.now result }
+// (A rule is a number, as it is there.)
+pub fn look_up(table: Table<'_>, name: &[u8], rule: u32) -> Result<Found, LookupError>
+    ensures { let t = table.entry in
+        ((absent : List ℕ) → absent_under rule ≡ some absent →
+        Looped absent t.window.now t.first t.region name.now result) }
 {
-    know_bytes(w);
-    xdvdfs::look_up(w, first, table, name, rule)
+    know_bytes(table.window);
+    xdvdfs::look_up(table, name, rule)
 }
 
 // Checks a table, as `xdvdfs::check_table` does. Where it answers a number, readers agree on the table: each entry of
 // the list that it leaves is found by its name, under rule one unless a link of 255 stands on the way, under rule two
 // always, and nothing else is found under rule two.
 pub fn check_table(
-    w: &[u8],
-    first: Sector,
-    table: Region,
+    table: Table<'_>,
     list: &mut [u32],
     scratch: &mut [u64],
-) -> Checked
-    ensures { (k : ℕ) → told result ≡ gives k → Readable w.now first table (take k list.new) }
+) -> Result<usize, CheckError>
+    ensures { let t = table.entry in
+        ((k : ℕ) → told result ≡ gives k → Readable t.window.now t.first t.region (take k list.new)) }
 {
-    know_bytes(w);
-    xdvdfs::check_table(w, first, table, list, scratch)
+    know_bytes(table.window);
+    xdvdfs::check_table(table, list, scratch)
 }

@@ -4,14 +4,8 @@
 --     next_free_lem, sectors_from, sectors_apart                   the sectors of the entries
 --     out_given, out_refused                                   the output
 -- Assumes nothing.
-use Prim.Native.Nat.{ℕ, ◌+◌, ◌≤◌, ◌<◌}
-use mathlib.Core.Path.{◌≡◌, refl, sym, ap, subst, ◌∙◌}
-use mathlib.Core.Bool.{Bool, true, false}
-use mathlib.Core.List.{List, [], ◌++◌}
-use native.Mathlib.Omega.{arith}
-use lib.Dec.{leb}
-use lib.ListN.{length, drop}
-use borrow.Author.Tests.{le-leb, lt-leb, lt-ltb, leb-true}
+use Rattle.std.proofs.Common.{ℕ, ◌+◌, ◌≤◌, ◌<◌, ◌≡◌, refl, sym, ap, subst, ◌∙◌, Bool, true, false, List, [], ◌++◌, leb, length, drop, le-leb, lt-ltb, leb-true, arith}
+use borrow.Author.Tests.{lt-leb}
 use Rattle.units.specs.Told.{Told, gives, refuses, pick}
 use Rattle.dirtab_entry.specs.Entry.{rounded}
 use Rattle.avl_model.specs.Tree.{Tree}
@@ -43,7 +37,7 @@ module _ (A : Arena) (s n bytes : ℕ) where
         ∙ ap (λ (b : Bool). pick b (if_fits bytes (place_of entry 1 s t)) (refuses 6 [])) e
 
     module _ (fit : scratch_fits A n ≡ true) where
-      placing : serialise_of A s n bytes ≡ if_fits bytes (place_of entry 1 s t)
+      pub placing : serialise_of A s n bytes ≡ if_fits bytes (place_of entry 1 s t)
       unfolding serialise_of
       placing = ap (λ (b : Bool). pick b (pick (scratch_fits A n) (if_fits bytes (place_of entry 1 s t)) (refuses 6 [])) (refuses 12 [])) is
           ∙ ap (λ (b : Bool). pick b (if_fits bytes (place_of entry 1 s t)) (refuses 6 [])) fit

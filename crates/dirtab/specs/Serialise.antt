@@ -1,12 +1,16 @@
 -- Serialising an arena from a sector on: 12, then 6, 7, 8, 9, all before any write. Assumes nothing.
-use Rattle.std.specs.Prelude.{ℕ, min, Bool, List, [], ◌++◌, leb, length, drop}
+use Rattle.std.specs.Prelude.{ℕ, ◌≡◌, min, Bool, List, [], ◌++◌, leb, length, drop, Result, Ok, Err}
 use Rattle.units.specs.Told.{Told, gives, refuses, pick}
 use Rattle.units.specs.Lent.{cleared_if}
 use Rattle.dirtab_entry.specs.Entry.{rounded}
 use Rattle.table_model.specs.Table.{Placing, place_of, table_bytes}
 use Rattle.dirtab_arena.specs.Arena.{Arena, entry_at, is_arena, tree_of}
-use Rattle.dirtab.specs.declared.Serialised.{Serialised}
-use Rattle.dirtab.specs.declared.Serialised.TheVariants as serialised
+use Rattle.dirtab.specs.declared.Written.{Written}
+use Rattle.dirtab.specs.declared.WriteError.{WriteError}
+use Rattle.dirtab.specs.declared.WriteError.TheVariants as writing
+use Rattle.dirtab.specs.declared.SerialiseError.{SerialiseError}
+use Rattle.dirtab.specs.declared.SerialiseError.TheVariants as serialising
+use Rattle.dirtab.specs.declared.Scratch.{Scratch}
 
 -- every column of scratch has a place for each held node; n is the length of the shortest
 abbrev pub scratch_fits : Arena → ℕ → Bool
@@ -46,6 +50,18 @@ pub record Lent : Type 0 where
 abbrev pub lent : List ℕ → List ℕ → List ℕ → Lent
 lent order place out = record { order = order; place = place; out = out }
 
+-- the same, of scratch that is lent
+abbrev pub lent_of : Scratch → List ℕ → Lent
+lent_of s out = lent s.order.now s.place.now out
+
+-- both lend the same columns
+abbrev pub IsSame : Scratch → Scratch → Type 0
+IsSame a b = (a.order.ghost_name ≡ b.order.ghost_name) × (a.place.ghost_name ≡ b.place.ghost_name)
+
+-- both lend columns of the same lengths
+abbrev pub KeepsLengths : Scratch → Scratch → Type 0
+KeepsLengths a b = (length b.order.now ≡ length a.order.now) × (length b.place.now ≡ length a.place.now)
+
 -- the length of the shortest column of scratch
 abbrev pub places_in : Lent → ℕ
 places_in m = min (length m.order) (length m.place)
@@ -62,11 +78,15 @@ lent_after A s m = record {
   out = out_after A s (places_in m) m.out;
 }
 
--- what each answer of the code stands for
-abbrev pub told : Serialised → Told Placing
-told (serialised.Done z f) = gives (record { size = z; free = f.0 })
-told serialised.BadArena = refuses 12 []
-told serialised.Room = refuses 6 []
-told serialised.TooManyDirectoryEntries = refuses 7 []
-told serialised.SectorOverflow = refuses 8 []
-told serialised.BufferTooSmall = refuses 9 []
+-- what each answer of the code stands for: of writing a table, and of serialising an arena
+abbrev pub told_write : Result Written WriteError → Told Placing
+told_write (Ok w) = gives (record { size = w.size; free = w.free.0 })
+told_write (Err writing.TooManyDirectoryEntries) = refuses 7 []
+told_write (Err writing.SectorOverflow) = refuses 8 []
+told_write (Err writing.BufferTooSmall) = refuses 9 []
+
+abbrev pub told : Result Written SerialiseError → Told Placing
+told (Ok w) = gives (record { size = w.size; free = w.free.0 })
+told (Err serialising.BadArena) = refuses 12 []
+told (Err serialising.Room) = refuses 6 []
+told (Err (serialising.Write e)) = told_write (Err e)

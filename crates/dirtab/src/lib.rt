@@ -1,32 +1,35 @@
 // A table is written: from an arena, or from a whole list in one call.
 #![tactic(auto)]
 
-ghost use Rattle.std.specs.Prelude.{◌≡◌, [], ◌≤◌, min, leb, length, replicate};
-ghost use Rattle.units.specs.Told.{refuses, pick};
-ghost use Rattle.dirtab_entry.specs.Entry.{rounded};
+ghost use Rattle.std.specs.Prelude.{◌≡◌, ◌≤◌, true, Err, min, leb, length, replicate};
+ghost use Rattle.units.specs.Told.{number_of};
 ghost use Rattle.avl_model.specs.Tree.{Tree};
-ghost use Rattle.dirtab_arena.specs.Arena.{arena_in};
-ghost use Rattle.dirtab.specs.Serialise.{told, lent, answer_in, lent_after};
-ghost use Rattle.dirtab_held.specs.inner.Held.{entries_in, Listing, Rooted};
+ghost use Rattle.dirtab_arena.specs.Lent.{arena_of};
+ghost use Rattle.dirtab.specs.Serialise.{scratch_fits, told_write, told, lent_of, places_in, answer_in, lent_after};
+ghost use Rattle.dirtab.specs.Serialise.{IsSame, KeepsLengths};
+ghost use Rattle.dirtab_write.specs.inner.Columns.{entry_by};
+ghost use Rattle.dirtab_held.specs.inner.Held.{cols_in, Listing, Rooted};
 ghost use Rattle.dirtab.specs.inner.Steps.{size_from, writing_of, writing_out};
 
-use dirtab_arena::{Held, is_arena};
+use avl_model::Branches;
+use dirtab_arena::{Arena, is_arena};
+use dirtab_entry::Entries;
 use dirtab_held::list_held;
-use dirtab_place::{Counted, Ends, count_sectors, place_entries};
-use dirtab_write::write_table;
-use scratch::clear_shorts;
+use dirtab_place::{TooManyDirectoryEntries, count_sectors, place_entries};
+use dirtab_write::{Layout, write_table};
+use layout_sector::SectorOverflow;
 use units::Sector;
-use widths::u16_as_usize;
 
-// What serialising answers.
-#[derive(Clone, Copy)]
-pub enum Serialised {
-    // The reported size, and the next free sector.
-    Done(u32, Sector),
-    // 12: the arena.
-    BadArena,
-    // 6: the scratch is shorter than the held count.
-    Room,
+// A table that is written: its reported size, and the next free sector.
+#[derive(Clone, Copy, Debug, PartialEq, Eq)]
+pub struct Written {
+    pub size: u32,
+    pub free: Sector,
+}
+
+// Why a table is not written.
+#[derive(Clone, Copy, Debug, PartialEq, Eq)]
+pub enum WriteError {
     // 7: an offset over 4 exceeds 65,535.
     TooManyDirectoryEntries,
     // 8: the next free sector would exceed 4,294,967,295.
@@ -35,137 +38,230 @@ pub enum Serialised {
     BufferTooSmall,
 }
 
-// The reported size of a table whose entries end at e: an empty one has 2,048 bytes.
-fn size_from(e: u32) -> u32
-    ensures { result ≡ size_from e }
-{
-    if e == 0 { 2048 } else { e }
+impl WriteError {
+    // The number of the refusal.
+    pub fn number(self) -> u32
+        ensures { result ≡ number_of (told_write (Err self)) }
+    {
+        match self {
+            WriteError::TooManyDirectoryEntries => 7,
+            WriteError::SectorOverflow => 8,
+            WriteError::BufferTooSmall => 9,
+        }
+    }
 }
 
-// Up to a multiple of 2,048.
-fn round_up(n: u32) -> usize
-    ensures { result ≡ rounded n }
+impl From<TooManyDirectoryEntries> for WriteError {
+    ghost use Rattle.dirtab.specs.declared.WriteError.TheVariants as error;
+
+    ghost from_gives = { λ e r. r ≡ error.TooManyDirectoryEntries };
+
+    fn from(_e: TooManyDirectoryEntries) -> WriteError {
+        WriteError::TooManyDirectoryEntries
+    }
+}
+
+impl From<SectorOverflow> for WriteError {
+    ghost use Rattle.dirtab.specs.declared.WriteError.TheVariants as error;
+
+    ghost from_gives = { λ e r. r ≡ error.SectorOverflow };
+
+    fn from(_e: SectorOverflow) -> WriteError {
+        WriteError::SectorOverflow
+    }
+}
+
+// Why an arena is not serialised.
+#[derive(Clone, Copy, Debug, PartialEq, Eq)]
+pub enum SerialiseError {
+    // 12: the arena.
+    BadArena,
+    // 6: the scratch is shorter than the held count.
+    Room,
+    // 7, 8, 9: the table.
+    Write(WriteError),
+}
+
+impl SerialiseError {
+    // The number of the refusal.
+    pub fn number(self) -> u32
+        ensures { result ≡ number_of (told (Err self)) }
+    {
+        match self {
+            SerialiseError::BadArena => 12,
+            SerialiseError::Room => 6,
+            SerialiseError::Write(e) => e.number(),
+        }
+    }
+}
+
+impl From<WriteError> for SerialiseError {
+    ghost use Rattle.dirtab.specs.declared.SerialiseError.TheVariants as error;
+
+    ghost from_gives = { λ e r. r ≡ error.Write e };
+
+    fn from(e: WriteError) -> SerialiseError {
+        SerialiseError::Write(e)
+    }
+}
+
+// What writing is lent beside its output: a column for the numbers of the entries in preorder, and one for the offset
+// over 4 of each. They are slices, since C lends them.
+#[derive(Drop)]
+pub struct Scratch<'a> {
+    pub order: &'a mut [u16],
+    pub place: &'a mut [u16],
+}
+
+impl<'a> Scratch<'a> {
+    // Both columns have a place for each of so many nodes.
+    fn has_room(&self, count: u16) -> bool
+        ensures { result ≡ leb count (min (length self.now.order.now) (length self.now.place.now)) }
+    {
+        usize::from(count) <= self.order.len().min(self.place.len())
+    }
+
+    // Zero everywhere, in both columns.
+    fn clear(&mut self)
+        ensures order { self.new.order.now ≡ replicate (length self.old.order.now) 0 }
+        ensures place { self.new.place.now ≡ replicate (length self.old.place.now) 0 }
+        ensures same { IsSame self.old self.new }
+    {
+        self.order.fill(0);
+        self.place.fill(0);
+    }
+}
+
+// The reported size of a table whose entries end at `end`: an empty one has 2,048 bytes.
+#[tactic(auto, using(crate::proofs::Listed::empty_size, crate::proofs::Listed::some_size))]
+fn size_from(end: u32) -> u32
+    ensures { result ≡ size_from end }
 {
-    ((n as usize) + 2047) / 2048 * 2048
+    if end == 0 { 2048 } else { end }
 }
 
 // The table of the entries that are listed: 7, 8, 9 before any byte of the output is written.
 fn write_listed(
     order: &[u16],
-    left: &[u16],
-    right: &[u16],
-    start: &[u32],
-    len: &[u32],
-    size: &[u32],
-    kind: &[u8],
-    names: &[u8],
+    branches: Branches<'_>,
+    entries: Entries<'_>,
     first: Sector,
     place: &mut [u16],
     out: &mut [u8],
-) -> Serialised
-    requires { (t : Tree) × Listing order.now left.now right.now
-        start.now len.now size.now kind.now names.now (length place.old) t }
-    ensures answer { let entry = entries_in start.now len.now size.now kind.now names.now in
-        ((t : Tree) → Listing order.now left.now right.now start.now len.now size.now kind.now names.now (length
-        place.old) t →
-        told result ≡ writing_of entry first.0 t (length out.old)) }
-    ensures out { let entry = entries_in start.now len.now size.now kind.now names.now in
-        ((t : Tree) → Listing order.now left.now right.now start.now len.now size.now kind.now names.now (length
-        place.old) t →
-        out.new ≡ writing_out entry first.0 t out.old) }
+) -> Result<Written, WriteError>
+    requires { (t : Tree) × Listing order.now (cols_in branches entries) (length place.old) t }
+    ensures answer { let c = cols_in branches.entry entries.entry in
+        ((t : Tree) → Listing order.now c (length place.old) t →
+        told_write result ≡ writing_of (entry_by c) first.0 t (length out.old)) }
+    ensures out { let c = cols_in branches.entry entries.entry in
+        ((t : Tree) → Listing order.now c (length place.old) t →
+        out.new ≡ writing_out (entry_by c) first.0 t out.old) }
 {
-    match place_entries(order, len, place) {
-        Ends::TooManyDirectoryEntries => Serialised::TooManyDirectoryEntries,
-        Ends::At(end) => match count_sectors(order, size, kind, first) {
-            Counted::SectorOverflow => Serialised::SectorOverflow,
-            Counted::Free(free) => {
-                let z = size_from(end);
-                let n = round_up(z);
-                if out.len() < n {
-                    return Serialised::BufferTooSmall;
-                }
-                write_table(
-                    out, n, order, left, right, place, start, len, size, kind, names, first,
-                );
-                Serialised::Done(z, free)
-            }
-        },
+    let end = place_entries(order, entries.names.len, place)?;
+    let free = count_sectors(order, entries.size, entries.kind, first)?;
+    let size = size_from(end);
+    let n = (size as usize).next_multiple_of(2048);
+    if out.len() < n {
+        return Err(WriteError::BufferTooSmall);
     }
+    let layout = Layout {
+        branches,
+        place: &*place,
+        entries,
+    };
+    write_table(out, n, order, layout, first);
+    Ok(Written { size, free })
 }
 
-// The table of the tree below the root.
-pub fn write_held(
-    tree: Held,
-    left: &[u16],
-    right: &[u16],
-    start: &[u32],
-    len: &[u32],
-    size: &[u32],
-    kind: &[u8],
-    names: &[u8],
+// `write_held` over the columns of the scratch one by one: a part of one is taken only here, since a part of a
+// struct's column beside another column of it has no proof.
+fn write_tree(
+    branches: Branches<'_>,
+    count: u16,
+    entries: Entries<'_>,
     first: Sector,
     order: &mut [u16],
     place: &mut [u16],
     out: &mut [u8],
-) -> Serialised
-    requires { ((t : Tree) × Rooted left.now right.now
-        start.now len.now size.now kind.now names.now tree.root tree.count t)
-        × (tree.count ≤ length order.old) × (tree.count ≤ length place.old) }
-    ensures answer { let entry = entries_in start.now len.now size.now kind.now names.now in
-        ((t : Tree) → Rooted left.now right.now start.now len.now size.now kind.now names.now tree.root tree.count
-        t →
-        told result ≡ writing_of entry first.0 t (length out.old)) }
-    ensures out { let entry = entries_in start.now len.now size.now kind.now names.now in
-        ((t : Tree) → Rooted left.now right.now start.now len.now size.now kind.now names.now tree.root tree.count
-        t →
-        out.new ≡ writing_out entry first.0 t out.old) }
+) -> Result<Written, WriteError>
+    requires { ((t : Tree) × Rooted (cols_in branches entries) branches.root count t)
+        × (count ≤ length order.old) × (count ≤ length place.old) }
+    ensures answer { let c = cols_in branches.entry entries.entry in
+        ((t : Tree) → Rooted c branches.entry.root count t →
+        told_write result ≡ writing_of (entry_by c) first.0 t (length out.old)) }
+    ensures out { let c = cols_in branches.entry entries.entry in
+        ((t : Tree) → Rooted c branches.entry.root count t →
+        out.new ≡ writing_out (entry_by c) first.0 t out.old) }
 {
-    list_held(tree, left, right, order);
-    let n = u16_as_usize(tree.count);
+    list_held(branches, count, order);
     write_listed(
-        &order[..n],
-        left,
-        right,
-        start,
-        len,
-        size,
-        kind,
-        names,
+        &order[..count as usize],
+        branches,
+        entries,
         first,
         place,
         out,
     )
 }
 
-// Zero everywhere, of both columns of scratch.
-fn clear_both(order: &mut [u16], place: &mut [u16])
-    ensures { (order.new ≡ replicate (length order.old) 0)
-        × (place.new ≡ replicate (length place.old) 0) }
+// The table of the tree that the first `count` places of the columns hold.
+pub fn write_held(
+    branches: Branches<'_>,
+    count: u16,
+    entries: Entries<'_>,
+    first: Sector,
+    scratch: &mut Scratch<'_>,
+    out: &mut [u8],
+) -> Result<Written, WriteError>
+    requires { ((t : Tree) × Rooted (cols_in branches entries) branches.root count t)
+        × (count ≤ length scratch.old.order.now) × (count ≤ length scratch.old.place.now) }
+    ensures answer { let c = cols_in branches.entry entries.entry in
+        ((t : Tree) → Rooted c branches.entry.root count t →
+        told_write result ≡ writing_of (entry_by c) first.0 t (length out.old)) }
+    ensures out { let c = cols_in branches.entry entries.entry in
+        ((t : Tree) → Rooted c branches.entry.root count t →
+        out.new ≡ writing_out (entry_by c) first.0 t out.old) }
+    ensures lengths { KeepsLengths scratch.old scratch.new }
+    ensures same { IsSame scratch.old scratch.new }
 {
-    clear_shorts(order);
-    clear_shorts(place);
+    write_tree(
+        branches,
+        count,
+        entries,
+        first,
+        scratch.order,
+        scratch.place,
+        out,
+    )
 }
 
-// Both columns of scratch have a place for each held node.
-fn has_room(count: u16, n: usize, m: usize) -> bool
-    ensures { result ≡ leb count (min n m) }
+// The table of the arena, or 12. What it leaves in the scratch is not cleared.
+fn write_arena(
+    arena: Arena<'_>,
+    first: Sector,
+    scratch: &mut Scratch<'_>,
+    out: &mut [u8],
+) -> Result<Written, SerialiseError>
+    requires { scratch_fits (arena_of arena) (places_in (lent_of scratch.old out.old)) ≡ true }
+    ensures answer { let A = arena_of arena.entry in
+        told result ≡ answer_in A first.0 (lent_of scratch.old out.old) }
+    ensures out { let A = arena_of arena.entry in
+        out.new ≡ (lent_after A first.0 (lent_of scratch.old out.old)).out }
+    ensures lengths { KeepsLengths scratch.old scratch.new }
+    ensures same { IsSame scratch.old scratch.new }
 {
-    let k = u16_as_usize(count);
-    if n < k {
-        return false;
+    if !is_arena(arena) {
+        return Err(SerialiseError::BadArena);
     }
-    k <= m
-}
-
-// The answer where the scratch is too short: 12 comes before 6.
-fn refuse_short(held: bool) -> Serialised
-    ensures { told result ≡ pick held (refuses 6 []) (refuses 12 []) }
-{
-    if held {
-        Serialised::Room
-    } else {
-        Serialised::BadArena
-    }
+    let written = write_held(
+        arena.branches(),
+        arena.tree.count,
+        arena.entries(),
+        first,
+        scratch,
+        out,
+    )?;
+    Ok(written)
 }
 
 // Writes the table of the arena into the first bytes of the output, up to the size rounded to whole sectors, with
@@ -173,44 +269,25 @@ fn refuse_short(held: bool) -> Serialised
 // and then the output is unchanged. Both columns of scratch need a place for each held node; where one has not,
 // both are unchanged, and else both are all zero after the call.
 pub fn serialise(
-    tree: Held,
-    left: &[u16],
-    right: &[u16],
-    parent: &[u16],
-    height: &[u8],
-    start: &[u32],
-    len: &[u32],
-    size: &[u32],
-    kind: &[u8],
-    names: &[u8],
+    arena: Arena<'_>,
     first: Sector,
-    order: &mut [u16],
-    place: &mut [u16],
+    scratch: &mut Scratch<'_>,
     out: &mut [u8],
-) -> Serialised
-    ensures answer { let A = arena_in tree.root tree.count left.now right.now parent.now height.now start.now
-        len.now size.now kind.now names.now in
-        let before = lent order.old place.old out.old in
-        told result ≡ answer_in A first.0 before }
-    ensures memory { let A = arena_in tree.root tree.count left.now right.now parent.now height.now start.now
-        len.now size.now kind.now names.now in
-        let before = lent order.old place.old out.old in
-        let after = lent order.new place.new out.new in
-        after ≡ lent_after A first.0 before }
+) -> Result<Written, SerialiseError>
+    ensures answer { let A = arena_of arena.entry in
+        told result ≡ answer_in A first.0 (lent_of scratch.old out.old) }
+    ensures memory { let A = arena_of arena.entry in
+        lent_of scratch.new out.new ≡ lent_after A first.0 (lent_of scratch.old out.old) }
+    ensures same { IsSame scratch.old scratch.new }
 {
-    let held = is_arena(
-        tree, left, right, parent, height, start, len, size, kind, names,
-    );
-    if has_room(tree.count, order.len(), place.len()) {
-        if held {
-            let r = write_held(
-                tree, left, right, start, len, size, kind, names, first, order, place, out,
-            );
-            clear_both(order, place);
-            return r;
-        }
-        clear_both(order, place);
-        return Serialised::BadArena;
+    if scratch.has_room(arena.tree.count) {
+        let answer = write_arena(arena, first, scratch, out);
+        scratch.clear();
+        return answer;
     }
-    refuse_short(held)
+    if is_arena(arena) {
+        Err(SerialiseError::Room)
+    } else {
+        Err(SerialiseError::BadArena)
+    }
 }

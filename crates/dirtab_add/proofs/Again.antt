@@ -1,12 +1,6 @@
 -- After an entry was added the columns are an arena again: of the grown tree, with the earlier entries as they were and the new one behind them.
-use Prim.Native.Nat.{ℕ, ◌+◌, ◌≤◌, ◌<◌}
-use native.Mathlib.Omega.{arith}
+use Rattle.std.proofs.Common.{ℕ, ◌+◌, ◌≤◌, ◌<◌, arith, ◌≡◌, refl, sym, ap, ap₂, subst, ◌∙◌, Bool, true, length, get_or, take, drop, length-set, get_or-set_same, get_or-set_other, le-leb}
 use native.Mathlib.Decide.{dec_lt, ℕ_discrete}
-use mathlib.Core.Path.{◌≡◌, refl, sym, ap, ap₂, subst, ◌∙◌}
-use mathlib.Core.Bool.{Bool, true}
-use lib.ListN.{length, get_or, take, drop, length-set}
-use lib.Seq.{get_or-set_same, get_or-set_other}
-use borrow.Author.Tests.{le-leb}
 use Rattle.units.specs.Told.{Told, gives}
 use Rattle.name_role.specs.Roles.{given_order}
 use Rattle.dirtab_entry.specs.declared.Entry as goal

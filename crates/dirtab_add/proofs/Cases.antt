@@ -1,11 +1,7 @@
 -- The scope's cases that speak of adding: `abb` then `ABB`, and a duplicate into a full arena; and an arena of one place, by computing.
-use Prim.Native.Nat.{ℕ, ◌+◌, ◌<◌}
-use native.Mathlib.Omega.{arith}
-use mathlib.Core.Path.{◌≡◌, refl, sym, ap, ◌∙◌}
-use mathlib.Core.Bool.{true, false}
-use mathlib.Core.List.{List, [], ◌∷◌}
+use Rattle.std.proofs.Common.{ℕ, ◌+◌, ◌<◌, arith, ◌≡◌, refl, sym, ap, ◌∙◌, true, false, List, [], ◌∷◌}
 use Rattle.units.specs.Told.{gives, refuses}
-use Rattle.layout_name.specs.declared.Order.TheVariants.{Equal}
+use Rattle.std.specs.declared.cmp.Ordering.TheVariants.{Equal}
 use Rattle.layout_name.specs.Order.{number_order, list_order, raised}
 use Rattle.name_role.specs.Roles.{given_keys, given_order}
 use Rattle.name_role.proofs.Roles.{given_equal}
@@ -67,7 +63,7 @@ module _ (A : Arena) (e : goal.Entry) (c : Checked A e) where
 
     -- a new name into it is 6
     pub full_new : A.count < 65536 → has_room A.count A.columns ≡ false → add_of A e ≡ refuses 6 []
-    full_new s r = sym (refused A e _ (no_room A e c refl goes_to.1 A.count (refl, s) refl r)).0
+    full_new s r = sym (refused A e _ (no_room A e c refl goes_to.1 refl r)).0
 
     -- and where there is room it is given
     pub room_given : has_room A.count A.columns ≡ true → add_of A e ≡ gives (record { root = top (grown_tree A e); count = A.count + 1 })

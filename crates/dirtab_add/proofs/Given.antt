@@ -1,11 +1,7 @@
 -- Where adding gives, every check passed; and where a held entry has the name, the answer is 4.
-use Prim.Native.Nat.{ℕ, ◌<◌}
-use native.Mathlib.Omega.{arith}
-use mathlib.Core.Path.{◌≡◌, refl, sym}
-use mathlib.Core.Bool.{Bool, true, false}
-use mathlib.Core.List.{[]}
+use Rattle.std.proofs.Common.{ℕ, ◌<◌, arith, ◌≡◌, refl, sym, Bool, true, false, []}
 use Rattle.units.specs.Told.{Told, gives, refuses, pick}
-use Rattle.layout_name.specs.declared.Order.TheVariants.{Equal}
+use Rattle.std.specs.declared.cmp.Ordering.TheVariants.{Equal}
 use Rattle.dirtab_entry.specs.declared.Entry as given
 use Rattle.dirtab_entry.specs.Entry.{name_in, check_of}
 use Rattle.avl_model.specs.declared.Place.{Place}

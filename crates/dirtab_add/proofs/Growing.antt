@@ -1,12 +1,6 @@
 -- The new node in the first places of the columns, and the columns whole again.
-use Prim.Native.Nat.{ℕ, suc, ◌+◌, ◌≤◌, ◌<◌, max}
-use mathlib.Core.Path.{◌≡◌, refl, sym, ap, subst, ◌∙◌}
-use mathlib.Core.Bool.{true}
-use mathlib.Core.List.{◌++◌}
-use lib.ListN.{length, take, drop}
-use lib.Seq.{length-take-le}
-use Rattle.layout_name.specs.declared.Order.{Order}
-use Rattle.avl_model.specs.declared.Inserted.TheVariants.{Done}
+use Rattle.std.proofs.Common.{ℕ, suc, ◌+◌, ◌≤◌, ◌<◌, max, ◌≡◌, refl, sym, ap, subst, ◌∙◌, true, ◌++◌, length, take, drop, length-take-le}
+use Rattle.std.specs.declared.cmp.Ordering.{Ordering}
 use Rattle.avl_model.specs.declared.Place.{Place}
 use Rattle.avl_model.specs.declared.Place.TheVariants.{Root}
 use Rattle.avl_model.specs.declared.Spot.{Spot}
@@ -17,7 +11,7 @@ use Rattle.avl_model.specs.Tree.{Tree, none, top, ht, ins}
 use Rattle.avl_model.specs.Rep.{arr_of}
 use Rattle.avl_model.specs.inner.Held.{Whole}
 use Rattle.avl_model.specs.Laws.{All}
-use Rattle.avl_model.specs.inner.Insert.{OutBy, Placed}
+use Rattle.avl_model.specs.inner.Insert.{Done, OutBy, Placed}
 use Rattle.avl_model.specs.Seek.{spot_in}
 use Rattle.avl_model.specs.Columns.{written}
 use Rattle.avl_model.specs.inner.Columns.{lists_by, after}
@@ -59,20 +53,8 @@ module _ (S : Lists) (m new : ℕ) (q : Place) (wide : Wide m S) (w : Placed (pa
   pub put_back : {T : Lists} → Whole T (length (take m S.L)) grown → back_in m T S ≡ written grown S
   put_back {T} h = ap (λ (U : Lists). back_in m U S) (part_is h) ∙ written_back S m grown wide (below h)
 
--- the same, where the code has the count as an index
-module _ (S : Lists) (new n : ℕ) (en : (n ≡ new) × (n < 65536)) (q : Place) where
-  pub placed_at : Placed (part_of (new + 1) S) q new → Placed (part_of (n + 1) S) q new
-  placed_at w = subst (λ (v : ℕ). Placed (part_of (v + 1) S) q new) (sym en.0) w
-
-  pub grown_at : Wide (new + 1) S → {T : Lists} → ((w : Placed (part_of (n + 1) S) q new) → Whole T (length (take (n + 1) S.L)) (ins (λ i. is_less (w.by i)) new w.arena.t))
-      → (w : Placed (part_of (new + 1) S) q new) → back_in (n + 1) T S ≡ written (ins (λ i. is_less (w.by i)) new w.arena.t) S
-  grown_at wide {T} f w =
-      ap (λ (v : ℕ). back_in (v + 1) T S) en.0
-      ∙ put_back S (new + 1) new q wide w
-      (subst (λ (v : ℕ). (u : Placed (part_of (v + 1) S) q new) → Whole T (length (take (v + 1) S.L)) (ins (λ i. is_less (u.by i)) new u.arena.t)) en.0 f w)
-
 -- an arena that passed, with the place of a name
-module _ (S : Lists) (N : Names) (n : ℕ) (e : holds_tree S N n ≡ true) (room : Places S N (n + 1)) (small : n + 1 ≤ 65535) (by : ℕ → Order) (q : Place)
+module _ (S : Lists) (N : Names) (n : ℕ) (e : holds_tree S N n ≡ true) (room : Places S N (n + 1)) (small : n + 1 ≤ 65535) (by : ℕ → Ordering) (q : Place)
     (free : spot_in by (decoded S n) Root ≡ Free q) where
   pub placed : Placed (part_of (n + 1) S) q n
   placed = record {

@@ -1,10 +1,5 @@
--- Room for one entry more: the ways out of `has_room`, and what the test says.
-use Prim.Native.Nat.{ℕ, ◌≤◌, ◌<◌}
-use mathlib.Core.Path.{◌≡◌}
-use mathlib.Core.Bool.{true, false}
-use lib.ListN.{length}
-use lib.Dec.{ltb}
-use borrow.Author.Tests.{lt-ltb, le-ltb, ltb-true}
+-- Room for one entry more: what the test says.
+use Rattle.std.proofs.Common.{ℕ, ◌<◌, ◌≡◌, true, length, ltb, ltb-true}
 use Rattle.avl_arena.proofs.Tested.{and_l, and_r}
 use Rattle.dirtab_arena.specs.Arena.{Columns}
 use Rattle.dirtab_add.specs.Add.{most, has_room}
@@ -43,77 +38,3 @@ room_of n c e0 =
       size = ltb-true n (length c.size) (and_l _ _ e7);
       kind = ltb-true n (length c.kind) e8;
     }
-
-module _ (n : ℕ) (c : Columns) where
-  pub full_count : most ≤ n → false ≡ has_room n c
-  unfolding has_room
-  full_count h = rw (le-ltb n most h)
-
-  module _ (h0 : n < most) where
-    pub full_left : length c.left ≤ n → false ≡ has_room n c
-    unfolding has_room
-    full_left h = rw (lt-ltb n most h0, le-ltb n (length c.left) h)
-
-    module _ (h1 : n < length c.left) where
-      pub full_right : length c.right ≤ n → false ≡ has_room n c
-      unfolding has_room
-      full_right h = rw (lt-ltb n most h0, lt-ltb n (length c.left) h1, le-ltb n (length c.right) h)
-
-      module _ (h2 : n < length c.right) where
-        pub full_parent : length c.parent ≤ n → false ≡ has_room n c
-        unfolding has_room
-        full_parent h = rw (lt-ltb n most h0, lt-ltb n (length c.left) h1, lt-ltb n (length c.right) h2, le-ltb n (length c.parent) h)
-
-        module _ (h3 : n < length c.parent) where
-          pub full_height : length c.height ≤ n → false ≡ has_room n c
-          unfolding has_room
-          full_height h = rw (lt-ltb n most h0, lt-ltb n (length c.left) h1, lt-ltb n (length c.right) h2, lt-ltb n (length c.parent) h3, le-ltb n (length c.height) h)
-
-          module _ (h4 : n < length c.height) where
-            pub full_start : length c.start ≤ n → false ≡ has_room n c
-            unfolding has_room
-            full_start h = rw (lt-ltb n most h0, lt-ltb n (length c.left) h1, lt-ltb n (length c.right) h2, lt-ltb n (length c.parent) h3, lt-ltb n (length c.height) h4, le-ltb n (length c.start) h)
-
-            module _ (h5 : n < length c.start) where
-              pub full_len : length c.len ≤ n → false ≡ has_room n c
-              unfolding has_room
-              full_len h = rw (
-                lt-ltb n most h0,
-                lt-ltb n (length c.left) h1,
-                lt-ltb n (length c.right) h2,
-                lt-ltb n (length c.parent) h3,
-                lt-ltb n
-                    (length c.height) h4,
-                lt-ltb n (length c.start) h5,
-                le-ltb n (length c.len) h,
-              )
-
-              module _ (h6 : n < length c.len) where
-                pub full_size : length c.size ≤ n → false ≡ has_room n c
-                unfolding has_room
-                full_size h = rw (
-                  lt-ltb n most h0,
-                  lt-ltb n (length c.left) h1,
-                  lt-ltb n (length c.right) h2,
-                  lt-ltb n (length c.parent) h3,
-                  lt-ltb n
-                      (length c.height) h4,
-                  lt-ltb n (length c.start) h5,
-                  lt-ltb n (length c.len) h6,
-                  le-ltb n (length c.size) h,
-                )
-
-                module _ (h7 : n < length c.size) where
-                  pub last_kind : ltb n (length c.kind) ≡ has_room n c
-                  unfolding has_room
-                  last_kind = rw (
-                    lt-ltb n most h0,
-                    lt-ltb n (length c.left) h1,
-                    lt-ltb n (length c.right) h2,
-                    lt-ltb n (length c.parent) h3,
-                    lt-ltb n
-                        (length c.height) h4,
-                    lt-ltb n (length c.start) h5,
-                    lt-ltb n (length c.len) h6,
-                    lt-ltb n (length c.size) h7,
-                  )

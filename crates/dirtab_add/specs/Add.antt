@@ -1,11 +1,10 @@
 -- Adding an entry to an arena: 12, then 1, 2, 3, 5, 4, 6; on a refusal all is unchanged. Assumes nothing.
-use Rattle.std.specs.Prelude.{ℕ, ◌+◌, Bool, ◌&&◌, [], ltb, length, set}
+use Rattle.std.specs.Prelude.{ℕ, ◌+◌, Bool, ◌&&◌, [], ltb, length, set, Result, Ok, Err}
 use Rattle.units.specs.Told.{Told, gives, refuses, pick}
-use Rattle.layout_name.specs.declared.Order.{Order}
+use Rattle.std.specs.declared.cmp.Ordering.{Ordering}
 use Rattle.dirtab_entry.specs.declared.Entry as given
-use Rattle.dirtab_entry.specs.declared.Kind.{Kind}
-use Rattle.dirtab_entry.specs.declared.Kind.TheVariants.{File, Directory}
 use Rattle.dirtab_entry.specs.Entry.{cause_number, stored_size, name_in, check_of}
+pub use Rattle.dirtab_entry.specs.Entry.{kind_number}
 use Rattle.avl_model.specs.declared.Spot.{Spot}
 use Rattle.avl_model.specs.declared.Spot.TheVariants.{Same, Free}
 use Rattle.avl_model.specs.declared.Place.TheVariants.{Root}
@@ -15,11 +14,12 @@ use Rattle.avl_model.specs.Seek.{spot_in}
 use Rattle.avl_model.specs.Tree.{Tree, top, ins}
 use Rattle.avl_model.specs.Columns.{written}
 use Rattle.dirtab_arena.specs.Arena.{Columns, Arena, lists_of, names_of, is_arena, tree_of}
-use Rattle.dirtab_add.specs.declared.Added.{Added}
-use Rattle.dirtab_add.specs.declared.Added.TheVariants as added
+use Rattle.dirtab_arena.specs.declared.Held.{Held}
+use Rattle.dirtab_add.specs.declared.AddError.{AddError}
+use Rattle.dirtab_add.specs.declared.AddError.TheVariants.{BadArena, Refused}
 
 -- the order of the new name to that of each held node
-abbrev pub order_to : Arena → given.Entry → ℕ → Order
+abbrev pub order_to : Arena → given.Entry → ℕ → Ordering
 order_to A e i = to_name (names_of A) (name_in A.bytes e) i
 
 -- the tree with the new entry, whose number is the count
@@ -64,11 +64,6 @@ add_of A e =
     (refuses 6 []))))
     (refuses 12 [])
 
--- the number of a kind in its column
-abbrev pub kind_number : Kind → ℕ
-kind_number File = 0
-kind_number Directory = 1
-
 -- the columns with the new entry: the grown tree's links, parents and heights, and the entry's own numbers at its place
 unfoldable pub columns_with : Arena → given.Entry → Columns
 columns_with A e =
@@ -93,7 +88,7 @@ unfoldable pub columns_after : Arena → given.Entry → Columns
 columns_after A e = if_given (add_of A e) (columns_with A e) A.columns
 
 -- what each answer of the code stands for
-abbrev pub told : Added → Told Grown
-told (added.Done t) = gives (record { root = t.root; count = t.count })
-told added.BadArena = refuses 12 []
-told (added.Refused c) = refuses (cause_number c) []
+abbrev pub told : Result Held AddError → Told Grown
+told (Ok t) = gives (record { root = t.root; count = t.count })
+told (Err BadArena) = refuses 12 []
+told (Err (Refused c)) = refuses (cause_number c) []

@@ -2,219 +2,152 @@
 #![tactic(auto)]
 
 ghost use Rattle.std.specs.Prelude.{◌≡◌, true, ◌+◌, ◌≤◌, ◌<◌, length, set, take};
-ghost use Rattle.dirtab_entry.specs.Entry.{is_directory, stored_size, name_in};
+ghost use Rattle.units.specs.Told.{number_of};
+ghost use Rattle.dirtab_entry.specs.Entry.{is_directory, stored_size, name_in, kind_number};
 ghost use Rattle.avl_model.specs.declared.Place.TheVariants.{Root};
 ghost use Rattle.avl_model.specs.Lists.{lists};
-ghost use Rattle.avl_model.specs.Names.{names_in, to_name, is_less};
+ghost use Rattle.avl_model.specs.Names.{to_name, is_less};
 ghost use Rattle.avl_model.specs.Seek.{spot_in};
 ghost use Rattle.avl_model.specs.inner.Seek.{Sought};
 ghost use Rattle.avl_model.specs.Tree.{ins};
 ghost use Rattle.avl_model.specs.inner.Insert.{Placed};
 ghost use Rattle.avl_model.specs.Columns.{written};
 ghost use Rattle.avl_arena.specs.Test.{part_of};
-ghost use Rattle.dirtab_arena.specs.Arena.{columns, arena, arena_in};
-ghost use Rattle.dirtab_add.specs.Add.{has_room, kind_number, told, add_of, columns_after};
-ghost use Rattle.dirtab_add.specs.inner.Judging.{Checked, Judged};
+ghost use Rattle.dirtab_arena.specs.Arena.{arena, names_of};
+ghost use Rattle.dirtab_arena.specs.Lent.{columns_in, columns_of, arena_of, arena_with, IsSame};
+ghost use Rattle.dirtab_add.specs.Add.{has_room, told, add_of, columns_after};
+ghost use Rattle.dirtab_add.specs.inner.Judging.{Checked, Judged, HasPlace, stored_at};
 
 use avl_insert::{find_spot, put_in};
-use avl_model::{Place, Spot};
-use dirtab_arena::{Held, is_arena};
-use dirtab_entry::{Cause, Entry, EntryChecked, Kind, check_entry, stored_size};
-use widths::{u16_as_usize, u32_as_usize};
+use avl_model::{Branches, Place, Spot};
+use dirtab_arena::{Arena, Columns, ColumnsMut, Held, is_arena};
+use dirtab_entry::{Cause, Entry, check_entry, stored_size};
 
-// What adding answers.
-#[derive(Clone, Copy)]
-pub enum Added {
-    // The tree with one entry more.
-    Done(Held),
+// Why adding refuses.
+#[derive(Clone, Copy, Debug, PartialEq, Eq)]
+pub enum AddError {
     // 12: the held nodes are not one ordered, balanced tree of entries that adding takes.
     BadArena,
     // 1, 2, 3, 5, 4, 6: the entry. 6 where the arena is full, or holds 16,384 entries or more.
     Refused(Cause),
 }
 
-// What adding finds before it stores anything: a refusal, or the place where the new node goes.
-#[derive(Clone, Copy)]
-pub enum Verdict {
-    Refuse(Added),
-    Take(Place),
+impl AddError {
+    // The number of the refusal.
+    pub fn number(self) -> u32
+        ensures { result ≡ number_of (told (Err self)) }
+    {
+        match self {
+            AddError::BadArena => 12,
+            AddError::Refused(cause) => cause.number(),
+        }
+    }
+}
+
+impl From<Cause> for AddError {
+    ghost use Rattle.dirtab_add.specs.declared.AddError.TheVariants.{Refused};
+
+    ghost from_gives = { λ cause error. error ≡ Refused cause };
+
+    fn from(cause: Cause) -> AddError {
+        AddError::Refused(cause)
+    }
 }
 
 // There is a place more in every column, and fewer than 16,384 entries are held.
-fn has_room(
-    n: usize,
-    left: &[u16],
-    right: &[u16],
-    parent: &[u16],
-    height: &[u8],
-    start: &[u32],
-    len: &[u32],
-    size: &[u32],
-    kind: &[u8],
-) -> bool
-    ensures { let before = columns left.now right.now parent.now height.now start.now len.now size.now kind.now in
-        result ≡ has_room n before }
+// (A test for each column: their elements are of different types, so there is no loop over them.)
+#[tactic(auto, unfolding(crate::specs::Add::has_room))]
+fn has_room(count: u16, columns: Columns) -> bool
+    ensures { result ≡ has_room count (columns_in columns.entry) }
 {
-    if 16384 <= n {
-        return false;
-    }
-    if left.len() <= n {
-        return false;
-    }
-    if right.len() <= n {
-        return false;
-    }
-    if parent.len() <= n {
-        return false;
-    }
-    if height.len() <= n {
-        return false;
-    }
-    if start.len() <= n {
-        return false;
-    }
-    if len.len() <= n {
-        return false;
-    }
-    if size.len() <= n {
-        return false;
-    }
-    n < kind.len()
+    let n = count as usize;
+    n < 16384
+        && n < columns.left.len()
+        && n < columns.right.len()
+        && n < columns.parent.len()
+        && n < columns.height.len()
+        && n < columns.start.len()
+        && n < columns.len.len()
+        && n < columns.size.len()
+        && n < columns.kind.len()
 }
 
 // Where the entry's name stands in the tree of the first `count` places, or would hang.
-fn find_place(
-    tree: Held,
-    left: &[u16],
-    right: &[u16],
-    start: &[u32],
-    len: &[u32],
-    names: &[u8],
-    entry: Entry,
-) -> Spot
-    requires count_in_bounds { (tree.count ≤ length left.now) × (tree.count ≤ length right.now)
-        × (entry.start + entry.len ≤ length names.now) × (entry.len ≤ 255) }
-    requires sought { Sought (take tree.count left.now) (take tree.count right.now) tree.root
-        (names_in names.now start.now len.now) }
-    ensures { let n = names_in names.now start.now len.now in
-        ((w : Sought (take tree.count left.now) (take tree.count right.now) tree.root n) →
-        result ≡ spot_in (to_name n (name_in names.now entry)) w.linked.t Root) }
+fn find_place(arena: Arena, entry: Entry) -> Spot
+    requires count_in_bounds { (arena.tree.count ≤ length arena.columns.left.now)
+        × (arena.tree.count ≤ length arena.columns.right.now)
+        × (entry.start + entry.len ≤ length arena.names.now) × (entry.len ≤ 255) }
+    requires sought { Sought (take arena.tree.count arena.columns.left.now)
+        (take arena.tree.count arena.columns.right.now) arena.tree.root (names_of (arena_of arena)) }
+    ensures { let A = arena_of arena.entry in
+        ((w : Sought (take A.count A.columns.left) (take A.count A.columns.right) A.root (names_of A)) →
+        result ≡ spot_in (to_name (names_of A) (name_in A.bytes entry)) w.linked.t Root) }
 {
-    let n = u16_as_usize(tree.count);
-    let from = u32_as_usize(entry.start);
-    let to = from + u32_as_usize(entry.len);
-    find_spot(
-        &left[..n],
-        &right[..n],
-        names,
-        start,
-        len,
-        tree.root,
-        &names[from..to],
-    )
+    let n = arena.tree.count as usize;
+    let start = entry.start as usize;
+    let end = start + (entry.len as usize);
+    let branches = Branches {
+        root: arena.tree.root,
+        left: &arena.columns.left[..n],
+        right: &arena.columns.right[..n],
+    };
+    find_spot(branches, arena.names(), &arena.names[start..end])
 }
 
-// Of an entry that adding takes by itself: 4 where its name is there, then 6.
-fn judge_name(
-    tree: Held,
-    left: &[u16],
-    right: &[u16],
-    parent: &[u16],
-    height: &[u8],
-    start: &[u32],
-    len: &[u32],
-    size: &[u32],
-    kind: &[u8],
-    names: &[u8],
-    entry: Entry,
-) -> Verdict
-    requires { Checked (arena tree.root tree.count (columns left.now right.now parent.now height.now
-        start.now len.now size.now kind.now) names.now) entry }
-    ensures { let A = arena_in tree.root tree.count left.now right.now parent.now height.now start.now len.now
-        size.now kind.now names.now in
-        Judged result A entry }
+// Of an entry that adding takes by itself, the place for its node: 4 where its name is there, then 6.
+fn judge_name(arena: Arena, entry: Entry) -> Result<Place, AddError>
+    requires { Checked (arena_of arena) entry }
+    ensures { Judged result (arena_of arena.entry) entry }
 {
-    let n = u16_as_usize(tree.count);
-    let spot = find_place(tree, left, right, start, len, names, entry);
-    match spot {
-        Spot::Same(_i) => Verdict::Refuse(Added::Refused(Cause::DuplicateFileName)),
+    match find_place(arena, entry) {
+        Spot::Same(_) => Err(AddError::Refused(Cause::DuplicateFileName)),
         Spot::Free(place) => {
-            if has_room(n, left, right, parent, height, start, len, size, kind) {
-                return Verdict::Take(place);
+            if has_room(arena.tree.count, arena.columns) {
+                Ok(place)
+            } else {
+                Err(AddError::Refused(Cause::Room))
             }
-            Verdict::Refuse(Added::Refused(Cause::Room))
         }
     }
 }
 
-// All checks, in their order: 12, 1, 2, 3, 5, 4, 6.
-fn judge(
+// All checks, in their order: 12, 1, 2, 3, 5, 4, 6. (The arena's parts stand apart: `add` lends its columns for this
+// call alone, and the names for longer.)
+fn judge<'a>(
     tree: Held,
-    left: &[u16],
-    right: &[u16],
-    parent: &[u16],
-    height: &[u8],
-    start: &[u32],
-    len: &[u32],
-    size: &[u32],
-    kind: &[u8],
-    names: &[u8],
+    columns: Columns<'a>,
+    names: &'a [u8],
     entry: Entry,
-) -> Verdict
-    ensures { let A = arena_in tree.root tree.count left.now right.now parent.now height.now start.now len.now
-        size.now kind.now names.now in
-        Judged result A entry }
+) -> Result<Place, AddError>
+    ensures { Judged result (arena tree.root tree.count (columns_in columns.entry) names.now) entry }
 {
-    if is_arena(
-        tree, left, right, parent, height, start, len, size, kind, names,
-    ) {
-        match check_entry(names, entry) {
-            EntryChecked::Good => {
-                return judge_name(
-                    tree, left, right, parent, height, start, len, size, kind, names, entry,
-                );
-            }
-            EntryChecked::Refused(cause) => return Verdict::Refuse(Added::Refused(cause)),
-        }
+    let arena = Arena {
+        tree,
+        columns,
+        names,
+    };
+    if !is_arena(arena) {
+        return Err(AddError::BadArena);
     }
-    Verdict::Refuse(Added::BadArena)
-}
-
-// The number of a kind in its column.
-fn kind_number(kind: Kind) -> u8
-    ensures { result ≡ kind_number kind }
-{
-    match kind {
-        Kind::File => 0,
-        Kind::Directory => 1,
-    }
+    check_entry(names, entry)?;
+    judge_name(arena, entry)
 }
 
 // The entry's own numbers, at its place.
-fn store_entry(
-    start: &mut [u32],
-    len: &mut [u32],
-    size: &mut [u32],
-    kind: &mut [u8],
-    i: usize,
-    entry: Entry,
-)
-    requires i_in_bounds { (i < length start.old) × (i < length len.old) × (i < length size.old)
-        × (i < length kind.old) }
+fn store_entry(columns: &mut ColumnsMut<'_>, i: usize, entry: Entry)
+    requires in_bounds { HasPlace (columns_of columns.old) i }
     requires size_bound { is_directory entry.kind ≡ true → entry.size ≤ 4294965248 }
-    ensures { (start.new ≡ set start.old i entry.start)
-        × (len.new ≡ set len.old i entry.len)
-        × (size.new ≡ set size.old i (stored_size entry.kind entry.size))
-        × (kind.new ≡ set kind.old i (kind_number entry.kind)) }
+    ensures stored { columns_of columns.new ≡ stored_at (columns_of columns.old) i entry }
+    ensures same { IsSame columns.old columns.new }
 {
-    let is = entry.kind;
-    start[i] = entry.start;
-    len[i] = entry.len;
-    size[i] = stored_size(is, entry.size);
-    kind[i] = kind_number(is);
+    columns.start[i] = entry.start;
+    columns.len[i] = entry.len;
+    columns.size[i] = stored_size(entry.kind, entry.size);
+    columns.kind[i] = u8::from(entry.kind);
 }
 
-// The new node, whose number is the count, put into the first count + 1 places. The answer is the root.
+// The new node, whose number is the count, put into the first count + 1 places. The answer is the root. The columns
+// come one by one: of a part of a column that a struct holds, no proof knows what becomes of the whole.
 fn grow(
     tree: Held,
     left: &mut [u16],
@@ -232,14 +165,14 @@ fn grow(
         lists result left.new right.new parent.new height.new
         ≡ written (ins (λ i. is_less (w.by i)) tree.count w.arena.t) s) }
 {
-    let m = u16_as_usize(tree.count) + 1;
+    let n = (tree.count as usize) + 1;
     let mut root = tree.root;
     put_in(
         &mut root,
-        &mut left[..m],
-        &mut right[..m],
-        &mut parent[..m],
-        &mut height[..m],
+        &mut left[..n],
+        &mut right[..n],
+        &mut parent[..n],
+        &mut height[..n],
         place,
         tree.count,
     );
@@ -249,38 +182,26 @@ fn grow(
 // Adds an entry, or refuses it and leaves all as it was.
 pub fn add(
     tree: Held,
-    left: &mut [u16],
-    right: &mut [u16],
-    parent: &mut [u16],
-    height: &mut [u8],
-    start: &mut [u32],
-    len: &mut [u32],
-    size: &mut [u32],
-    kind: &mut [u8],
+    columns: &mut ColumnsMut<'_>,
     names: &[u8],
     entry: Entry,
-) -> Added
-    ensures answer { let A = arena_in tree.root tree.count left.old right.old parent.old height.old start.old
-        len.old size.old kind.old names.now in
-        told result ≡ add_of A entry }
-    ensures memory { let A = arena_in tree.root tree.count left.old right.old parent.old height.old start.old
-        len.old size.old kind.old names.now in
-        let after = columns left.new right.new parent.new height.new start.new len.new size.new kind.new in
-        after ≡ columns_after A entry }
+) -> Result<Held, AddError>
+    ensures answer { told result ≡ add_of (arena_with tree columns.old names.now) entry }
+    ensures memory { columns_of columns.new ≡ columns_after (arena_with tree columns.old names.now) entry }
+    ensures same { IsSame columns.old columns.new }
 {
-    let verdict = judge(
-        tree, left, right, parent, height, start, len, size, kind, names, entry,
+    let place = judge(tree, columns.shared(), names, entry)?;
+    store_entry(columns, tree.count as usize, entry);
+    let root = grow(
+        tree,
+        columns.left,
+        columns.right,
+        columns.parent,
+        columns.height,
+        place,
     );
-    match verdict {
-        Verdict::Refuse(answer) => answer,
-        Verdict::Take(place) => {
-            let i = u16_as_usize(tree.count);
-            store_entry(start, len, size, kind, i, entry);
-            let root = grow(tree, left, right, parent, height, place);
-            Added::Done(Held {
-                root,
-                count: tree.count + 1,
-            })
-        }
-    }
+    Ok(Held {
+        root,
+        count: tree.count + 1,
+    })
 }

@@ -1,8 +1,5 @@
 -- Small arenas, tested by computing: the test neither takes all nor refuses all.
-use Prim.Native.Nat.{ℕ}
-use mathlib.Core.Path.{◌≡◌, refl}
-use mathlib.Core.Bool.{Bool, true, false}
-use mathlib.Core.List.{[], ◌∷◌}
+use Rattle.std.proofs.Common.{ℕ, ◌≡◌, refl, Bool, true, false, [], ◌∷◌}
 use Rattle.dirtab_entry.specs.Entry.{any_bad, check_of}
 use Rattle.avl_model.specs.Seek.{tree_at}
 use Rattle.avl_arena.specs.Test.{places, inside, between, cell_ok, whole_tree, holds_tree}

@@ -1,12 +1,6 @@
 -- What the check of an entry says where it takes it, and that it takes every such entry.
-use Prim.Native.Nat.{ℕ, ◌+◌, ◌≤◌}
-use native.Mathlib.Omega.{arith}
-use mathlib.Core.Path.{◌≡◌, refl}
-use mathlib.Core.Bool.{Bool, true, false}
-use mathlib.Core.List.{List}
-use lib.ListN.{length, drop, length-take}
-use lib.Dec.{ltb, eqb}
-use borrow.Author.Tests.{ltb-false, eqb-false, ne_eqb, le-ltb}
+use Rattle.std.proofs.Common.{ℕ, ◌+◌, ◌≤◌, arith, ◌≡◌, refl, Bool, true, false, List, length, drop, length-take, ltb, eqb, ltb-false, ne_eqb, le-ltb}
+use borrow.Author.Tests.{eqb-false}
 use Rattle.units.specs.Told.{gives, pick}
 use Rattle.name_role.proofs.Roles.{stored-length}
 use Rattle.dirtab_entry.specs.declared.Entry as given

@@ -1,14 +1,7 @@
 -- What an arena that passed the check is: a held tree, and entries that adding takes.
-use Prim.Native.Nat.{ℕ, ◌≤◌, ◌<◌}
-use native.Mathlib.Omega.{arith}
-use mathlib.Core.Path.{◌≡◌, refl, sym, ◌∙◌}
-use mathlib.Core.Bool.{true, ◌&&◌}
-use lib.ListN.{length, take}
-use lib.Seq.{length-take-le}
-use lib.Dec.{leb}
-use borrow.Author.Tests.{leb-true}
+use Rattle.std.proofs.Common.{ℕ, ◌≤◌, ◌<◌, arith, ◌≡◌, refl, sym, ◌∙◌, true, ◌&&◌, length, take, length-take-le, leb, leb-true}
 use Rattle.units.specs.Told.{Told, gives, refuses}
-use Rattle.layout_name.specs.declared.Order.{Order}
+use Rattle.std.specs.declared.cmp.Ordering.{Ordering}
 use Rattle.dirtab_entry.specs.Entry.{check_of}
 use Rattle.avl_model.specs.declared.Place.TheVariants.{Root}
 use Rattle.avl_model.specs.declared.Spot.{Spot}
@@ -89,6 +82,6 @@ module _ (A : Arena) (p : is_arena A ≡ true) where
         }
 
     -- what it finds, it finds in the held tree
-    pub spot_is : (by : ℕ → Order) {s : Spot} → ((w : Sought (take n A.columns.left) (take n A.columns.right) A.root (names_of A)) → s ≡ spot_in by w.linked.t Root) → s ≡ spot_in by (tree_of A) Root
+    pub spot_is : (by : ℕ → Ordering) {s : Spot} → ((w : Sought (take n A.columns.left) (take n A.columns.right) A.root (names_of A)) → s ≡ spot_in by w.linked.t Root) → s ≡ spot_in by (tree_of A) Root
     unfolding sought
     spot_is by f = f sought

@@ -1,2 +1,3 @@
 -- What an arena holds, and when it is one.
 pub mod Arena
+pub mod Lent

@@ -2,6 +2,5 @@
 pub mod Told
 pub mod Cases
 pub mod Bad
-pub mod Checks
 pub mod Stored
 pub mod Storable

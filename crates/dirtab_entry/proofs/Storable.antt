@@ -1,11 +1,5 @@
 -- An entry that passed its checks passed each of them, and a name that is taken can be stored. Assumes nothing.
-use Prim.Native.Nat.{ℕ, ◌+◌}
-use mathlib.Core.Path.{◌≡◌, refl}
-use mathlib.Core.Bool.{Bool, true, false}
-use mathlib.Core.List.{List, [], ◌∷◌}
-use native.Mathlib.Omega.{arith}
-use lib.Dec.{ltb, eqb}
-use lib.ListN.{length}
+use Rattle.std.proofs.Common.{ℕ, ◌+◌, ◌≡◌, refl, Bool, true, false, List, [], ◌∷◌, arith, ltb, eqb, length}
 use Rattle.units.specs.Told.{Told, gives, refuses, pick}
 use Rattle.name_role.proofs.Storable.{is_storable}
 use Rattle.dirtab_entry.specs.declared.Entry.{Entry}

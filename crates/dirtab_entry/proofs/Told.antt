@@ -1,12 +1,8 @@
 -- The number of a cause is one-to-one, and so is what an answer stands for: no two answers are told alike. Assumes nothing.
-use Prim.Native.Nat.{ℕ}
-use mathlib.Core.Path.{◌≡◌, refl, sym, ap, ◌∙◌}
-use lib.Dec.{eqb}
+use Rattle.std.proofs.Common.{ℕ, ◌≡◌, refl, sym, ap, ◌∙◌, eqb, Result, Ok, Err}
 use Rattle.units.specs.Told.{Told, gives, refuses, pick}
 use Rattle.dirtab_entry.specs.declared.Cause.{Cause}
 use Rattle.dirtab_entry.specs.declared.Cause.TheVariants.{EmptyName, BadByte, NameTooLong, SizeOverflow, DuplicateFileName, Room}
-use Rattle.dirtab_entry.specs.declared.EntryChecked.{EntryChecked}
-use Rattle.dirtab_entry.specs.declared.EntryChecked.TheVariants.{Good, Refused}
 use Rattle.dirtab_entry.specs.Entry.{cause_number, told}
 
 -- what a number stands for: f of the cause that has it, and x where none has
@@ -38,15 +34,15 @@ each_number P one two three four five six SizeOverflow = five
 each_number P one two three four five six Room = six
 
 -- the answer again from what is told of it
-back : Told (Unit {0}) → EntryChecked
-back (gives u) = Good
-back (refuses k vs) = for_number Refused Good k
+back : Told (Unit {0}) → Result (Unit {0}) Cause
+back (gives u) = Ok u
+back (refuses k vs) = for_number Err (Ok tt) k
 
-back-told : (a : EntryChecked) → back (told a) ≡ a
+back-told : (a : Result (Unit {0}) Cause) → back (told a) ≡ a
 unfolding back
-back-told Good = refl
-back-told (Refused c) = for_number_lem Refused Good c
+back-told (Ok u) = refl
+back-told (Err c) = for_number_lem Err (Ok tt) c
 
 -- no two answers of a check are told alike
-pub told_one : (a b : EntryChecked) → told a ≡ told b → a ≡ b
+pub told_one : (a b : Result (Unit {0}) Cause) → told a ≡ told b → a ≡ b
 told_one a b e = sym (back-told a) ∙ ap back e ∙ back-told b

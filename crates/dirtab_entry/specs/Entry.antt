@@ -1,12 +1,11 @@
 -- An entry as it is given: what adding asks of it by itself, 1, 2, 3, 5 in that order, and the size that it is
 -- stored with. Assumes nothing.
 use Rattle.std.specs.Prelude.{ℕ, ◌+◌, ◌*◌, ◌/◌, Bool, true, false, List, [], ◌∷◌, ltb, eqb, length, take, drop}
+use Rattle.std.specs.Prelude.{Result, Ok, Err}
 use Rattle.units.specs.Told.{Told, gives, refuses, pick}
 use Rattle.dirtab_entry.specs.declared.Kind.{Kind}
 use Rattle.dirtab_entry.specs.declared.Kind.TheVariants.{File, Directory}
 use Rattle.dirtab_entry.specs.declared.Entry.{Entry}
-use Rattle.dirtab_entry.specs.declared.EntryChecked.{EntryChecked}
-use Rattle.dirtab_entry.specs.declared.EntryChecked.TheVariants.{Good, Refused}
 use Rattle.dirtab_entry.specs.declared.Cause.{Cause}
 use Rattle.dirtab_entry.specs.declared.Cause.TheVariants.{
   EmptyName,
@@ -20,6 +19,11 @@ use Rattle.dirtab_entry.specs.declared.Cause.TheVariants.{
 -- the kind that a column's number says: 1 is a directory, any other a file
 abbrev pub kind_for : ℕ → Kind
 kind_for n = pick (eqb n 1) Directory File
+
+-- the number of a kind in its column
+abbrev pub kind_number : Kind → ℕ
+kind_number File = 0
+kind_number Directory = 1
 
 abbrev pub is_directory : Kind → Bool
 is_directory File = false
@@ -80,6 +84,6 @@ cause_number SizeOverflow = 5
 cause_number Room = 6
 
 -- what each answer stands for
-abbrev pub told : EntryChecked → Told (Unit {0})
-told Good = gives tt
-told (Refused c) = refuses (cause_number c) []
+abbrev pub told : Result (Unit {0}) Cause → Told (Unit {0})
+told (Ok u) = gives tt
+told (Err c) = refuses (cause_number c) []

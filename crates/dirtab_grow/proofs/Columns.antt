@@ -1,12 +1,6 @@
 -- Columns that hold a tree of the first n numbers, as the search and the insertion ask for it, and with one number more. Assumes nothing.
-use Prim.Native.Nat.{ℕ, ◌+◌, ◌≤◌, ◌<◌}
-use native.Mathlib.Omega.{arith}
+use Rattle.std.proofs.Common.{ℕ, ◌+◌, ◌≤◌, ◌<◌, arith, ◌≡◌, refl, sym, subst, ◌∙◌, Bool, List, length, set, length-set, get_or-set_same, get_or-set_other}
 use native.Mathlib.Decide.{ℕ_discrete}
-use mathlib.Core.Path.{◌≡◌, refl, sym, subst, ◌∙◌}
-use mathlib.Core.Bool.{Bool}
-use mathlib.Core.List.{List}
-use lib.ListN.{length, set, length-set}
-use lib.Seq.{get_or-set_same, get_or-set_other}
 use Rattle.avl_model.specs.Tree.{Tree, leaf, node, none, ht, δ, ins}
 use Rattle.avl_model.specs.Laws.{All}
 use Rattle.avl_model.specs.Lists.{Lists}

@@ -1,14 +1,8 @@
 -- What growing a tree of a list comes to: it has the numbers of the list, each of which passed its checks, and it can be grown in two parts. Assumes nothing.
-use Prim.Native.Nat.{ℕ, zero, suc, ◌+◌, ◌≤◌, ◌<◌}
-use native.Mathlib.Omega.{arith}
+use Rattle.std.proofs.Common.{ℕ, zero, suc, ◌+◌, ◌≤◌, ◌<◌, arith, ◌≡◌, refl, sym, ap, ap₂, subst, ◌∙◌, Bool, true, false, List, [], ◌∷◌, ltb, ltb-true}
 use native.Mathlib.Decide.{ℕ_discrete}
-use mathlib.Core.Path.{◌≡◌, refl, sym, ap, ap₂, subst, ◌∙◌}
-use mathlib.Core.Bool.{Bool, true, false}
-use mathlib.Core.List.{List, [], ◌∷◌}
-use lib.Dec.{ltb}
-use borrow.Author.Tests.{ltb-true}
 use Rattle.units.specs.Told.{Told, gives, refuses, pick}
-use Rattle.layout_name.specs.declared.Order.{Order}
+use Rattle.std.specs.declared.cmp.Ordering.{Ordering}
 use Rattle.avl_model.specs.declared.Spot.{Spot}
 use Rattle.avl_model.specs.declared.Spot.TheVariants.{Same, Free}
 use Rattle.avl_model.specs.declared.Place.TheVariants.{Root}
@@ -47,7 +41,7 @@ then_step i (refuses k vs) s b x next = refl
 same_tree : {t u : Tree} → ◌≡◌ {A = Told Tree} (gives t) (gives u) → t ≡ u
 same_tree e = cc
 
-module _ (between : ℕ → ℕ → Order) where
+module _ (between : ℕ → ℕ → Ordering) where
   abbrev more : ℕ → Tree → Tree
   more i t = ins (λ j. is_less (between i j)) i t
 

@@ -1,11 +1,6 @@
 -- The first places of columns hold a tree of the first numbers exactly where the whole columns do. Assumes nothing.
-use Prim.Native.Nat.{ℕ, ◌+◌, ◌-◌, ◌<◌}
-use native.Mathlib.Omega.{arith}
-use mathlib.Core.Path.{◌≡◌, refl, sym, ap, subst, ◌∙◌}
-use mathlib.Core.Bool.{Bool}
-use mathlib.Core.List.{List, ◌++◌}
-use lib.ListN.{length, take, drop, get_or-append}
-use lib.Seq.{length-take-le, get_or-take}
+use Rattle.std.proofs.Common.{ℕ, ◌+◌, ◌-◌, ◌<◌, arith, ◌≡◌, refl, sym, ap, subst, ◌∙◌, Bool, List, ◌++◌, length, take, drop, length-take-le, get_or-take, Result}
+use lib.ListN.{get_or-append}
 use Rattle.units.specs.Told.{Told, gives}
 use Rattle.dirtab_entry.specs.Entry.{check_of}
 use Rattle.avl_model.specs.declared.Place.TheVariants.{Root, Right}
@@ -21,11 +16,11 @@ use Rattle.dirtab_arena.proofs.Fine.{fine_of}
 use Rattle.avl_model.proofs.Adding.{below}
 use Rattle.avl_model.proofs.Counted.{all_at}
 use Rattle.avl_model.proofs.Frame.{Agree, frame}
-use Rattle.dirtab_grow.specs.declared.Step.{Step}
+use Rattle.dirtab_entry.specs.declared.Cause.{Cause}
 use Rattle.dirtab_grow.proofs.Columns.{sought_in}
 use Rattle.dirtab_grow.proofs.Rightmost.{links_tree}
 use Rattle.dirtab_grow.specs.Listing.{Listing, given_in}
-use Rattle.dirtab_grow.specs.inner.Growing.{step_of, After, Grown, Growing, Hangable, Lent, Wide, Stepped}
+use Rattle.dirtab_grow.specs.inner.Growing.{step_of, After, Grown, Growing, Hangable, Wide, Stepped}
 
 -- columns that agree on the first n places hold the same tree of n numbers
 pub frame_grown : (S T : Lists) (N : Names) (n : ℕ) (t : Tree) → T.root ≡ S.root → ((j : ℕ) → j < n → Agree (arr_of S) (arr_of T) j) → Grown S N n t → Grown T N n t
@@ -73,12 +68,12 @@ module _ (S : Lists) (K : List ℕ) (L : Listing) (i end : ℕ) (end_is : end �
   }
 
   -- an entry that passed its checks may be put in there
-  pub hangable : Lent L i → check_of L.bytes (given_in L i) ≡ gives tt → Growing S K N i → Hangable front K N i
-  hangable lent e w = let g = fine_of L.bytes (given_in L i) e in record {
+  pub hangable : i < length L.start → i < length L.len → check_of L.bytes (given_in L i) ≡ gives tt → Growing S K N i → Hangable front K N i
+  hangable in_start in_len e w = let g = fine_of L.bytes (given_in L i) e in record {
     growing = growing_front w;
     long = long_front;
     has = wide.k;
-    inside = record { starts = lent.in_start; ends = lent.in_len; fits = g.inside };
+    inside = record { starts = in_start; ends = in_len; fits = g.inside };
     short = g.short;
   }
 
@@ -94,7 +89,7 @@ module _ (S : Lists) (K : List ℕ) (L : Listing) (i end : ℕ) (end_is : end �
   more t = ins (λ j. is_less (by_name N i j)) i t
 
   -- what the first places hold then, all of the columns do
-  pub out_hung : {root : ℕ} {l r p h J : List ℕ} {x : Step} {u : Told (Unit {0})}
+  pub out_hung : {root : ℕ} {l r p h J : List ℕ} {x : Result (Unit {0}) Cause} {u : Told (Unit {0})}
       → length l ≡ length (take end S.L) → length r ≡ length (take end S.R) → length p ≡ length (take end S.P) → length h ≡ length (take end S.H)
       → u ≡ gives tt
       → ((v : Growing front K N i) → Stepped x (gives tt) (spot v.t) i (lists root l r p h) J N (more v.t))

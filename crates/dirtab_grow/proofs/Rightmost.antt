@@ -1,14 +1,7 @@
 -- Entries that come in order: each goes to the right of the one before it, which is the last of the tree. Assumes nothing.
-use Prim.Native.Nat.{ℕ, suc, ◌+◌, ◌-◌, ◌≤◌, ◌<◌}
-use native.Mathlib.Omega.{arith}
-use mathlib.Core.Path.{◌≡◌, refl, sym, ap, ap₂, subst, ◌∙◌}
-use mathlib.Core.Bool.{Bool, true, false}
-use mathlib.Core.List.{List}
-use lib.Dec.{ltb, leb}
-use lib.ListN.{length, get_or}
-use borrow.Author.Tests.{leb-true}
-use Rattle.layout_name.specs.declared.Order.{Order}
-use Rattle.layout_name.specs.declared.Order.TheVariants.{Greater}
+use Rattle.std.proofs.Common.{ℕ, suc, ◌+◌, ◌-◌, ◌≤◌, ◌<◌, arith, ◌≡◌, refl, sym, ap, ap₂, subst, ◌∙◌, Bool, true, false, List, ltb}
+use Rattle.std.specs.declared.cmp.Ordering.{Ordering}
+use Rattle.std.specs.declared.cmp.Ordering.TheVariants.{Greater}
 use Rattle.layout_name.specs.inner.Order.{opposite}
 use Rattle.name_role.specs.Roles.{given_order}
 use Rattle.name_role.proofs.Roles.{Compared, given_compared, given_opposite, given_trans}
@@ -17,8 +10,8 @@ use Rattle.avl_model.specs.declared.Spot.{Spot}
 use Rattle.avl_model.specs.declared.Spot.TheVariants.{Same, Free}
 use Rattle.avl_model.specs.Tree.{Tree, leaf, node, none, ht, turn_left, turn_left_by, turn_right, turn_right_by, bal, bal_by, ins, ins_by}
 use Rattle.avl_model.specs.Laws.{All, Ordered}
-use Rattle.avl_model.specs.Names.{Names, names_in, name_at, to_name, by_name, is_less}
-use Rattle.avl_model.specs.inner.Names.{Before, Inside}
+use Rattle.avl_model.specs.Names.{Names, name_at, to_name, by_name, is_less}
+use Rattle.avl_model.specs.inner.Names.{Before}
 use Rattle.avl_model.specs.Rep.{Arr, Rep}
 use Rattle.avl_model.specs.Seek.{spot_in, spot_by, tree_at}
 use Rattle.avl_model.proofs.Avl.{all_map}
@@ -78,8 +71,8 @@ module _ (N : Names) (a : List ℕ) where
   on_way i r b = last_in (λ j. to_name N a j ≡ Greater → to_name N a i ≡ Greater) r i (λ e. e)
       (all_map (λ j. Before N i j) (λ j. to_name N a j ≡ Greater → to_name N a i ≡ Greater) r (λ j h. on_left i j h) b)
 
-  to_right : (o : Order) (l : Tree) (i : ℕ) (x y : Spot) → o ≡ Greater → spot_by o (Same i) x y ≡ y
-  to_right o l i x y e = ap (λ (p : Order). spot_by p (Same i) x y) e
+  to_right : (o : Ordering) (l : Tree) (i : ℕ) (x y : Spot) → o ≡ Greater → spot_by o (Same i) x y ≡ y
+  to_right o l i x y e = ap (λ (p : Ordering). spot_by p (Same i) x y) e
 
   spot_right : (t : Tree) (d : ℕ) → Ordered (Before N) t → to_name N a (last_from d t) ≡ Greater → spot_in (to_name N a) t (Right d) ≡ Free (Right (last_from d t))
   spot_right leaf d o e = refl
@@ -101,7 +94,7 @@ module _ (N : Names) (a : List ℕ) where
   pub ins_last : (t : Tree) (d new : ℕ) → Ordered (Before N) t → to_name N a (last_from d t) ≡ Greater → last_from d (ins less new t) ≡ new
   ins_last leaf d new o e = refl
   ins_last (node l i r) d new o e =
-      ap (λ (p : Order). last_from d (ins_by (is_less p) l (ins less new l) i r (ins less new r))) (on_way i r o.1 e)
+      ap (λ (p : Ordering). last_from d (ins_by (is_less p) l (ins less new l) i r (ins less new r))) (on_way i r o.1 e)
       ∙ bal_last l i (ins less new r) d ∙ ins_last r i new o.3 e
 
 -- the last of the first i entries is the last node, and the tree is ordered
@@ -132,16 +125,8 @@ module _ (N : Names) (t : Tree) (i : ℕ) (low : i ≤ 16384) (m : Rightmost N t
 
 -- ---- what the code finds out
 
--- a name's place, tested
-pub inside_by : (b s l : List ℕ) (at i f n : ℕ) → (i ≡ at) × (i < 65536) → (f ≡ get_or s i 0) × (f < 4294967296) → (n ≡ get_or l i 0) × (n < 4294967296)
-    → at < length s → at < length l → leb (f + n) (length b) ≡ true → Inside (names_in b s l) at
-inside_by b s l at i f n is ef en h k e =
-    let es : get_or s i 0 ≡ get_or s at 0 = ap (λ (v : ℕ). get_or s v 0) is.0 in
-    let el : get_or l i 0 ≡ get_or l at 0 = ap (λ (v : ℕ). get_or l v 0) is.0 in
-    record { starts = h; ends = k; fits = omega (arith, es, el, ef, en, leb-true (f + n) (length b) e) }
-
 -- two names, compared
-pub compared : (N : Names) (i j : ℕ) {a b : List ℕ} {o : Order} → a ≡ name_at N i → b ≡ name_at N j → Compared o a b → o ≡ Greater → by_name N i j ≡ Greater
+pub compared : (N : Names) (i j : ℕ) {a b : List ℕ} {o : Ordering} → a ≡ name_at N i → b ≡ name_at N j → Compared o a b → o ≡ Greater → by_name N i j ≡ Greater
 unfolding to_name
 compared N i j {a} {b} ea eb eo e = ap₂ given_order (sym ea) (sym eb) ∙ sym (given_compared a b eo) ∙ e
 

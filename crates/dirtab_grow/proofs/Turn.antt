@@ -1,29 +1,20 @@
 -- A turn of the building loop: the tree so far, and what is left to be grown. Assumes nothing.
-use Prim.Native.Nat.{ℕ, suc, ◌+◌, ◌-◌, ◌≤◌, ◌<◌}
-use native.Mathlib.Omega.{arith}
-use mathlib.Core.Path.{◌≡◌, refl, sym, ap, subst, ◌∙◌}
-use mathlib.Core.Bool.{Bool, true, false, ◌||◌}
-use mathlib.Core.List.{List, [], ◌∷◌}
-use lib.Dec.{eqb}
-use lib.ListN.{length}
-use borrow.Author.Tests.{eqb-true}
-use Rattle.layout_name.specs.declared.Order.TheVariants.{Greater}
+use Rattle.std.proofs.Common.{ℕ, suc, ◌+◌, ◌-◌, ◌≤◌, ◌<◌, arith, ◌≡◌, refl, sym, ap, subst, ◌∙◌, Bool, true, false, ◌||◌, List, [], ◌∷◌, eqb, eqb-true, Result, Ok, Err}
+use Rattle.std.specs.declared.cmp.Ordering.TheVariants.{Greater}
 use Rattle.units.specs.Told.{Told, refuses}
 use Rattle.dirtab_entry.specs.declared.Cause.{Cause}
 use Rattle.dirtab_entry.specs.Entry.{cause_number, check_of}
 use Rattle.avl_model.specs.declared.Place.TheVariants.{Root}
-use Rattle.avl_model.specs.Tree.{Tree, leaf, none, ins}
-use Rattle.avl_model.specs.Lists.{Lists, lists}
+use Rattle.avl_model.specs.Tree.{Tree, none, ins}
+use Rattle.avl_model.specs.Lists.{Lists}
 use Rattle.avl_model.specs.Rep.{arr_of}
 use Rattle.avl_model.specs.Names.{Names, names_in, by_name, to_name, is_less}
 use Rattle.avl_model.specs.Seek.{spot_in}
 use Rattle.avl_model.specs.Laws.{All}
 use Rattle.avl_keyed.specs.inner.Key.{Keyed}
-use Rattle.dirtab_grow.specs.declared.Step.{Step}
-use Rattle.dirtab_grow.specs.declared.Step.TheVariants as step
-use Rattle.dirtab_grow.specs.Listing.{Listing, listing, given_in}
+use Rattle.dirtab_grow.specs.Listing.{Listing, given_in}
 use Rattle.dirtab_grow.specs.Grow.{grow_from, order_in, grow}
-use Rattle.dirtab_grow.specs.inner.Growing.{go_on, step_of, After, Grown, Growing, Lent, Wide, Roomy, Stepped, Holding}
+use Rattle.dirtab_grow.specs.inner.Growing.{go_on, step_of, After, Grown, Growing, Stepped, Holding}
 use Rattle.dirtab_grow.proofs.Rightmost.{Rightmost, first_in_lem, goes_right, one_after}
 
 module _ (L : Listing) where
@@ -48,21 +39,6 @@ module _ (L : Listing) where
     pub to : i ≤ L.count
     pub whole : rest (L.count - i) i t ≡ grow L.bytes (given_in L) L.count
 
-  pub none_yet : (l r p h K : List ℕ) → Building (lists 65535 l r p h) K 0
-  none_yet l r p h K = record {
-    t = leaf;
-    grown = record {
-      held = record { link = refl; rep = tt; krep = tt; once = λ j. omega arith };
-      full = λ j q. absurd (omega arith);
-      even = tt;
-      named = tt;
-      low = omega arith;
-    };
-    keyed = tt;
-    to = omega arith;
-    whole = ap (λ (k : ℕ). rest k 0 leaf) {x = L.count - 0} {y = L.count} (omega arith);
-  }
-
   -- one entry
   step_on : (k i : ℕ) (t : Tree) → rest (suc k) i t ≡ step_of (check i) (spot_in (by_name named i) t Root) i (rest k (i + 1) (more i t))
   unfolding grow_from to_name
@@ -71,9 +47,6 @@ module _ (L : Listing) where
   module _ (S : Lists) (K : List ℕ) (i : ℕ) {at : ℕ} (is : at ≡ i) (b : Building S K i) where
     pub growing : Growing S K named at
     growing = subst (λ (v : ℕ). Growing S K named v) (sym is) (record { t = b.t; grown = b.grown; keyed = b.keyed })
-
-    pub low_number : i ≤ 16384
-    low_number = b.grown.low
 
     -- the next entry is known to come after the last, where so did those before it
     module _ {up after : Bool} (so_far : up ≡ true → Rightmost named b.t i) (f : after ≡ true → (up ≡ true) × (by_name named at (at - 1) ≡ Greater)) where
@@ -94,7 +67,7 @@ module _ (L : Listing) where
       pub still_up : (after || eqb i 0) ≡ true → Rightmost named (more i b.t) (i + 1)
       still_up = up_by after (eqb i 0) refl refl
 
-    module _ (h : i < L.count) {r : Step} {T : Lists} {J : List ℕ}
+    module _ (h : i < L.count) {r : Result (Unit {0}) Cause} {T : Lists} {J : List ℕ}
         (f : (w : Growing S K named at) → Stepped r (check at) (spot_in (by_name named at) w.t Root) at T J named (more at w.t)) where
       here : Stepped r (check i) (spot_in (by_name named i) b.t Root) i T J named (more i b.t)
       here = subst (λ (v : ℕ). (w : Growing S K named v) → Stepped r (check v) (spot_in (by_name named v) w.t Root) v T J named (more v w.t)) is f (record { t = b.t; grown = b.grown; keyed = b.keyed })
@@ -106,22 +79,22 @@ module _ (L : Listing) where
           ∙ ap (λ (k : ℕ). rest k i b.t) {x = suc (L.count - (i + 1))} {y = L.count - i} (omega arith)
           ∙ b.whole
 
-      unfoldable one_more : r ≡ step.Taken → Building T J (i + 1)
+      unfoldable one_more : r ≡ Ok tt → Building T J (i + 1)
       one_more e = record {
         t = more i b.t;
         grown = here.taken e;
         keyed = here.keyed e;
         to = omega arith;
-        whole = ap (λ (s : Step). go_on s i (rest (L.count - (i + 1)) (i + 1) (more i b.t))) (sym e) ∙ stepped;
+        whole = ap (λ (s : Result (Unit {0}) Cause). go_on s i (rest (L.count - (i + 1)) (i + 1) (more i b.t))) (sym e) ∙ stepped;
       }
 
-      pub one_more_up : {up after : Bool} → (up ≡ true → Rightmost named b.t i) → (after ≡ true → (up ≡ true) × (by_name named at (at - 1) ≡ Greater)) → r ≡ step.Taken
+      pub one_more_up : {up after : Bool} → (up ≡ true → Rightmost named b.t i) → (after ≡ true → (up ≡ true) × (by_name named at (at - 1) ≡ Greater)) → r ≡ Ok tt
           → (n : Building T J (i + 1)) × ((after || eqb i 0) ≡ true → Rightmost named n.t (i + 1))
       unfolding one_more
       one_more_up so_far g e = (one_more e, still_up so_far g)
 
-      pub stops : {c : Cause} → r ≡ step.Refused c → grow L.bytes (given_in L) L.count ≡ refuses (cause_number c) (i ∷ [])
-      stops e = sym stepped ∙ ap (λ (s : Step). go_on s i (rest (L.count - (i + 1)) (i + 1) (more i b.t))) e
+      pub stops : {c : Cause} → r ≡ Err c → grow L.bytes (given_in L) L.count ≡ refuses (cause_number c) (i ∷ [])
+      stops e = sym stepped ∙ ap (λ (s : Result (Unit {0}) Cause). go_on s i (rest (L.count - (i + 1)) (i + 1) (more i b.t))) e
 
   -- no entry is left
   pub all_in : (S : Lists) (K : List ℕ) (i : ℕ) → Building S K i → L.count ≤ i → Holding (grow L.bytes (given_in L) L.count) S named L.count
@@ -133,11 +106,3 @@ module _ (L : Listing) where
         told = sym b.whole ∙ ap (λ (k : ℕ). rest k i b.t) {x = L.count - i} {y = 0} (omega (arith, b.to));
         grown = subst (λ (v : ℕ). Grown S named v b.t) e b.grown;
       }
-
--- an entry that is left has its place in every column
-module _ (L : Listing) (S : Lists) (K : List ℕ) (n i : ℕ) {at : ℕ} (room : Roomy L S K n) (h : i < n) (is : at ≡ i) where
-  pub lent_at : Lent (listing 0 L.start L.len L.size L.kind L.bytes) at
-  lent_at = record { in_start = omega (arith, room.start); in_len = omega (arith, room.len); in_size = omega (arith, room.size); in_kind = omega (arith, room.kind) }
-
-  pub wide_at : (T : Lists) (J : List ℕ) → length T.L ≡ length S.L → length T.R ≡ length S.R → length T.P ≡ length S.P → length T.H ≡ length S.H → length J ≡ length K → Wide T J at
-  wide_at T J el er ep eh ek = record { k = omega (arith, room.k); l = omega (arith, room.l); r = omega (arith, room.r); p = omega (arith, room.p); h = omega (arith, room.h) }

@@ -2,7 +2,7 @@
 -- nothing.
 use Rattle.std.specs.Prelude.{ℕ, zero, suc, ◌+◌, List, [], ◌∷◌, ltb}
 use Rattle.units.specs.Told.{Told, gives, refuses, pick}
-use Rattle.layout_name.specs.declared.Order.{Order}
+use Rattle.std.specs.declared.cmp.Ordering.{Ordering}
 use Rattle.name_role.specs.Roles.{given_order}
 use Rattle.dirtab_entry.specs.declared.Entry as given
 use Rattle.dirtab_entry.specs.Entry.{name_in, check_of}
@@ -24,7 +24,7 @@ if_free i (Same j) x = refuses 4 (i ∷ [])
 if_free i (Free q) x = x
 
 -- `check i` is what is asked of entry i by itself, `between i j` the order of the names of two entries
-module _ (check : ℕ → Told (Unit {0})) (between : ℕ → ℕ → Order) where
+module _ (check : ℕ → Told (Unit {0})) (between : ℕ → ℕ → Ordering) where
   -- k more entries from number i on, put into the tree t: the checks of each by itself, then 4, then 6
   unfoldable pub grow_from : ℕ → ℕ → Tree → Told Tree
   grow_from zero i t = gives t
@@ -34,7 +34,7 @@ module _ (check : ℕ → Told (Unit {0})) (between : ℕ → ℕ → Order) whe
       (pick (ltb i 16384) (grow_from k (i + 1) (ins (λ j. is_less (between i j)) i t)) (refuses 6 (i ∷ []))))
 
 -- the order of the names of two entries of a list; `bytes` are lent for names
-abbrev pub order_in : List ℕ → (ℕ → given.Entry) → ℕ → ℕ → Order
+abbrev pub order_in : List ℕ → (ℕ → given.Entry) → ℕ → ℕ → Ordering
 order_in bytes entry i j = given_order (name_in bytes (entry i)) (name_in bytes (entry j))
 
 -- the tree of the first n entries of a list, with adding's checks 1, 2, 3, 5, 4, 6 for each

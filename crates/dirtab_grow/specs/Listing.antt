@@ -1,6 +1,7 @@
 -- A list of entries, in columns. Assumes nothing.
 use Rattle.std.specs.Prelude.{ℕ, List, get_or}
 use Rattle.dirtab_entry.specs.declared.Entry as given
+use Rattle.dirtab_entry.specs.declared.Entries.{Entries}
 use Rattle.dirtab_entry.specs.Entry.{kind_for, name_in}
 
 -- a list of entries in columns: how many they are, where each name starts and how long it is in the bytes lent for
@@ -15,6 +16,10 @@ pub record Listing : Type 0 where
 
 abbrev pub listing : ℕ → List ℕ → List ℕ → List ℕ → List ℕ → List ℕ → Listing
 listing n a l z k b = record { count = n; start = a; len = l; size = z; kind = k; bytes = b }
+
+-- the first n entries in columns that are lent
+abbrev pub listing_of : ℕ → Entries → Listing
+listing_of n e = listing n e.names.start.now e.names.len.now e.size.now e.kind.now e.names.bytes.now
 
 -- entry i as it is given
 abbrev pub given_in : Listing → ℕ → given.Entry

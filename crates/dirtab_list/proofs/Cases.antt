@@ -1,6 +1,5 @@
 -- Answers at small lists, so that no writer that always refuses, or always writes the empty table, has these answers. Assumes nothing.
-use mathlib.Core.Path.{◌≡◌, refl}
-use mathlib.Core.List.{[], ◌∷◌}
+use Rattle.std.proofs.Common.{◌≡◌, refl, [], ◌∷◌}
 use Rattle.units.specs.Told.{gives, refuses}
 use Rattle.table_model.specs.Place.{items, end_of, free_of, start_after}
 use Rattle.table_model.specs.Table.{any_far, place_of}

@@ -1,30 +1,30 @@
 -- What an answer stands for is one-to-one: no two answers are told alike. Assumes nothing.
-use mathlib.Core.Path.{◌≡◌, refl, sym, ap, ◌∙◌}
-use mathlib.Core.List.{[], ◌∷◌}
-use lib.Dec.{eqb}
+use Rattle.std.proofs.Common.{◌≡◌, refl, sym, ap, ◌∙◌, [], ◌∷◌, eqb, Result, Ok, Err}
 use Rattle.units.specs.Told.{Told, gives, refuses, pick}
 use Rattle.dirtab_entry.proofs.Told.{for_number, for_number_lem}
 use Rattle.table_model.specs.Table.{Placing}
-use Rattle.dirtab_list.specs.declared.ListWritten.{ListWritten}
-use Rattle.dirtab_list.specs.declared.ListWritten.TheVariants as written
+use Rattle.dirtab.specs.declared.Written.{Written}
+use Rattle.dirtab.specs.declared.WriteError.TheVariants as writing
+use Rattle.dirtab_list.specs.declared.ListError.{ListError}
+use Rattle.dirtab_list.specs.declared.ListError.TheVariants.{Room, Refused, Write}
 use Rattle.dirtab_list.specs.Whole.{told}
 
 -- the answer again from what is told of it
-back : Told Placing → ListWritten
-back (gives p) = written.Done p.size (record { 0 = p.free })
-back (refuses k (i ∷ vs)) = for_number (λ c. written.Refused c i) written.Room k
+back : Told Placing → Result Written ListError
+back (gives p) = Ok (record { size = p.size; free = record { 0 = p.free } })
+back (refuses k (i ∷ vs)) = Err (for_number (λ c. Refused c i) Room k)
 back (refuses k []) =
-    pick (eqb k 7) written.TooManyDirectoryEntries (pick (eqb k 8) written.SectorOverflow (pick (eqb k 9) written.BufferTooSmall written.Room))
+    Err (pick (eqb k 7) (Write writing.TooManyDirectoryEntries) (pick (eqb k 8) (Write writing.SectorOverflow) (pick (eqb k 9) (Write writing.BufferTooSmall) Room)))
 
-back-told : (a : ListWritten) → back (told a) ≡ a
+back-told : (a : Result Written ListError) → back (told a) ≡ a
 unfolding back
-back-told (written.Done z f) = refl
-back-told written.Room = refl
-back-told (written.Refused c i) = for_number_lem (λ b. written.Refused b i) written.Room c
-back-told written.TooManyDirectoryEntries = refl
-back-told written.SectorOverflow = refl
-back-told written.BufferTooSmall = refl
+back-told (Ok w) = refl
+back-told (Err Room) = refl
+back-told (Err (Refused c i)) = ap Err (for_number_lem (λ b. Refused b i) Room c)
+back-told (Err (Write writing.TooManyDirectoryEntries)) = refl
+back-told (Err (Write writing.SectorOverflow)) = refl
+back-told (Err (Write writing.BufferTooSmall)) = refl
 
 -- no two answers of writing a list are told alike
-pub told_one : (a b : ListWritten) → told a ≡ told b → a ≡ b
+pub told_one : (a b : Result Written ListError) → told a ≡ told b → a ≡ b
 told_one a b e = sym (back-told a) ∙ ap back e ∙ back-told b

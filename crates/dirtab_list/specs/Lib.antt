@@ -1,3 +1,4 @@
 -- What writing a whole list answers.
 pub mod Whole
+pub mod Scratch
 pub mod inner

@@ -1,5 +1,5 @@
 -- Writing a whole list as a table: 6, then adding's refusals entry by entry, then 7, 8, 9. Assumes nothing.
-use Rattle.std.specs.Prelude.{ℕ, min, Bool, ◌&&◌, List, [], ◌∷◌, leb, length}
+use Rattle.std.specs.Prelude.{ℕ, min, Bool, ◌&&◌, List, [], ◌∷◌, leb, length, Result, Ok, Err}
 use Rattle.units.specs.Told.{Told, gives, refuses, pick}
 use Rattle.units.specs.Lent.{cleared_if}
 use Rattle.dirtab_entry.specs.Entry.{cause_number}
@@ -7,8 +7,10 @@ use Rattle.avl_model.specs.Tree.{Tree}
 use Rattle.table_model.specs.Entry.{Entry, entry_for}
 use Rattle.table_model.specs.Table.{Placing, place_of, table_bytes}
 pub use Rattle.dirtab.specs.Serialise.{if_fits, if_written}
-use Rattle.dirtab_list.specs.declared.ListWritten.{ListWritten}
-use Rattle.dirtab_list.specs.declared.ListWritten.TheVariants as written
+use Rattle.dirtab.specs.declared.Written.{Written}
+use Rattle.dirtab.specs.Serialise.{told_write}
+use Rattle.dirtab_list.specs.declared.ListError.{ListError}
+use Rattle.dirtab_list.specs.declared.ListError.TheVariants.{Room, Refused, Write}
 pub use Rattle.dirtab_grow.specs.Listing.{Listing, listing, given_in, given_name}
 use Rattle.dirtab_grow.specs.Grow.{grow}
 
@@ -100,10 +102,8 @@ lent_after L s m = record {
 }
 
 -- what each answer of the code stands for
-abbrev pub told : ListWritten → Told Placing
-told (written.Done z f) = gives (record { size = z; free = f.0 })
-told written.Room = refuses 6 []
-told (written.Refused c i) = refuses (cause_number c) (i ∷ [])
-told written.TooManyDirectoryEntries = refuses 7 []
-told written.SectorOverflow = refuses 8 []
-told written.BufferTooSmall = refuses 9 []
+abbrev pub told : Result Written ListError → Told Placing
+told (Ok w) = gives (record { size = w.size; free = w.free.0 })
+told (Err Room) = refuses 6 []
+told (Err (Refused c i)) = refuses (cause_number c) (i ∷ [])
+told (Err (Write e)) = told_write (Err e)

@@ -1,9 +1,5 @@
 -- The end of entries along an order: step by step, and along a tree's preorder it is the table's. Assumes nothing.
-use Prim.Native.Nat.{ℕ, ◌+◌, ◌*◌, ◌≤◌, ◌<◌}
-use native.Mathlib.Omega.{arith}
-use mathlib.Core.Path.{◌≡◌, refl, sym, ap, ◌∙◌}
-use mathlib.Core.List.{List, [], ◌∷◌, ◌++◌, append_assoc, append-nil}
-use lib.ListN.{length, get_or, drop, drop_of_length-le}
+use Rattle.std.proofs.Common.{ℕ, ◌+◌, ◌*◌, ◌≤◌, ◌<◌, ◌≡◌, refl, sym, ap, ◌∙◌, List, [], ◌∷◌, ◌++◌, append_assoc, append-nil, length, get_or, drop, drop_of_length-le, arith}
 use Rattle.layout_node.specs.Header.{entry_length}
 use Rattle.avl_model.specs.Tree.{Tree, leaf, node}
 use Rattle.avl_model.specs.Laws.{All}
@@ -27,18 +23,17 @@ some_size len (i ∷ is) h = refl
 
 -- `so_far`: the entries before the k-th end at e
 module _ (len is : List ℕ) (e k : ℕ) (so_far : end_along len 0 is ≡ end_along len e (drop k is)) where
-  pub end_next : (j i n o : ℕ) → j ≡ k + 1 → k < length is → i ≡ get_or is k 0 → n ≡ entry_length (get_or len i 0) → o ≡ start_after e n → end_along len 0 is ≡ end_along len (o + n) (drop j is)
+  pub end_next : (n o : ℕ) → k < length is → n ≡ entry_length (get_or len (get_or is k 0) 0) → o ≡ start_after e n → end_along len 0 is ≡ end_along len (o + n) (drop (k + 1) is)
   unfolding end_along
-  end_next j i n o ej h ei en eo =
-      so_far ∙ rw (cut is k i h ei, ej, eo, en)
+  end_next n o h en eo = so_far ∙ rw (cut is k h, eo, en)
 
   pub end_last : (length is ≡ 0 → ⊥) → length is ≤ k → e ≡ size_along len is
   unfolding end_along
   end_last some h = sym (sym (some_size len is some) ∙ so_far ∙ rw (drop_of_length-le is h))
 
 -- an entry takes less than a sector and its own bytes
-pub end_most : (e k j n o : ℕ) → e ≤ 2320 * k → j ≡ k + 1 → n ≤ 272 → o ≡ start_after e n → o + n ≤ 2320 * j
-end_most e k j n o h ej hn eo = omega (arith, start_most e n o hn eo)
+pub end_most : (e k n o : ℕ) → e ≤ 2320 * k → n ≤ 272 → o ≡ start_after e n → o + n ≤ 2320 * (k + 1)
+end_most e k n o h hn eo = omega (arith, start_most e n o hn eo)
 
 -- `entry` says the entries whose names have the lengths of the column
 module _ (entry : ℕ → Entry) (len : List ℕ) where
@@ -60,3 +55,6 @@ module _ (entry : ℕ → Entry) (len : List ℕ) where
   unfolding size_along
   size_along_lem leaf a = refl
   size_along_lem (node l i r) a = end_is (node l i r) a
+
+-- what measuring takes of these
+pub ruleset measuring = (start_most, no_size, end_next, end_last, end_most)

@@ -1,14 +1,5 @@
 -- A turn of the writing loop and its end, and what a filled buffer comes to. Assumes nothing.
-use Prim.Native.Nat.{ℕ, ◌+◌, ◌*◌, ◌≤◌, ◌<◌}
-use mathlib.Core.Path.{◌≡◌, refl, sym, ap, ap₂, ◌∙◌}
-use mathlib.Core.Bool.{Bool, true, false}
-use mathlib.Core.List.{List, [], ◌∷◌, ◌++◌, append_assoc, append-nil}
-use native.Mathlib.Omega.{arith}
-use native.Mathlib.Numerals.{add-one}
-use lib.Dec.{ltb}
-use lib.ListN.{length, get_or, drop, replicate, drop_of_length-le}
-use lib.Seq.{drop-cons}
-use borrow.Author.Tests.{ltb-false}
+use Rattle.std.proofs.Common.{ℕ, ◌+◌, ◌*◌, ◌≤◌, ◌<◌, ◌≡◌, refl, sym, ap, ◌∙◌, Bool, true, false, List, [], ◌∷◌, ◌++◌, append_assoc, append-nil, ltb, length, get_or, drop, replicate, drop_of_length-le, ltb-false, arith}
 use Rattle.units.specs.Told.{Told, gives, refuses, pick}
 use Rattle.layout_bytes.specs.inner.Bytes.{put_at}
 use Rattle.layout_sector.specs.Counter.{aligned_up}
@@ -16,11 +7,8 @@ use Rattle.table_model.specs.Entry.{Item}
 use Rattle.table_model.specs.inner.Writing.{stored, Spaced, written_over}
 use Rattle.table_model.proofs.Writing.{written_none, written_next}
 use Rattle.dirtab_place.specs.inner.Places.{free_in, free_over}
+use Rattle.dirtab_place.proofs.Turns.{cut}
 use Rattle.dirtab_write.specs.inner.Columns.{Cols, item_by, items_by, put_all}
-
--- what is left of the order at its next number
-cut : (order : List ℕ) (k : ℕ) → k < length order → drop k order ≡ get_or order k 0 ∷ drop (k + 1) order
-cut order k h = rw add-one (drop-cons order k 0 h)
 
 low_of : (b : Bool) (n f : ℕ) (x : Told ℕ) → ltb 4294967295 n ≡ b → pick b (refuses 8 []) x ≡ gives f → (n ≤ 4294967295) × (x ≡ gives f)
 low_of true n f x q e = let z : ◌≡◌ {A = ℕ} 0 1 = cc in absurd (omega arith)
@@ -35,17 +23,17 @@ module _ (c : Cols) (order : List ℕ) (s₀ s k f : ℕ) (counted : free_over c
   pub next_low : free_in c.size c.kind s (get_or order k 0) ≤ 4294967295
   next_low = parts.0
 
-  module _ (t j : ℕ) (et : t ≡ free_in c.size c.kind s (get_or order k 0)) (ej : j ≡ k + 1) where
+  module _ (t : ℕ) (et : t ≡ free_in c.size c.kind s (get_or order k 0)) where
     -- and then the rest can
-    pub next_counted : free_over c.size c.kind t (drop j order) ≡ gives f
-    next_counted = ap₂ (λ (m i : ℕ). free_over c.size c.kind m (drop i order)) et ej ∙ parts.1
+    pub next_counted : free_over c.size c.kind t (drop (k + 1) order) ≡ gives f
+    next_counted = ap (λ (m : ℕ). free_over c.size c.kind m (drop (k + 1) order)) et ∙ parts.1
 
     -- the buffer after it is put
     pub next_put : (d₀ d d₁ : List ℕ) → put_all (items_by c s₀ order) d₀ ≡ put_all (items_by c s (drop k order)) d
         → d₁ ≡ put_at d (4 * get_or c.place (get_or order k 0) 0) (stored (item_by c (aligned_up 1 s) (get_or order k 0)))
-        → put_all (items_by c s₀ order) d₀ ≡ put_all (items_by c t (drop j order)) d₁
+        → put_all (items_by c s₀ order) d₀ ≡ put_all (items_by c t (drop (k + 1) order)) d₁
     unfolding put_all items_by
-    next_put d₀ d d₁ so_far e = so_far ∙ rw (cut order k h, et, ej, e)
+    next_put d₀ d d₁ so_far e = so_far ∙ rw (cut order k h, et, e)
 
 -- the end of the loop
 pub last_put : (c : Cols) (order : List ℕ) (s₀ s f k : ℕ) (d₀ d : List ℕ) → s₀ ≡ f → length order ≤ k

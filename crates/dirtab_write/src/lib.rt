@@ -9,33 +9,28 @@ ghost use Rattle.layout_sector.specs.Counter.{aligned_up};
 ghost use Rattle.dirtab_place.specs.inner.Places.{free_in};
 ghost use Rattle.table_model.specs.Entry.{attributes};
 ghost use Rattle.table_model.specs.inner.Writing.{stored, written_over};
-ghost use Rattle.dirtab_write.specs.inner.Columns.{cols, LinkIn, link_by, Headed, header_by, item_by, items_by};
+ghost use Rattle.dirtab_write.specs.inner.Columns.{cols_of, LinkIn, link_by, Headed, header_by, item_by, items_by};
 ghost use Rattle.dirtab_write.specs.inner.Columns.{Numbered, Writes, Spaces, put_all};
 
-use avl_insert::name_of;
-use dirtab_entry::{Kind, kind_of};
+use avl_model::{Branches, NONE};
+use dirtab_entry::{Entries, Kind};
 use dirtab_place::stored_at;
 use layout_bytes::{fill, put_bytes};
 use layout_node::{Header, put_header};
-use layout_sector::{SectorCounter, Taken};
+use layout_sector::SectorCounter;
 use units::{Link, Sector};
-use widths::{u16_as_usize, u32_as_u64};
 
-// The number that stands for no node.
-const NONE: u16 = 65535;
-
-// The link to a child: 0 where there is none.
-fn link_of(place: &[u16], child: u16) -> u16
-    requires { LinkIn place.now child }
-    ensures { result ≡ link_by place.now child }
-{
-    if child == NONE {
-        return 0;
-    }
-    place[u16_as_usize(child)]
+// What a table is written of, by the numbers of its entries: the tree over them, the offset over 4 of each, and the
+// entries. They are slices, since C lends the columns.
+#[derive(Clone, Copy)]
+pub struct Layout<'a> {
+    pub branches: Branches<'a>,
+    pub place: &'a [u16],
+    pub entries: Entries<'a>,
 }
 
-// The attributes of a kind.
+// The attributes of a kind, as an image has them: 16 is the bit of a directory.
+// (No From: `u8::from` of a kind is its number in a column.)
 fn attributes_of(kind: Kind) -> u8
     ensures { result ≡ attributes kind }
 {
@@ -45,31 +40,8 @@ fn attributes_of(kind: Kind) -> u8
     }
 }
 
-// The header of entry i, whose name has n bytes.
-fn header_by(
-    i: usize,
-    left: &[u16],
-    right: &[u16],
-    place: &[u16],
-    size: &[u32],
-    kind: &[u8],
-    sector: Sector,
-    n: u8,
-) -> Header
-    requires { Headed left.now right.now place.now size.now kind.now i }
-    ensures { result ≡ header_by left.now right.now place.now size.now kind.now i sector.0 n }
-{
-    Header {
-        left: Link::new(link_of(place, left[i])),
-        right: Link::new(link_of(place, right[i])),
-        sector: sector,
-        size: stored_at(size, kind, i),
-        attributes: attributes_of(kind_of(kind[i])),
-        name_len: n,
-    }
-}
-
 // A header and a name.
+#[tactic(auto, using(crate::proofs::Steps::entry_put))]
 fn put_entry(out: &mut [u8], at: usize, header: Header, name: &[u8])
     requires { at + 14 + length name.now ≤ length out.old }
     ensures { out.new ≡ put_at out.old at (header_bytes header ++ name.now) }
@@ -78,121 +50,83 @@ fn put_entry(out: &mut [u8], at: usize, header: Header, name: &[u8])
     put_bytes(out, at + 14, name);
 }
 
-// Entry i, at its offset.
-fn put_item(
-    out: &mut [u8],
-    number: u16,
-    left: &[u16],
-    right: &[u16],
-    place: &[u16],
-    start: &[u32],
-    len: &[u32],
-    size: &[u32],
-    kind: &[u8],
-    names: &[u8],
-    sector: Sector,
-)
-    requires { Numbered (cols left.now right.now place.now start.now len.now size.now kind.now
-        names.now) (length out.old) number }
-    ensures { out.new ≡ put_at out.old (4 * get_or place.now number 0)
-        (stored (item_by (cols left.now right.now place.now start.now len.now size.now kind.now
-        names.now) sector.0 number)) }
-{
-    let i = u16_as_usize(number);
-    let name = name_of(names, start, len, number);
-    let n = name.len() as u8;
-    let header = header_by(i, left, right, place, size, kind, sector, n);
-    put_entry(out, 4 * u16_as_usize(place[i]), header, name);
-}
-
-// Entry i, at its offset and with the sectors that it takes; the answer is the counter past them. (That they can be
-// taken is asked, so that the last arm is never met.)
-fn put_node(
-    out: &mut [u8],
-    number: u16,
-    left: &[u16],
-    right: &[u16],
-    place: &[u16],
-    start: &[u32],
-    len: &[u32],
-    size: &[u32],
-    kind: &[u8],
-    names: &[u8],
-    counter: SectorCounter,
-) -> SectorCounter
-    requires { Numbered (cols left.now right.now place.now start.now len.now size.now kind.now
-        names.now) (length out.old) number
-        × (free_in size.now kind.now counter.next.0 number ≤ 4294967295) }
-    ensures counter { result.next.0 ≡ free_in size.now kind.now counter.next.0 number }
-    ensures out { out.new ≡ put_at out.old (4 * get_or place.now number 0)
-        (stored (item_by (cols left.now right.now place.now start.now len.now size.now kind.now
-        names.now) (aligned_up 1 counter.next.0) number)) }
-{
-    let bytes = stored_at(size, kind, u16_as_usize(number));
-    match counter.take(u32_as_u64(bytes)) {
-        Taken::Start(sector, next) => {
-            put_item(
-                out, number, left, right, place, start, len, size, kind, names, sector,
-            );
-            next
+impl<'a> Layout<'a> {
+    // The link to a child: 0 where there is none.
+    #[tactic(auto, using(crate::proofs::Steps::link_none, crate::proofs::Steps::link_some))]
+    fn link_to(self, child: u16) -> Link
+        requires { LinkIn self.place.now child }
+        ensures { result.0 ≡ link_by self.entry.place.now child }
+    {
+        if child == NONE {
+            return Link::new(0);
         }
-        Taken::SectorOverflow => counter,
+        Link::new(self.place[child as usize])
     }
-}
 
-// The entries of the order, one after the other.
-fn write_entries(
-    out: &mut [u8],
-    order: &[u16],
-    left: &[u16],
-    right: &[u16],
-    place: &[u16],
-    start: &[u32],
-    len: &[u32],
-    size: &[u32],
-    kind: &[u8],
-    names: &[u8],
-    first: Sector,
-)
-    requires { Writes (cols left.now right.now place.now start.now len.now size.now kind.now
-        names.now) order.now first.0 (length out.old) }
-    ensures { out.new ≡ put_all (items_by
-        (cols left.now right.now place.now start.now len.now size.now kind.now names.now) first.0
-        order.now) out.old }
-{
-    let mut counter = SectorCounter::starting_at(first);
-    let mut k: usize = 0;
-    while k < order.len() {
-        counter = put_node(
-            out, order[k], left, right, place, start, len, size, kind, names, counter,
-        );
-        k += 1;
+    // The header of entry i, whose name has so many bytes.
+    fn header(self, i: usize, sector: Sector, name_len: u8) -> Header
+        requires { Headed (cols_of self) i }
+        ensures { result ≡ header_by (cols_of self.entry) i sector.0 name_len }
+    {
+        Header {
+            left: self.link_to(self.branches.left[i]),
+            right: self.link_to(self.branches.right[i]),
+            sector,
+            size: stored_at(self.entries.size, self.entries.kind, i),
+            attributes: attributes_of(Kind::from(self.entries.kind[i])),
+            name_len,
+        }
+    }
+
+    // Entry i, at its offset.
+    fn put_item(self, out: &mut [u8], number: u16, sector: Sector)
+        requires { Numbered (cols_of self) (length out.old) number }
+        ensures { let c = cols_of self.entry in
+            out.new ≡ put_at out.old (4 * get_or c.place number 0) (stored (item_by c sector.0 number)) }
+    {
+        let i = number as usize;
+        let name = self.entries.names.at(number);
+        let header = self.header(i, sector, name.len() as u8);
+        put_entry(out, 4 * (self.place[i] as usize), header, name);
+    }
+
+    // Entry i, at its offset and with the sectors that it takes; the answer is the counter past them. That they can be
+    // taken is asked.
+    fn put_node(self, out: &mut [u8], number: u16, counter: SectorCounter) -> SectorCounter
+        requires { let c = cols_of self in
+            Numbered c (length out.old) number
+            × (free_in c.size c.kind counter.next.0 number ≤ 4294967295) }
+        ensures counter { let c = cols_of self.entry in
+            result.next.0 ≡ free_in c.size c.kind counter.next.0 number }
+        ensures out { let c = cols_of self.entry in
+            out.new ≡ put_at out.old (4 * get_or c.place number 0)
+            (stored (item_by c (aligned_up 1 counter.next.0) number)) }
+    {
+        let bytes = stored_at(self.entries.size, self.entries.kind, number as usize);
+        let (sector, next) = counter.take(bytes as u64).unwrap();
+        self.put_item(out, number, sector);
+        next
+    }
+
+    // The entries of the order, one after the other.
+    #[tactic(auto, using(crate::proofs::Turns::last_put))]
+    fn put_all(self, out: &mut [u8], order: &[u16], first: Sector)
+        requires { Writes (cols_of self) order.now first.0 (length out.old) }
+        ensures { out.new ≡ put_all (items_by (cols_of self.entry) first.0 order.now) out.old }
+    {
+        let mut counter = SectorCounter::starting_at(first);
+        for &number in order {
+            counter = self.put_node(out, number, counter);
+        }
     }
 }
 
 // The table in the first n bytes: 0xff everywhere, then the entries.
-pub fn write_table(
-    out: &mut [u8],
-    n: usize,
-    order: &[u16],
-    left: &[u16],
-    right: &[u16],
-    place: &[u16],
-    start: &[u32],
-    len: &[u32],
-    size: &[u32],
-    kind: &[u8],
-    names: &[u8],
-    first: Sector,
-)
-    requires { Spaces (cols left.now right.now place.now start.now len.now size.now kind.now
-        names.now) order.now first.0 n (length out.old) }
-    ensures { out.new ≡ written_over n
-        (items_by (cols left.now right.now place.now start.now len.now size.now kind.now names.now)
-        first.0 order.now) out.old }
+#[tactic(auto, using(crate::proofs::Turns::table_put))]
+pub fn write_table(out: &mut [u8], n: usize, order: &[u16], layout: Layout<'_>, first: Sector)
+    requires { Spaces (cols_of layout) order.now first.0 n (length out.old) }
+    ensures { out.new ≡ written_over n (items_by (cols_of layout.entry) first.0 order.now) out.old }
 {
     fill(out, n, 0xff);
-    write_entries(
-        out, order, left, right, place, start, len, size, kind, names, first,
-    );
+    layout.put_all(out, order, first);
 }

@@ -11,10 +11,12 @@ use lib.Seq.{length-take-le}
 use Rattle.avl_arena.proofs.Tested.{and_l, and_r}
 use Rattle.units.specs.Told.{Told, gives, refuses}
 use Rattle.img_model.specs.Shares.{count_of}
-use Rattle.img_model.specs.declared.Planned.{Planned}
+use Rattle.std.specs.Prelude.{Result}
+use Rattle.units.specs.declared.Sector.{Sector}
+use Rattle.img_model.specs.declared.PlanError.{PlanError}
 use Rattle.img_model.specs.Plan.{Plan, plan_of}
 use Rattle.img_model.specs.Image.{Asked, Lent, by_directory, by_entry, by_node, fits, has_room, request_in, column_after}
-use Rattle.img.specs.inner.Steps.{Holds, Exact, Wide, after, PlannedBy, Cut, plan_in, PlannedIn}
+use Rattle.img.specs.inner.Steps.{Given, given, Holds, Exact, Wide, after, PlannedBy, Cut, plan_in, PlannedIn}
 
 -- the least of five numbers, and of six, is none the greater
 least_five : (n a b c d e : ℕ) → n ≤ min a (min b (min c (min d e))) → (n ≤ a) × ((n ≤ b) × ((n ≤ c) × ((n ≤ d) × (n ≤ e))))
@@ -83,7 +85,7 @@ module _ (A : Asked) (L : Lent) (k : Cut A L) where
   in_sectors = (least_six _ _ _ _ _ _ _ enough_entries).1.1.1.1.0
 
   -- so what is cut is just as long as it is counted
-  pub exact_cut : Exact (request_in A) (length (take A.directories L.sized)) (length (take A.directories L.sizes)) (length (take A.directories L.tables)) (length (take A.entries L.sectors))
+  pub exact_cut : Exact (request_in A) (length (take A.directories L.sized)) (given (take A.directories L.sizes) (take A.directories L.tables) (take A.entries L.sectors))
   exact_cut =
       let d : length (take A.directories A.from) ≡ A.directories = length-take-le _ _ in_first in
       let e : length (take A.entries A.kind) ≡ A.entries = length-take-le _ _ in_kind in
@@ -95,9 +97,11 @@ module _ (A : Asked) (L : Lent) (k : Cut A L) where
         few = subst (λ (n : ℕ). n ≤ 4294967295) (sym d) k.few;
         low = subst (λ (n : ℕ). n ≤ 4294967295) (sym e) k.low;
         sized_is = length-take-le _ _ in_sized ∙ sym d;
-        sizes_is = length-take-le _ _ in_sizes ∙ sym d;
-        tables_is = length-take-le _ _ in_tables ∙ sym d;
-        sectors_is = length-take-le _ _ in_sectors ∙ sym e;
+        long = record {
+          sizes_is = length-take-le _ _ in_sizes ∙ sym d;
+          tables_is = length-take-le _ _ in_tables ∙ sym d;
+          sectors_is = length-take-le _ _ in_sectors ∙ sym e;
+        };
       }
 
   -- and each share has its places in the columns of a tree
@@ -112,7 +116,7 @@ module _ (A : Asked) (L : Lent) (k : Cut A L) where
       leq : {a b m : ℕ} → a ≤ b → b ≤ m → a ≤ m
       leq p q = omega arith
 
-  pub wide_cut : Wide (request_in A) (length L.left) (length L.right) (length L.parent) (length L.height) (length L.key) (length L.size)
+  pub wide_cut : Wide (request_in A) (record { left = length L.left; right = length L.right; parent = length L.parent; height = length L.height; key = length L.key; size = length L.size })
   wide_cut =
       let m = least_six (by_node L) _ _ _ _ _ _ (same (by_node L)) in
       record { l = held _ m.0; r = held _ m.1.0; p = held _ m.1.1.0; h = held _ m.1.1.1.0; k = held _ m.1.1.1.1.0; z = held _ m.1.1.1.1.1 }
@@ -127,14 +131,14 @@ whole : (g : Told Plan) (column : Plan → List ℕ) (n : ℕ) (xs cut : List �
 whole (gives p) column n xs cut e = ap (λ (ys : List ℕ). ys ++ drop n xs) e
 whole (refuses k vs) column n xs cut e = ap (λ (ys : List ℕ). ys ++ drop n xs) e ∙ take-append-drop n xs
 
-pub planned_in : (r : Planned) (A : Asked) (L : Lent) (sizes tables sectors : List ℕ) →
+pub planned_in : (r : Result Sector PlanError) (A : Asked) (L : Lent) (new : Given) →
     PlannedBy r (plan_of (request_in A) (length L.order) (take A.directories L.tables) (take A.entries L.sectors))
-    (take A.directories L.sizes) sizes (take A.directories L.tables) tables (take A.entries L.sectors) sectors →
-    PlannedIn r A L (sizes ++ drop A.directories L.sizes) (tables ++ drop A.directories L.tables) (sectors ++ drop A.entries L.sectors)
+    (given (take A.directories L.sizes) (take A.directories L.tables) (take A.entries L.sectors)) new →
+    PlannedIn r A L (given (new.sizes ++ drop A.directories L.sizes) (new.tables ++ drop A.directories L.tables) (new.sectors ++ drop A.entries L.sectors))
 unfolding plan_in
-planned_in r A L sizes tables sectors h = record {
+planned_in r A L new h = record {
   answer = h.answer;
-  sizes_are = whole (plan_in A L) (λ p. p.sizes) A.directories L.sizes sizes h.sizes_are;
-  tables_are = whole (plan_in A L) (λ p. p.taken.tables) A.directories L.tables tables h.tables_are;
-  sectors_are = whole (plan_in A L) (λ p. p.taken.sectors) A.entries L.sectors sectors h.sectors_are;
+  sizes_are = whole (plan_in A L) (λ p. p.sizes) A.directories L.sizes new.sizes h.sizes_are;
+  tables_are = whole (plan_in A L) (λ p. p.taken.tables) A.directories L.tables new.tables h.tables_are;
+  sectors_are = whole (plan_in A L) (λ p. p.taken.sectors) A.entries L.sectors new.sectors h.sectors_are;
 }

@@ -1,71 +1,33 @@
--- What handing out leaves where the tables cannot be placed, and where they can. Assumes nothing.
-use Prim.Native.Nat.{ℕ}
-use mathlib.Core.Path.{◌≡◌, refl, sym, ap, ◌∙◌}
-use mathlib.Core.List.{List, [], ◌∷◌}
-use native.Mathlib.Omega.{arith}
-use Rattle.units.specs.Told.{Told, gives, refuses}
+-- What handing out is to take, where the tables can be placed, and what it leaves. Assumes nothing.
+use Rattle.std.proofs.Common.{ℕ, ◌≡◌, refl, ap, ◌∙◌, List, Result, Ok, Err, IsErrAnd}
 use Rattle.units.specs.declared.Sector.{Sector}
-use Rattle.img_model.specs.declared.Planned.{Planned}
-use Rattle.img_model.specs.declared.Planned.TheVariants as planned
+use Rattle.units.specs.Told.{Told, gives, refuses}
+use Rattle.img_model.specs.declared.PlanError.{PlanError}
 use Rattle.img_model.specs.Plan.{Taking, told}
-use Rattle.img_take.specs.declared.Fitting.{Fitting}
-use Rattle.img_take.specs.declared.Fitting.TheVariants as fitting
-use Rattle.img_take.specs.inner.Forward.{free_told, told_fitting}
-use Rattle.img.specs.inner.Steps.{after, HandedOut}
+use Rattle.img_take.specs.declared.PlacingError.{PlacingError}
+use Rattle.img_take.specs.declared.PlacingError.TheVariants as error
+use Rattle.img_take.specs.inner.Forward.{free_told, told_placed, plan_error}
+use Rattle.img.specs.inner.Steps.{Given, HandedOut}
 
--- whether something is given, and a refusal of one thing as a refusal of another
-abbrev is_given : Told ℕ → ℕ
-is_given (gives n) = 1
-is_given (refuses k vs) = 0
-
-abbrev recast : Told ℕ → Told Taking
-recast (gives n) = refuses 0 []
-recast (refuses k vs) = refuses k vs
-
--- a refusal stands as it is told
-refusal_is : (g : Told Taking) (k : ℕ) (vs : List ℕ) → refuses k vs ≡ free_told g → g ≡ refuses k vs
-refusal_is (gives p) k vs e = let z : ◌≡◌ {A = ℕ} 0 1 = ap is_given e in absurd (omega arith)
-refusal_is (refuses j us) k vs e = ap recast (sym e)
-
-given_is : (g : Told Taking) (n : ℕ) → gives n ≡ free_told g → (p : Taking) × (g ≡ gives p)
+pub given_is : (g : Told Taking) (n : ℕ) → gives n ≡ free_told g → (p : Taking) × (g ≡ gives p)
 given_is (gives p) n e = (p, refl)
-given_is (refuses j us) n e = let z : ◌≡◌ {A = ℕ} 1 0 = ap is_given e in absurd (omega arith)
+given_is (refuses k vs) n e = cc
 
-refused_out : (r : Planned) (s : List ℕ) (g : Told Taking) (k : ℕ) (vs : List ℕ) (sizes tables sectors : List ℕ) → told r ≡ refuses k vs → refuses k vs ≡ free_told g →
-    HandedOut r s g sizes sizes tables tables sectors sectors
-refused_out r s g k vs sizes tables sectors a e =
-    let q : g ≡ refuses k vs = refusal_is g k vs e in
-    record {
-      answer = a ∙ e;
-      sizes_are = ap (λ (x : Told Taking). after x (λ p. s) sizes) (sym q);
-      tables_are = ap (λ (x : Told Taking). after x (λ p. p.tables) tables) (sym q);
-      sectors_are = ap (λ (x : Told Taking). after x (λ p. p.sectors) sectors) (sym q);
-    }
+same_refusal : (e : PlacingError) → told (Err (plan_error e)) ≡ told_placed (Err e)
+same_refusal (error.TooManyDirectoryEntries d) = refl
+same_refusal (error.SectorOverflow d) = refl
 
--- f is what going over the tables answered
-module _ (f : Fitting) (g : Told Taking) (found : told_fitting f ≡ free_told g) (s : List ℕ) where
-  -- 7
-  pub too_many_out : (d : ℕ) (sizes tables sectors : List ℕ) → f ≡ fitting.TooManyDirectoryEntries d →
-      HandedOut (planned.TooManyDirectoryEntries d) s g sizes sizes tables tables sectors sectors
-  too_many_out d sizes tables sectors e = refused_out _ s g 7 (d ∷ []) sizes tables sectors refl (sym (ap told_fitting e) ∙ found)
+-- a table cannot be placed
+pub none_handed : (e : PlacingError) (r : Result Sector PlanError) (s : List ℕ) (g : Told Taking) (old : Given) → IsErrAnd r (λ y. y ≡ plan_error e)
+    → told_placed (Err e) ≡ free_told g → HandedOut r s g old old
+none_handed e (Ok f) s g old h q = absurd h
+none_handed (error.TooManyDirectoryEntries d) (Err y) s (gives p) old h q = cc
+none_handed (error.SectorOverflow d) (Err y) s (gives p) old h q = cc
+none_handed e (Err y) s (refuses k vs) old h q =
+    record { answer = ap (λ y. told (Err y)) h ∙ same_refusal e ∙ q; sizes_are = refl; tables_are = refl; sectors_are = refl }
 
-  -- 8
-  pub too_far_out : (d : ℕ) (sizes tables sectors : List ℕ) → f ≡ fitting.SectorOverflow d →
-      HandedOut (planned.SectorOverflow d) s g sizes sizes tables tables sectors sectors
-  too_far_out d sizes tables sectors e = refused_out _ s g 8 (d ∷ []) sizes tables sectors refl (sym (ap told_fitting e) ∙ found)
-
-  -- neither: there is something taken, and it is given back
-  pub taken : (x : Sector) → f ≡ fitting.Free x → (p : Taking) × (g ≡ gives p)
-  taken x e = given_is g x.0 (sym (ap told_fitting e) ∙ found)
-
-  pub all_out : (x : Sector) (sizes sizes' tables tables' sectors sectors' : List ℕ) → f ≡ fitting.Free x → sizes' ≡ s →
-      ((p : Taking) → g ≡ gives p → (tables' ≡ p.tables) × (sectors' ≡ p.sectors)) → HandedOut (planned.Done x) s g sizes sizes' tables tables' sectors sectors'
-  all_out x sizes sizes' tables tables' sectors sectors' e z left =
-      let q : g ≡ gives (taken x e).0 = (taken x e).1 in
-      let l : (tables' ≡ (taken x e).0.tables) × (sectors' ≡ (taken x e).0.sectors) = left (taken x e).0 q in
-      record {
-        answer = sym (ap told_fitting e) ∙ found;
-        sizes_are = z ∙ ap (λ (u : Told Taking). after u (λ p. s) sizes) (sym q);
-        tables_are = l.0 ∙ ap (λ (u : Told Taking). after u (λ p. p.tables) tables) (sym q);
-        sectors_are = l.1 ∙ ap (λ (u : Told Taking). after u (λ p. p.sectors) sectors) (sym q);
-      }
+-- all can
+pub all_handed : (n : Sector) (s : List ℕ) (g : Told Taking) (old new : Given) → gives n.0 ≡ free_told g → new.sizes ≡ s
+    → ((p : Taking) → g ≡ gives p → (new.tables ≡ p.tables) × (new.sectors ≡ p.sectors)) → HandedOut (Ok n) s g old new
+all_handed n s (gives p) old new e z t = record { answer = e; sizes_are = z; tables_are = (t p refl).0; sectors_are = (t p refl).1 }
+all_handed n s (refuses k vs) old new e z t = cc

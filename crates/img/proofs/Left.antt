@@ -1,16 +1,18 @@
 -- All that was lent, after a plan and after the first 6. Assumes nothing.
 use Prim.Native.Nat.{ℕ}
-use mathlib.Core.Path.{◌≡◌, sym, ap, ap₂, subst, ◌∙◌}
+use mathlib.Core.Path.{◌≡◌, sym, ap, ap₂, ◌∙◌}
 use mathlib.Core.Bool.{Bool, true, false}
 use mathlib.Core.List.{List, []}
 use lib.ListN.{length, take, replicate}
 use Rattle.units.specs.Lent.{cleared_if}
 use Rattle.units.specs.Told.{Told, refuses, pick}
-use Rattle.img_model.specs.declared.Planned.{Planned}
-use Rattle.img_model.specs.declared.Planned.TheVariants as planned
+use Rattle.std.specs.Prelude.{Result, Err}
+use Rattle.units.specs.declared.Sector.{Sector}
+use Rattle.img_model.specs.declared.PlanError.{PlanError}
+use Rattle.img_model.specs.declared.PlanError.TheVariants as plan
 use Rattle.img_model.specs.Plan.{Plan, told, plan_of}
-use Rattle.img_model.specs.Image.{Asked, Lent, asked, lent, has_room, request_in, image_of, answer_of, column_after, lent_after}
-use Rattle.img.specs.inner.Steps.{plan_in, PlannedIn}
+use Rattle.img_model.specs.Image.{Asked, Lent, lent, has_room, request_in, image_of, answer_of, column_after, lent_after}
+use Rattle.img.specs.inner.Steps.{Given, plan_in, PlannedIn}
 
 -- what is left, where it is known whether there is room and what is told
 abbrev left_by : Bool → Told Plan → Asked → Lent → Lent
@@ -38,12 +40,15 @@ image_none : (A : Asked) (L : Lent) → has_room A L ≡ false → image_of A L 
 unfolding image_of
 image_none A L e = ap (λ (b : Bool). pick b (plan_of (request_in A) (length L.order) (take A.directories L.tables) (take A.entries L.sectors)) (refuses 6 [])) e
 
-module _ (A : Asked) (L : Lent) (r : Bool) (is : r ≡ has_room A L) (no : r ≡ false) where
-  pub answer_none : told planned.Room ≡ answer_of (image_of A L)
-  answer_none = ap answer_of (sym (image_none A L (sym is ∙ no)))
+module _ (A : Asked) (L : Lent) (b : Bool) (is : b ≡ has_room A L) (no : b ≡ false) where
+  none : has_room A L ≡ false
+  none = sym is ∙ no
+
+  pub answer_none : told (Err plan.Room) ≡ answer_of (image_of A L)
+  answer_none = ap answer_of (sym (image_none A L none))
 
   pub left_none : L ≡ lent_after A L
-  left_none = sym (left_by_lem A L false (refuses 6 []) (sym is ∙ no) (image_none A L (sym is ∙ no)))
+  left_none = sym (left_by_lem A L false (refuses 6 []) none (image_none A L none))
 
 -- ---- room
 
@@ -67,25 +72,20 @@ lent_equal {b = b} {c = c} {d = d} {e = e} {f = f} {g = g} {h = h} {i = i} {j = 
     ap (λ (n : List ℕ). lent a' b' c' d' e' f' g' h' i' n k) y ∙
     ap (λ (n : List ℕ). lent a' b' c' d' e' f' g' h' i' j' n) z
 
-module _ (A : Asked) (L : Lent) (b : Bool) (is : b ≡ has_room A L) (yes : b ≡ true) (r : Planned) (sizes tables sectors : List ℕ) (done : PlannedIn r A L sizes tables sectors) where
+module _ (A : Asked) (L : Lent) (b : Bool) (is : b ≡ has_room A L) (yes : b ≡ true) (r : Result Sector PlanError) (new : Given) (done : PlannedIn r A L new) where
+  some : has_room A L ≡ true
+  some = sym is ∙ yes
+
   pub answer_some : told r ≡ answer_of (image_of A L)
-  answer_some = done.answer ∙ ap answer_of (sym (image_some A L (sym is ∙ yes)))
+  answer_some = done.answer ∙ ap answer_of (sym (image_some A L some))
 
   pub left_some : (sized left right parent height key size order : List ℕ) → sized ≡ replicate (length L.sized) 0 → left ≡ replicate (length L.left) 0 →
       right ≡ replicate (length L.right) 0 → parent ≡ replicate (length L.parent) 0 → height ≡ replicate (length L.height) 0 → key ≡ replicate (length L.key) 0 →
-      size ≡ replicate (length L.size) 0 → order ≡ replicate (length L.order) 0 → lent sizes tables sectors sized left right parent height key size order ≡ lent_after A L
+      size ≡ replicate (length L.size) 0 → order ≡ replicate (length L.order) 0 → lent new.sizes new.tables new.sectors sized left right parent height key size order ≡ lent_after A L
   left_some sized left right parent height key size order d e f g h i j k =
       lent_equal done.sizes_are done.tables_are done.sectors_are d e f g h i j k ∙
-      sym (left_by_lem A L true (plan_in A L) (sym is ∙ yes) (image_some A L (sym is ∙ yes)))
+      sym (left_by_lem A L true (plan_in A L) some (image_some A L some))
 
 -- a column that was cleared when it was as long as another
 pub cleared : {x : List ℕ} (y z : List ℕ) → x ≡ replicate (length y) 0 → length y ≡ length z → x ≡ replicate (length z) 0
 cleared y z e l = e ∙ ap (λ (n : ℕ). replicate n 0) l
-
--- ---- the counts as they are asked
-
-pub as_asked : {d e d' e' : ℕ} (from share start len kind value bytes : List ℕ) (r : Planned) (L L' : Lent) → d ≡ d' → e ≡ e' →
-    (told r ≡ answer_of (image_of (asked d e from share start len kind value bytes) L)) × (L' ≡ lent_after (asked d e from share start len kind value bytes) L) →
-    (told r ≡ answer_of (image_of (asked d' e' from share start len kind value bytes) L)) × (L' ≡ lent_after (asked d' e' from share start len kind value bytes) L)
-as_asked from share start len kind value bytes r L L' p q h =
-    subst (λ (A : Asked). (told r ≡ answer_of (image_of A L)) × (L' ≡ lent_after A L)) (ap₂ (λ (d e : ℕ). asked d e from share start len kind value bytes) p q) h

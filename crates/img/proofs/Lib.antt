@@ -1,5 +1,4 @@
 -- Laws of the steps of planning.
-pub mod Rooming
 pub mod Handing
 pub mod Planning
 pub mod Cutting

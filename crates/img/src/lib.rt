@@ -1,208 +1,132 @@
 // An image is planned over its directories: the size and the sector of each table, and the sector of each entry.
 #![tactic(auto)]
 
-ghost use Rattle.std.specs.Prelude.{◌≡◌, true, ◌<◌, length};
-ghost use Rattle.img_model.specs.Shares.{columns, is_tree};
+ghost use Rattle.std.specs.Prelude.{◌≡◌, true, length};
+ghost use Rattle.img_model.specs.Shares.{is_tree};
 ghost use Rattle.img_model.specs.Plan.{told, total, taking_up, rooted, plan_of};
-ghost use Rattle.img_take.specs.inner.Forward.{Sized, request_of};
-ghost use Rattle.img_model.specs.Image.{asked, lent, answer_in, lent_after};
-ghost use Rattle.img.specs.inner.Steps.{Exact, Wide, HandedOut, PlannedBy, Cut, PlannedIn};
+ghost use Rattle.img_model.specs.Image.{answer_in, lent_after};
+ghost use Rattle.img_model.specs.Columns.{columns_in, asked_in, lent_in, IsSameOut, IsSameScratch};
+ghost use Rattle.img_table.specs.inner.Scratch.{places_in};
+ghost use Rattle.img_table.specs.inner.Scratch as table;
+ghost use Rattle.img_take.specs.inner.Forward.{Sized};
+ghost use Rattle.img.specs.inner.Steps.{given, given_by, IsAsLong, lent_with, Exact, Wide};
+ghost use Rattle.img.specs.inner.Steps.{HandedOut, PlannedBy, Cut, PlannedIn};
 
-use img_model::Planned;
-use img_room::{
-    add_shares, clear_links, clear_rest, have_room, measure_directories, measure_entries,
-    measure_nodes,
-};
+use img_model::{PlanError, PlanOut, PlanScratch, Request};
+use img_room::{add_shares, clear_scratch, has_room};
 use img_size::size_tables;
-use img_table::Arranged;
-use img_take::{Fitting, check_tables, take_tables};
+use img_table::TableScratch;
+use img_take::{SizedTables, check_tables, take_tables};
 use img_tree::is_tree;
-use scratch::copy_words;
-use widths::u32_as_usize;
+use scratch::copy;
+use units::Sector;
 
 // Where all tables are sized: 7 and 8, and where neither is met every size and sector is given back.
 fn hand_out(
-    from: &[u32],
-    share: &[u32],
-    kind: &[u8],
-    value: &[u64],
-    sized: &[u32],
-    order: &[u16],
-    size: &mut [u32],
+    tables: SizedTables<'_>,
     end: usize,
-    sizes: &mut [u32],
-    tables: &mut [u32],
-    sectors: &mut [u32],
-) -> Planned
-    requires sized { Sized from.now share.now kind.now value.now sized.now order.now (length size.old)
-        × (end ≡ total share.now) }
-    requires sizes_len { (length sizes.old ≡ length from.now)
-        × ((length tables.old ≡ length from.now) × (length sectors.old ≡ length kind.now)) }
-    ensures { (w : Sized from.now share.now kind.now value.now sized.now order.now
-        (length size.old)) →
-        HandedOut result sized.now
-        (taking_up (request_of w) sized.now (length from.now) 0
-        (rooted (request_of w) sized.now tables.old sectors.old))
-        sizes.old sizes.new tables.old tables.new sectors.old sectors.new }
+    size: &mut [u32],
+    out: &mut PlanOut<'_>,
+) -> Result<Sector, PlanError>
+    requires sized { Sized (columns_in tables.request) tables.sized.now tables.order.now (length size.old) }
+    requires end { end ≡ total tables.request.share.now }
+    requires long { IsAsLong (columns_in tables.request) (given_by out.old) }
+    ensures handed { let R = columns_in tables.entry.request in
+        HandedOut result tables.entry.sized.now
+        (taking_up R tables.entry.sized.now (length R.from) 0
+        (rooted R tables.entry.sized.now out.old.tables.now out.old.sectors.now))
+        (given_by out.old) (given_by out.new) }
+    ensures same { IsSameOut out.old out.new }
 {
-    match check_tables(from, share, kind, value, sized, order, size, end) {
-        Fitting::TooManyDirectoryEntries(d) => Planned::TooManyDirectoryEntries(d),
-        Fitting::SectorOverflow(d) => Planned::SectorOverflow(d),
-        Fitting::Free(free) => {
-            copy_words(sized, sizes);
-            take_tables(
-                from, share, kind, value, sized, order, size, end, tables, sectors,
-            );
-            Planned::Done(free)
-        }
-    }
+    let free = check_tables(tables, end, size)?;
+    copy(tables.sized, out.sizes);
+    take_tables(tables, end, size, out.tables, out.sectors);
+    Ok(free)
 }
 
 // The plan where the directories are a tree, over columns that are just as long as they are counted.
 fn plan_tree(
-    from: &[u32],
-    share: &[u32],
-    names: &[u8],
-    start: &[u32],
-    len: &[u32],
-    kind: &[u8],
-    value: &[u64],
+    request: Request<'_>,
     sized: &mut [u32],
-    left: &mut [u16],
-    right: &mut [u16],
-    parent: &mut [u16],
-    height: &mut [u8],
-    key: &mut [u32],
-    size: &mut [u32],
+    scratch: &mut TableScratch<'_>,
     order: &mut [u16],
-    sizes: &mut [u32],
-    tables: &mut [u32],
-    sectors: &mut [u32],
-) -> Planned
-    requires fact_1 { let R = columns from.now share.now start.now len.now kind.now value.now names.now in
-        is_tree R ≡ true }
-    requires fact_2 { let R = columns from.now share.now start.now len.now kind.now value.now names.now in
-        Exact R (length sized.old) (length sizes.old) (length tables.old) (length sectors.old) }
-    requires fact_3 { let R = columns from.now share.now start.now len.now kind.now value.now names.now in
-        Wide R (length left.old) (length right.old) (length parent.old)
-        (length height.old) (length key.old) (length size.old) }
-    ensures { let R = columns from.now share.now start.now len.now kind.now value.now names.now in
-        PlannedBy result (plan_of R (length order.old) tables.old sectors.old)
-        sizes.old sizes.new tables.old tables.new sectors.old sectors.new }
+    out: &mut PlanOut<'_>,
+) -> Result<Sector, PlanError>
+    requires tree { is_tree (columns_in request) ≡ true }
+    requires exact { Exact (columns_in request) (length sized.old) (given_by out.old) }
+    requires wide { Wide (columns_in request) (places_in scratch.old) }
+    ensures planned { PlannedBy result
+        (plan_of (columns_in request.entry) (length order.old) out.old.tables.now out.old.sectors.now)
+        (given_by out.old) (given_by out.new) }
+    ensures places { places_in scratch.new ≡ places_in scratch.old }
+    ensures same { IsSameOut out.old out.new × table.IsSameScratch scratch.old scratch.new }
 {
-    let end = add_shares(share);
+    let end = add_shares(request.share);
     if (order.len() as u64) < end {
-        return Planned::Room;
+        return Err(PlanError::Room);
     }
-    match size_tables(
-        from, share, names, start, len, kind, value, sized, left, right, parent, height, key, size,
-        order,
-    ) {
-        Arranged::Refused(cause, j) => Planned::Refused(cause, j),
-        Arranged::FileTooLarge(j) => Planned::FileTooLarge(j),
-        Arranged::Done => hand_out(
-            from,
-            share,
-            kind,
-            value,
-            sized,
-            order,
-            size,
-            end as usize,
-            sizes,
-            tables,
-            sectors,
-        ),
-    }
+    size_tables(request, sized, scratch, order)?;
+    let tables = SizedTables {
+        request,
+        sized: &*sized,
+        order: &*order,
+    };
+    hand_out(tables, end as usize, scratch.size, out)
 }
 
-// The plan over columns that are just as long as they are counted.
+// The plan over columns that are just as long as they are counted. (The columns to be written come one by one, here and
+// below: they are cut, and no proof knows what becomes of a column of which a struct holds a part.)
 fn plan_counted(
-    from: &[u32],
-    share: &[u32],
-    names: &[u8],
-    start: &[u32],
-    len: &[u32],
-    kind: &[u8],
-    value: &[u64],
+    request: Request<'_>,
     sized: &mut [u32],
-    left: &mut [u16],
-    right: &mut [u16],
-    parent: &mut [u16],
-    height: &mut [u8],
-    key: &mut [u32],
-    size: &mut [u32],
+    scratch: &mut TableScratch<'_>,
     order: &mut [u16],
     sizes: &mut [u32],
     tables: &mut [u32],
     sectors: &mut [u32],
-) -> Planned
-    requires fact_1 { let R = columns from.now share.now start.now len.now kind.now value.now names.now in
-        Exact R (length sized.old) (length sizes.old) (length tables.old) (length sectors.old) }
-    requires fact_2 { let R = columns from.now share.now start.now len.now kind.now value.now names.now in
-        Wide R (length left.old) (length right.old) (length parent.old)
-        (length height.old) (length key.old) (length size.old) }
-    ensures { let R = columns from.now share.now start.now len.now kind.now value.now names.now in
-        PlannedBy result (plan_of R (length order.old) tables.old sectors.old)
-        sizes.old sizes.new tables.old tables.new sectors.old sectors.new }
+) -> Result<Sector, PlanError>
+    requires exact { Exact (columns_in request) (length sized.old) (given sizes.old tables.old sectors.old) }
+    requires wide { Wide (columns_in request) (places_in scratch.old) }
+    ensures planned { PlannedBy result (plan_of (columns_in request.entry) (length order.old) tables.old sectors.old)
+        (given sizes.old tables.old sectors.old) (given sizes.new tables.new sectors.new) }
+    ensures places { places_in scratch.new ≡ places_in scratch.old }
+    ensures same { table.IsSameScratch scratch.old scratch.new }
 {
-    if is_tree(from, share, kind, value, sized) {
-        return plan_tree(
-            from, share, names, start, len, kind, value, sized, left, right, parent, height, key,
-            size, order, sizes, tables, sectors,
-        );
+    if !is_tree(request, sized) {
+        return Err(PlanError::BadTree);
     }
-    Planned::BadTree
+    let mut out = PlanOut {
+        sizes,
+        tables,
+        sectors,
+    };
+    plan_tree(request, sized, scratch, order, &mut out)
 }
 
 // The plan over the columns as far as the counts go. What it leaves in the scratch is not cleared.
 fn plan_cut(
     directories: usize,
     entries: usize,
-    from: &[u32],
-    share: &[u32],
-    start: &[u32],
-    len: &[u32],
-    kind: &[u8],
-    value: &[u64],
-    names: &[u8],
+    request: Request<'_>,
+    sized: &mut [u32],
+    scratch: &mut TableScratch<'_>,
+    order: &mut [u16],
     sizes: &mut [u32],
     tables: &mut [u32],
     sectors: &mut [u32],
-    sized: &mut [u32],
-    left: &mut [u16],
-    right: &mut [u16],
-    parent: &mut [u16],
-    height: &mut [u8],
-    key: &mut [u32],
-    size: &mut [u32],
-    order: &mut [u16],
-) -> Planned
-    requires { let a = asked directories entries from.now share.now start.now len.now kind.now value.now
-        names.now in
-        let m = lent sizes.old tables.old sectors.old sized.old left.old right.old
-        parent.old height.old key.old size.old order.old in
-        Cut a m }
-    ensures { let a = asked directories entries from.now share.now start.now len.now kind.now value.now names.now in
-        let before = lent sizes.old tables.old sectors.old sized.old left.old right.old parent.old height.old
-        key.old size.old order.old in
-        PlannedIn result a before sizes.new tables.new sectors.new }
+) -> Result<Sector, PlanError>
+    requires { Cut (asked_in directories entries request)
+        (lent_with (given sizes.old tables.old sectors.old) sized.old scratch.old order.old) }
+    ensures planned { PlannedIn result (asked_in directories entries request.entry)
+        (lent_with (given sizes.old tables.old sectors.old) sized.old scratch.old order.old)
+        (given sizes.new tables.new sectors.new) }
+    ensures places { places_in scratch.new ≡ places_in scratch.old }
+    ensures same { table.IsSameScratch scratch.old scratch.new }
 {
     plan_counted(
-        &from[..directories],
-        &share[..directories],
-        names,
-        &start[..entries],
-        &len[..entries],
-        &kind[..entries],
-        &value[..entries],
+        request.cut(directories, entries),
         &mut sized[..directories],
-        left,
-        right,
-        parent,
-        height,
-        key,
-        size,
+        scratch,
         order,
         &mut sizes[..directories],
         &mut tables[..directories],
@@ -214,51 +138,40 @@ fn plan_cut(
 pub fn plan(
     directories: u32,
     entries: u32,
-    from: &[u32],
-    share: &[u32],
-    start: &[u32],
-    len: &[u32],
-    kind: &[u8],
-    value: &[u64],
-    names: &[u8],
-    sizes: &mut [u32],
-    tables: &mut [u32],
-    sectors: &mut [u32],
-    sized: &mut [u32],
-    left: &mut [u16],
-    right: &mut [u16],
-    parent: &mut [u16],
-    height: &mut [u8],
-    key: &mut [u32],
-    size: &mut [u32],
-    order: &mut [u16],
-) -> Planned
-    ensures answer { let a = asked directories entries from.now share.now start.now len.now kind.now value.now
-        names.now in
-        let before = lent sizes.old tables.old sectors.old sized.old left.old right.old parent.old height.old
-        key.old size.old order.old in
-        told result ≡ answer_in a before }
-    ensures memory { let a = asked directories entries from.now share.now start.now len.now kind.now value.now
-        names.now in
-        let before = lent sizes.old tables.old sectors.old sized.old left.old right.old parent.old height.old
-        key.old size.old order.old in
-        let after = lent sizes.new tables.new sectors.new sized.new left.new right.new parent.new height.new
-        key.new size.new order.new in
-        after ≡ lent_after a before }
+    request: Request<'_>,
+    out: &mut PlanOut<'_>,
+    scratch: &mut PlanScratch<'_>,
+) -> Result<Sector, PlanError>
+    ensures answer { told result
+        ≡ answer_in (asked_in directories entries request.entry) (lent_in out.old scratch.old) }
+    ensures memory { lent_in out.new scratch.new
+        ≡ lent_after (asked_in directories entries request.entry) (lent_in out.old scratch.old) }
+    ensures same { IsSameOut out.old out.new × IsSameScratch scratch.old scratch.new }
 {
-    let by_directory = measure_directories(from, share, sizes, tables, sized);
-    let by_entry = measure_entries(start, len, kind, value, sectors, order);
-    let by_node = measure_nodes(left, right, parent, height, key, size);
-    let d = u32_as_usize(directories);
-    let e = u32_as_usize(entries);
-    if have_room(share, d, e, by_directory, by_entry, by_node) {
-        let r = plan_cut(
-            d, e, from, share, start, len, kind, value, names, sizes, tables, sectors, sized, left,
-            right, parent, height, key, size, order,
-        );
-        clear_links(left, right, parent, height);
-        clear_rest(sized, key, size, order);
-        return r;
+    let d = directories as usize;
+    let e = entries as usize;
+    if !has_room(d, e, request, out, scratch) {
+        return Err(PlanError::Room);
     }
-    Planned::Room
+    let mut table = TableScratch {
+        left: &mut *scratch.left,
+        right: &mut *scratch.right,
+        parent: &mut *scratch.parent,
+        height: &mut *scratch.height,
+        key: &mut *scratch.key,
+        size: &mut *scratch.size,
+    };
+    let planned = plan_cut(
+        d,
+        e,
+        request,
+        scratch.sized,
+        &mut table,
+        scratch.order,
+        out.sizes,
+        out.tables,
+        out.sectors,
+    );
+    clear_scratch(scratch);
+    planned
 }

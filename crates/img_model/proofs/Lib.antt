@@ -5,6 +5,7 @@ pub mod Trees
 pub mod Sizes
 pub mod Passed
 pub mod Takings
+pub mod ByKind
 pub mod Cases
 pub mod Told
 pub mod Plans

@@ -7,7 +7,7 @@ use mathlib.Core.List.{[], ◌∷◌}
 use lib.Dec.{ltb}
 use lib.ListN.{get_or}
 use Rattle.units.specs.Told.{Told, gives, refuses, pick}
-use Rattle.layout_name.specs.declared.Order.{Order}
+use Rattle.std.specs.declared.cmp.Ordering.{Ordering}
 use Rattle.dirtab_entry.specs.Entry.{kind_for, check_of}
 use Rattle.avl_model.specs.declared.Spot.{Spot}
 use Rattle.avl_model.specs.declared.Spot.TheVariants.{Same, Free}
@@ -45,7 +45,7 @@ wider : (lo lo₁ hi hi₁ : ℕ) (x : Told Tree) → lo ≤ lo₁ → hi₁ ≤
 wider lo lo₁ hi hi₁ (gives t) p q w = tt
 wider lo lo₁ hi hi₁ (refuses k vs) p q w = (omega (arith, w.0), omega (arith, w.1))
 
-grow_within : (c : ℕ → Told (Unit {0})) (between : ℕ → ℕ → Order) (k i : ℕ) (t : Tree) → Within i (i + k) (grow_from c between k i t)
+grow_within : (c : ℕ → Told (Unit {0})) (between : ℕ → ℕ → Ordering) (k i : ℕ) (t : Tree) → Within i (i + k) (grow_from c between k i t)
 unfolding grow_from
 grow_within c between zero i t = tt
 grow_within c between (suc k) i t =

@@ -2,4 +2,5 @@
 pub mod Shares
 pub mod Plan
 pub mod Image
+pub mod Columns
 pub mod inner

@@ -1,6 +1,23 @@
 -- Planning: 11, then from the last directory back 10 and adding's refusals entry by entry, then forward 7 and 8
 -- table by table. Assumes nothing.
-use Rattle.std.specs.Prelude.{ℕ, zero, suc, ◌+◌, List, [], ◌∷◌, ltb, leb, get_or, set, replicate}
+use Rattle.std.specs.Prelude.{
+  ℕ,
+  zero,
+  suc,
+  ◌+◌,
+  List,
+  [],
+  ◌∷◌,
+  ltb,
+  leb,
+  get_or,
+  set,
+  replicate,
+  Result,
+  Ok,
+  Err,
+}
+use Rattle.units.specs.declared.Sector.{Sector}
 use Rattle.units.specs.Told.{Told, gives, refuses, pick}
 use Rattle.layout_sector.specs.Counter.{sectors_for, aligned_up}
 use Rattle.dirtab_entry.specs.declared.Entry as given
@@ -11,8 +28,8 @@ use Rattle.table_model.specs.Entry.{Entry, entry_for}
 use Rattle.table_model.specs.Place.{free_after}
 use Rattle.table_model.specs.Table.{Placing, size_of, place_of}
 use Rattle.dirtab_grow.specs.Grow.{grow_from, order_in}
-use Rattle.img_model.specs.declared.Planned.{Planned}
-use Rattle.img_model.specs.declared.Planned.TheVariants as planned
+use Rattle.img_model.specs.declared.PlanError.{PlanError}
+use Rattle.img_model.specs.declared.PlanError.TheVariants as error
 use Rattle.img_model.specs.Shares.{Request, Share, share_of, directories_of, first_of, is_directory, value_of, is_tree}
 
 -- the reported size of directory x's table, where a list has them all
@@ -132,11 +149,11 @@ plan_of R places tables sectors =
     (refuses 11 [])
 
 -- what each answer of the code stands for: the next free sector
-abbrev pub told : Planned → Told ℕ
-told (planned.Done f) = gives f.0
-told planned.Room = refuses 6 []
-told planned.BadTree = refuses 11 []
-told (planned.FileTooLarge j) = refuses 10 (j ∷ [])
-told (planned.Refused c j) = refuses (cause_number c) (j ∷ [])
-told (planned.TooManyDirectoryEntries d) = refuses 7 (d ∷ [])
-told (planned.SectorOverflow d) = refuses 8 (d ∷ [])
+abbrev pub told : Result Sector PlanError → Told ℕ
+told (Ok f) = gives f.0
+told (Err error.Room) = refuses 6 []
+told (Err error.BadTree) = refuses 11 []
+told (Err (error.FileTooLarge j)) = refuses 10 (j ∷ [])
+told (Err (error.Refused c j)) = refuses (cause_number c) (j ∷ [])
+told (Err (error.TooManyDirectoryEntries d)) = refuses 7 (d ∷ [])
+told (Err (error.SectorOverflow d)) = refuses 8 (d ∷ [])

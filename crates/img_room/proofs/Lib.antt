@@ -1,4 +1,3 @@
 -- Laws of the tests of what is lent for a plan.
 pub mod Adding
 pub mod Fewest
-pub mod Rooming

@@ -9,45 +9,17 @@ use lib.Seq.{get_or-set_same}
 use Rattle.units.specs.Told.{gives, refuses}
 use Rattle.avl_model.specs.Tree.{Tree}
 use Rattle.table_model.specs.Table.{size_of}
-use Rattle.dirtab_entry.specs.declared.Cause.{Cause}
 use Rattle.img_model.specs.Shares.{Request, share_of, directories_of, first_of, count_of, part, value_of}
 use Rattle.img_model.specs.Plan.{table_in, entry_in, tree_in, sizes_down, total}
 use Rattle.img_model.proofs.Trees.{refused_inside, tree_same, size_same}
 use Rattle.img_model.proofs.Sizes.{later_kept, down_given, down_refused}
-use Rattle.img_table.specs.declared.Arranged.{Arranged}
-use Rattle.img_table.specs.declared.Arranged.TheVariants as arranged
-use Rattle.img_table.specs.inner.Arranging.{Measured}
+use Rattle.dirtab_entry.specs.Entry.{cause_number}
+use Rattle.img_table.specs.declared.EntryError.{EntryError}
+use Rattle.img_table.specs.declared.EntryError.TheVariants as error
+use Rattle.img_table.specs.inner.Arranging.{Measured, refused}
+use Rattle.img_size.specs.inner.Sizing.{number_in, listed_at}
 use Rattle.img_model.specs.inner.Tables.{order_from, TableIn, TablesIn, Sizeable}
-use Rattle.img_size.specs.inner.Sizing.{Roomy}
 use Rattle.img_model.proofs.Orders.{total_step, total_none, total_down, total_all, part_kept}
-
--- ---- a refusal is not the other answer
-
-abbrev done_or : Arranged → ℕ
-done_or arranged.Done = 1
-done_or (arranged.Refused c i) = 0
-done_or (arranged.FileTooLarge i) = 0
-
-pub not_done : {A : Type 0} (c : Cause) (i : ℕ) → arranged.Refused c i ≡ arranged.Done → A
-not_done c i e = let z : ◌≡◌ {A = ℕ} 0 1 = ap done_or e in absurd (omega arith)
-
-pub large_not_done : {A : Type 0} (i : ℕ) → arranged.FileTooLarge i ≡ arranged.Done → A
-large_not_done i e = let z : ◌≡◌ {A = ℕ} 0 1 = ap done_or e in absurd (omega arith)
-
--- ---- the columns of scratch keep their lengths
-
-pub roomy_kept : (R : Request) (a l r p h k z o a₁ l₁ r₁ p₁ h₁ k₁ z₁ o₁ : ℕ) → Roomy R a l r p h k z o →
-    a₁ ≡ a → l₁ ≡ l → r₁ ≡ r → p₁ ≡ p → h₁ ≡ h → k₁ ≡ k → z₁ ≡ z → o₁ ≡ o → Roomy R a₁ l₁ r₁ p₁ h₁ k₁ z₁ o₁
-roomy_kept R a l r p h k z o a₁ l₁ r₁ p₁ h₁ k₁ z₁ o₁ y ea el er ep eh ek ez eo = record {
-  sizes_are = ea ∙ y.sizes_are;
-  l = λ d q. omega (arith, y.l d q);
-  r = λ d q. omega (arith, y.r d q);
-  p = λ d q. omega (arith, y.p d q);
-  h = λ d q. omega (arith, y.h d q);
-  k = λ d q. omega (arith, y.k d q);
-  z = λ d q. omega (arith, y.z d q);
-  o = omega (arith, y.o);
-}
 
 -- ---- the loop
 
@@ -99,13 +71,22 @@ module _ (R : Request) (s : Sizeable R) where
     has_room places q = omega (arith, at_more, total_all R.share (d - 1))
 
     -- a refusal is told with the entry's place in the list, which four bytes hold
-    pub refused_back : (k i j : ℕ) → tree_in (share_of R (d - 1)) (table_in sizes) ≡ refuses k (i ∷ []) → j ≡ first_of R (d - 1) + i → refuses k (j ∷ []) ≡ sizes_down R (directories_of R) from
+    refused_back : (k i j : ℕ) → tree_in (share_of R (d - 1)) (table_in sizes) ≡ refuses k (i ∷ []) → j ≡ first_of R (d - 1) + i → refuses k (j ∷ []) ≡ sizes_down R (directories_of R) from
     refused_back k i j e q =
         ap (λ (v : ℕ). refuses k (v ∷ [])) q ∙
         sym (down_refused R (d - 1) sizes k i e) ∙ ap (λ (n : ℕ). sizes_down R n sizes) (sym one_back) ∙ g.down
 
-    pub refused_low : (k i : ℕ) → tree_in (share_of R (d - 1)) (table_in sizes) ≡ refuses k (i ∷ []) → first_of R (d - 1) + i ≤ 4294967295
+    refused_low : (k i : ℕ) → tree_in (share_of R (d - 1)) (table_in sizes) ≡ refuses k (i ∷ []) → first_of R (d - 1) + i ≤ 4294967295
     refused_low k i e = omega (arith, refused_inside (share_of R (d - 1)) (table_in sizes) k i e, s.inside (d - 1) below, s.low)
+
+    pub error_back : (e listed : EntryError) → tree_in (share_of R (d - 1)) (table_in sizes) ≡ refused e → listed ≡ listed_at (first_of R (d - 1)) e →
+        refused listed ≡ sizes_down R (directories_of R) from
+    error_back (error.Refused c i) listed e q = ap refused q ∙ refused_back (cause_number c) i _ e refl
+    error_back (error.FileTooLarge i) listed e q = ap refused q ∙ refused_back 10 i _ e refl
+
+    pub error_low : (e : EntryError) → tree_in (share_of R (d - 1)) (table_in sizes) ≡ refused e → first_of R (d - 1) + number_in e ≤ 4294967295
+    error_low (error.Refused c i) e = refused_low (cause_number c) i e
+    error_low (error.FileTooLarge i) e = refused_low 10 i e
 
     -- the size of directory d - 1 is stored: the trees of no directory from there on change by it
     module _ (z : ℕ) where

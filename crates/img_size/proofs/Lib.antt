@@ -1,4 +1,3 @@
 -- Laws that sizing an image's tables goes by.
-pub mod Cut
 pub mod Going
 pub mod Asked

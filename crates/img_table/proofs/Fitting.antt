@@ -1,12 +1,6 @@
 -- The first size that four bytes do not hold: step by step, and what it is. Assumes nothing.
-use Prim.Native.Nat.{ℕ, zero, suc, ◌+◌, ◌-◌, ◌≤◌, ◌<◌}
-use native.Mathlib.Omega.{arith}
+use Rattle.std.proofs.Common.{ℕ, zero, suc, ◌+◌, ◌-◌, ◌≤◌, ◌<◌, ◌≡◌, refl, sym, ap, subst, ◌∙◌, Bool, true, false, List, ltb, length, get_or, set, arith}
 use native.Mathlib.Decide.{ℕ_discrete}
-use mathlib.Core.Path.{◌≡◌, refl, sym, ap, subst, ◌∙◌}
-use mathlib.Core.Bool.{Bool, true, false}
-use mathlib.Core.List.{List}
-use lib.Dec.{ltb}
-use lib.ListN.{length, get_or, set}
 use lib.Seq.{get_or-set_same, get_or-set_other}
 use borrow.Author.Tests.{lt-ltb, le-ltb, ltb-true, ltb-false}
 use Rattle.units.specs.Told.{pick}
@@ -26,9 +20,12 @@ module _ (f : ℕ → ℕ) where
     pub fit_next : (j z : ℕ) → j ≡ i + 1 → i < n → z ≡ f i → z ≤ 4294967295 → fitting f n 0 ≡ fitting f (n - j) j
     fit_next j z ej h e k = so_far ∙ turn n i h ∙ rw (ej, le-ltb 4294967295 (f i) (omega arith))
 
-    pub fit_last : n ≤ i → i ≡ fitting f n 0
+    pub fit_stop : (z : ℕ) → i < n → z ≡ f i → 4294967295 < z → i ≡ fitting f n 0
+    fit_stop z h e k = sym (so_far ∙ stops_here n i h (omega arith))
+
+    pub fit_last : n ≤ i → i ≤ n → n ≡ fitting f n 0
     unfolding fitting
-    fit_last h = sym (so_far ∙ ap (λ (k : ℕ). fitting f k i) {x = n - i} {y = 0} (omega arith))
+    fit_last h k = let e : n ≡ i = omega arith in e ∙ sym (so_far ∙ ap (λ (k : ℕ). fitting f k i) {x = n - i} {y = 0} (omega arith))
 
   low_by : (b : Bool) (k i j : ℕ) → ltb 4294967295 (f i) ≡ b → ((j : ℕ) → i + 1 ≤ j → j < fitting f k (i + 1) → f j ≤ 4294967295)
       → i ≤ j → j < pick b i (fitting f k (i + 1)) → f j ≤ 4294967295

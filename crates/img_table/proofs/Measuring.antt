@@ -2,15 +2,13 @@
 use Prim.Native.Nat.{ℕ, ◌≤◌, ◌<◌}
 use native.Mathlib.Omega.{arith}
 use mathlib.Core.Path.{◌≡◌, sym, ap, subst, ◌∙◌}
-use mathlib.Core.List.{List, [], ◌∷◌}
+use mathlib.Core.List.{List}
 use lib.ListN.{length, get_or}
-use Rattle.units.specs.Told.{Told, gives, refuses}
+use Rattle.units.specs.Told.{gives}
 use Rattle.layout_node.specs.Header.{entry_length}
 use Rattle.avl_model.specs.Tree.{Tree}
 use Rattle.avl_model.specs.Order.{order}
 use Rattle.avl_model.proofs.Avl.{all_map}
-use Rattle.dirtab_entry.specs.declared.Cause.{Cause}
-use Rattle.dirtab_entry.specs.Entry.{cause_number}
 use Rattle.dirtab_place.specs.inner.Places.{size_along, Measurable}
 use Rattle.dirtab_place.proofs.Along.{SameLength}
 use Rattle.dirtab_place.proofs.Named.{name_long}
@@ -19,19 +17,7 @@ use Rattle.dirtab_write.proofs.Bridge.{in_order}
 use Rattle.img_model.specs.Shares.{Share}
 use Rattle.img_model.specs.Plan.{given_at, entry_in, tree_in}
 use Rattle.img_model.proofs.Passed.{fine, count_few, numbers}
-use Rattle.img_table.specs.declared.Arranged.{Arranged}
-use Rattle.img_table.specs.declared.Arranged.TheVariants as arranged
-use Rattle.img_table.specs.inner.Arranging.{Ordered, Arrangement, Measured}
-
--- what was arranged
-pub was_done : {r : Arranged} (g : Told Tree) (listed : List ℕ) → r ≡ arranged.Done → Arrangement r g listed → Ordered g listed
-was_done g listed e h = subst (λ (v : Arranged). Arrangement v g listed) e h
-
-pub was_refused : {r : Arranged} {c : Cause} {i : ℕ} (g : Told Tree) (listed : List ℕ) → r ≡ arranged.Refused c i → Arrangement r g listed → g ≡ refuses (cause_number c) (i ∷ [])
-was_refused g listed e h = subst (λ (v : Arranged). Arrangement v g listed) e h
-
-pub was_large : {r : Arranged} {i : ℕ} (g : Told Tree) (listed : List ℕ) → r ≡ arranged.FileTooLarge i → Arrangement r g listed → g ≡ refuses 10 (i ∷ [])
-was_large g listed e h = subst (λ (v : Arranged). Arrangement v g listed) e h
+use Rattle.img_table.specs.inner.Arranging.{Ordered, Measured}
 
 -- what holds of each of the entries holds of each that is listed
 pub listed_at : (S : Share) (tab : ℕ → ℕ) {t : Tree} → tree_in S tab ≡ gives t → (listed : List ℕ) (P : ℕ → Type 0) → listed ≡ order t →

@@ -17,17 +17,18 @@ use Rattle.avl_model.specs.inner.Order.{Listed}
 use Rattle.avl_model.proofs.Adding.{links_of, below}
 use Rattle.avl_model.proofs.Avl.{at_most_22}
 use Rattle.avl_model.proofs.Counted.{each_size}
-use Rattle.dirtab_entry.specs.declared.Cause.{Cause}
-use Rattle.dirtab_grow.specs.declared.Built.{Built}
-use Rattle.dirtab_grow.specs.declared.Built.TheVariants as built
 use Rattle.dirtab_grow.specs.Listing.{listing}
-use Rattle.dirtab_entry.specs.Entry.{cause_number}
-use Rattle.dirtab_grow.specs.inner.Growing.{Grown, Holding, Outcome, Roomy}
+use Rattle.dirtab_grow.specs.inner.Growing.{Grown, Holding, Roomy}
 use Rattle.dirtab_grow.proofs.Prefix.{frame_grown}
 use Rattle.img_model.specs.Shares.{Share}
 use Rattle.img_model.specs.Plan.{size_at, tree_in}
-use Rattle.img_table.specs.inner.Arranging.{fitting, Arrangeable, Ordered}
-use Rattle.img_table.proofs.Treed.{front, to_count, tree_refused, tree_large, tree_whole}
+use Rattle.std.specs.Prelude.{Result, Ok, Err, IsErrAnd}
+use Rattle.dirtab_entry.specs.declared.Cause.{Cause}
+use Rattle.dirtab_entry.specs.Entry.{cause_number}
+use Rattle.img_table.specs.declared.EntryError.{EntryError}
+use Rattle.img_table.specs.declared.EntryError.TheVariants as error
+use Rattle.img_table.specs.inner.Arranging.{fitting, Arrangeable, Ordered, Arrangement, refused}
+use Rattle.img_table.proofs.Treed.{front, to_count, tree_large, tree_whole}
 
 -- the first n places of columns that hold a tree of n numbers are what listing takes
 module _ (T : Lists) (N : Names) (g : Told Tree) (n : ℕ) (w : Holding g T N n) (in_left : n ≤ length T.L) (in_right : n ≤ length T.R) where
@@ -73,10 +74,10 @@ module _ (S : Share) (tab : ℕ → ℕ) (size : List ℕ) (m : ℕ) (m-is : m �
   N = names_in S.bytes S.start S.len
 
   -- the columns have a place for each of them
-  pub roomy : {tables l r p h k z o : ℕ} → Arrangeable S tables l r p h k z o → length S.kind ≡ S.count → (T : Lists) (K : List ℕ) → length T.L ≡ l
-      → length T.R ≡ r → length T.P ≡ p → length T.H ≡ h → length K ≡ k → length size ≡ z
-      → Roomy (listing m S.start S.len size S.kind S.bytes) T K m
-  roomy a q T K el er ep eh ek ez =
+  pub roomy : {tables z o : ℕ} (T : Lists) (K : List ℕ)
+      → Arrangeable S tables (record { left = length T.L; right = length T.R; parent = length T.P; height = length T.H; key = length K; size = z }) o
+      → length S.kind ≡ S.count → length size ≡ z → Roomy (listing m S.start S.len size S.kind S.bytes) T K m
+  roomy T K a q e =
       let c : m ≤ S.count = to_count S tab size m m-is sizes in
       record {
         start = omega (arith, a.started);
@@ -90,33 +91,27 @@ module _ (S : Share) (tab : ℕ → ℕ) (size : List ℕ) (m : ℕ) (m-is : m �
         k = omega (arith, a.k);
       }
 
-  module _ (T : Lists) {r : Built} (out : Outcome r (front S tab size m m-is sizes) T N m) where
-    pub out_refused : {c : Cause} {i : ℕ} → r ≡ built.Refused c i → tree_in S tab ≡ refuses (cause_number c) (i ∷ [])
-    out_refused e = tree_refused S tab size m m-is sizes (subst (λ (v : Built). Outcome v (front S tab size m m-is sizes) T N m) e out)
+  module _ (T : Lists) (held : Holding (front S tab size m m-is sizes) T N m) where
+    pub out_large : m < S.count → tree_in S tab ≡ refuses 10 (m ∷ [])
+    out_large h = tree_large S tab size m m-is sizes held.told h
 
-    module _ (e : r ≡ built.Done) where
-      pub out_held : Holding (front S tab size m m-is sizes) T N m
-      out_held = subst (λ (v : Built). Outcome v (front S tab size m m-is sizes) T N m) e out
+    module _ (hl : m ≤ length T.L) (hr : m ≤ length T.R) where
+      pub out_asks : (places : ℕ) → m ≤ places → Listed (take m T.L) (take m T.R) T.root places
+      out_asks = listed_asks T N (front S tab size m m-is sizes) m held hl hr
 
-      pub out_large : m < S.count → tree_in S tab ≡ refuses 10 (m ∷ [])
-      out_large h = tree_large S tab size m m-is sizes out_held.told h
+      pub out_whole : (list₀ list₁ : List ℕ) → length list₀ ≡ S.count → S.count ≤ m
+          → ((v : Listed (take m T.L) (take m T.R) T.root (length list₀)) → list₁ ≡ order v.t ++ drop (laws.size v.t) list₀) → Ordered (tree_in S tab) list₁
+      out_whole list₀ list₁ long h f =
+          let c : m ≤ S.count = to_count S tab size m m-is sizes in
+          record {
+            t = held.t;
+            told = tree_whole S tab size m m-is sizes held.told h;
+            listed_is = listed_whole T N (front S tab size m m-is sizes) m held hl hr list₀ list₁ (omega arith) f;
+          }
 
-      module _ (hl : m ≤ length T.L) (hr : m ≤ length T.R) where
-        pub out_left : m ≡ length (take m T.L)
-        out_left = left_long T N (front S tab size m m-is sizes) m out_held hl hr
+-- ---- a refusal that is passed on
 
-        pub out_right : m ≡ length (take m T.R)
-        out_right = right_long T N (front S tab size m m-is sizes) m out_held hl hr
-
-        pub out_asks : (places : ℕ) → m ≤ places → Listed (take m T.L) (take m T.R) T.root places
-        out_asks = listed_asks T N (front S tab size m m-is sizes) m out_held hl hr
-
-        pub out_whole : (list₀ list₁ : List ℕ) → length list₀ ≡ S.count → S.count ≤ m
-            → ((v : Listed (take m T.L) (take m T.R) T.root (length list₀)) → list₁ ≡ order v.t ++ drop (laws.size v.t) list₀) → Ordered (tree_in S tab) list₁
-        out_whole list₀ list₁ long h f =
-            let c : m ≤ S.count = to_count S tab size m m-is sizes in
-            record {
-              t = out_held.t;
-              told = tree_whole S tab size m m-is sizes out_held.told h;
-              listed_is = listed_whole T N (front S tab size m m-is sizes) m out_held hl hr list₀ list₁ (omega arith) f;
-            }
+pub passed_on : (r : Result (Unit {0}) EntryError) (c : Cause) (i : ℕ) (g : Told Tree) (listed : List ℕ)
+    → IsErrAnd r (λ e. e ≡ error.Refused c i) → g ≡ refuses (cause_number c) (i ∷ []) → Arrangement r g listed
+passed_on (Ok u) c i g listed h q = absurd h
+passed_on (Err e) c i g listed h q = q ∙ sym (ap refused h)

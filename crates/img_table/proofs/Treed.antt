@@ -7,7 +7,7 @@ use mathlib.Core.List.{List, [], ◌∷◌}
 use lib.ListN.{get_or}
 use borrow.Author.Tests.{lt-ltb, le-ltb}
 use Rattle.units.specs.Told.{Told, gives, refuses, pick}
-use Rattle.layout_name.specs.declared.Order.{Order}
+use Rattle.std.specs.declared.cmp.Ordering.{Ordering}
 use Rattle.dirtab_entry.specs.Entry.{kind_for, check_of}
 use Rattle.avl_model.specs.Tree.{Tree, leaf}
 use Rattle.dirtab_grow.specs.Listing.{Listing, listing, given_in}
@@ -27,7 +27,7 @@ module _ (S : Share) (tab : ℕ → ℕ) (size : List ℕ) (m : ℕ) (m-is : m �
   abbrev check : ℕ → Told (Unit {0})
   check j = check_of S.bytes (given_in L j)
 
-  abbrev between : ℕ → ℕ → Order
+  abbrev between : ℕ → ℕ → Ordering
   between = order_in S.bytes (given_at S tab)
 
   -- the tree of those before it

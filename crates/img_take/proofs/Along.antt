@@ -8,16 +8,15 @@ use mathlib.Core.List.{List, [], ◌∷◌}
 use lib.Dec.{eqb}
 use lib.ListN.{length, get_or, set, drop, drop_of_length-le}
 use lib.Seq.{drop-cons}
-use borrow.Author.Tests.{eq-eqb, ne_eqb}
 use Rattle.units.specs.Told.{pick}
 use Rattle.units.specs.declared.Sector.{Sector}
 use Rattle.layout_sector.specs.declared.SectorCounter.{SectorCounter}
-use Rattle.layout_sector.specs.declared.Taken.{Taken}
-use Rattle.layout_sector.specs.declared.Taken.TheVariants.{Start, SectorOverflow}
+use Rattle.layout_sector.specs.declared.SectorOverflow.{SectorOverflow}
+use Rattle.std.specs.Prelude.{Result, Ok, Err, IsOk}
 use Rattle.layout_sector.specs.Counter.{sectors_for, aligned_up, told, take_of}
 use Rattle.layout_sector.proofs.Laws.{aligned_above, given_free, overflow_where_8}
 use Rattle.dirtab_place.specs.inner.Places.{size_in, free_in}
-use Rattle.dirtab_place.proofs.Taking.{taken_start, taken_free, never_over}
+use Rattle.dirtab_place.proofs.Taking.{taken_start, taken_free, can_take}
 use Rattle.dirtab_place.proofs.Along.{SameSize}
 use Rattle.img_model.specs.Shares.{Request, share_of, first_of}
 use Rattle.img_model.specs.Plan.{Taking, entries_at, taking_all}
@@ -36,39 +35,41 @@ few_sectors n h = few_by n (eqb n 0) h
 
 -- ---- the root table
 
-module _ (n m : ℕ) (r : Taken) (s : ℕ) (first : s ≡ 33) (en : n ≡ m) (taken : told r ≡ take_of 1 s n) where
-  pub root_free : (a : Sector) (c : SectorCounter) → r ≡ Start a c → c.next.0 ≡ 33 + sectors_for m
-  root_free a c er = given_free 1 s n _ (sym taken ∙ ap told er) ∙ ap₂ (λ (s n : ℕ). aligned_up 1 s + sectors_for n) first en
+module _ (n : ℕ) (r : Result (Sector × SectorCounter) SectorOverflow) (s : ℕ) (first : s ≡ 33) (taken : told r ≡ take_of 1 s n) where
+  pub root_free : (p : Sector × SectorCounter) → r ≡ Ok p → p.1.next.0 ≡ 33 + sectors_for n
+  root_free p er = given_free 1 s n _ (sym taken ∙ ap told er) ∙ ap (λ (s : ℕ). aligned_up 1 s + sectors_for n) first
 
-  pub root_fits : n < 4294967296 → r ≡ SectorOverflow → ⊥
-  root_fits h er =
-      let over : 4294967295 < aligned_up 1 s + sectors_for n = overflow_where_8 1 s n (sym taken ∙ ap told er) in
-      omega (arith, few_sectors n (omega arith))
+  pub root_fits : n < 4294967296 → IsOk r
+  root_fits h = of r refl
+    where
+      of : (q : Result (Sector × SectorCounter) SectorOverflow) → r ≡ q → IsOk q
+      of (Ok p) e = refl
+      of (Err x) e =
+          let over : 4294967295 < aligned_up 1 s + sectors_for n = overflow_where_8 1 s n (sym taken ∙ ap told e) in
+          absurd (omega (arith, few_sectors n (omega arith)))
 
 -- ---- an entry that names a directory
 
-pub named_is : (tables : List ℕ) (kind value sector at : ℕ) → kind ≡ 1 → at ≡ value → set tables at sector ≡ pick (eqb kind 1) (set tables value sector) tables
-named_is tables kind value sector at k e = ap (λ (i : ℕ). set tables i sector) e ∙ sym (ap (λ (b : Bool). pick b (set tables value sector) tables) (eq-eqb kind 1 k))
+pub named_is : (tables : List ℕ) (kind value sector : ℕ) → eqb kind 1 ≡ true → set tables value sector ≡ pick (eqb kind 1) (set tables value sector) tables
+named_is tables kind value sector k = sym (ap (λ (b : Bool). pick b (set tables value sector) tables) k)
 
-pub named_none : (tables new : List ℕ) (kind : ℕ) → (kind ≡ 1 → ⊥) → tables ≡ pick (eqb kind 1) new tables
-named_none tables new kind k = sym (ap (λ (b : Bool). pick b new tables) (ne_eqb kind 1 k))
+pub named_none : (tables new : List ℕ) (kind : ℕ) → eqb kind 1 ≡ false → tables ≡ pick (eqb kind 1) new tables
+named_none tables new kind k = sym (ap (λ (b : Bool). pick b new tables) k)
 
 -- ---- one entry
 
--- b is its size, n the same as a longer number, and r what taking answered
-module _ (kind value size : List ℕ) (f i s b n : ℕ) (r : Taken) (eb : b ≡ size_in size kind i) (en : n ≡ b) (taken : told r ≡ take_of 1 s n) where
-  pub one_taken : (tables sectors tables₁ sectors₁ : List ℕ) (x y k v : ℕ) (a : Sector) (c : SectorCounter) → r ≡ Start a c → x ≡ a.0 → y ≡ a.0
-      → tables₁ ≡ pick (eqb k 1) (set tables v y) tables → k ≡ get_or kind i 0 → v ≡ get_or value i 0 → sectors₁ ≡ set sectors (f + i) x
-      → taking tables₁ sectors₁ c.next.0 ≡ take_one kind value size f (taking tables sectors s) i
-  one_taken tables sectors tables₁ sectors₁ x y k v a c er ex ey et ek ev es =
-      let start : a.0 ≡ aligned_up 1 s = taken_start size kind s i i b n r refl eb en taken a c er in
-      let x_is : x ≡ aligned_up 1 s = ex ∙ start in
-      let y_is : y ≡ aligned_up 1 s = ey ∙ start in
-      let free : c.next.0 ≡ free_in size kind s i = taken_free size kind s i i b n r refl eb en taken a c er in
-      rw (et, ek, ev, es, x_is, y_is, free)
+-- b is its size, and r what taking answered
+module _ (kind value size : List ℕ) (f i s b : ℕ) (r : Result (Sector × SectorCounter) SectorOverflow) (eb : b ≡ size_in size kind i) (taken : told r ≡ take_of 1 s b) where
+  pub one_taken : (tables sectors tables₁ sectors₁ : List ℕ) (y : ℕ) (p : Sector × SectorCounter) → r ≡ Ok p → y ≡ p.0.0
+      → tables₁ ≡ pick (eqb (get_or kind i 0) 1) (set tables (get_or value i 0) y) tables → sectors₁ ≡ set sectors (f + i) y
+      → taking tables₁ sectors₁ p.1.next.0 ≡ take_one kind value size f (taking tables sectors s) i
+  one_taken tables sectors tables₁ sectors₁ y p er ey et es =
+      let y_is : y ≡ aligned_up 1 s = ey ∙ taken_start size kind s i i b r refl eb taken p er in
+      let free : p.1.next.0 ≡ free_in size kind s i = taken_free size kind s i i b r refl eb taken p er in
+      rw (et, es, y_is, free)
 
-  pub one_over : free_in size kind s i ≤ 4294967295 → r ≡ SectorOverflow → ⊥
-  one_over = never_over size kind s i i b n r refl eb en taken
+  pub one_fits : free_in size kind s i ≤ 4294967295 → IsOk r
+  one_fits = can_take size kind s i i b r refl eb taken
 
 -- ---- turn by turn
 

@@ -1,7 +1,6 @@
 -- Laws that going forward over an image's directories goes by, and that its answers are told one-to-one.
 pub mod Trees
 pub mod Counting
-pub mod Cut
 pub mod Steps
 pub mod Along
 pub mod Turns

@@ -4,4 +4,3 @@ pub mod Turn
 pub mod Reach
 pub mod Named
 pub mod Whole
-pub mod Columns

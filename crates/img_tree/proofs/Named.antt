@@ -1,32 +1,39 @@
--- A turn of the last look at the marks. Assumes nothing.
-use Prim.Native.Nat.{ℕ, ◌+◌, ◌≤◌, ◌<◌}
-use native.Mathlib.Omega.{arith}
-use mathlib.Core.Path.{◌≡◌, refl, sym, ap, ◌∙◌}
-use mathlib.Core.Bool.{Bool, true, false}
-use mathlib.Core.List.{List}
-use lib.Dec.{eqb}
-use lib.ListN.{length, get_or}
-use borrow.Author.Tests.{eq-eqb, ne_eqb}
+-- The last look at the marks: that of every directory but the root is 1. Assumes nothing.
+use Rattle.std.proofs.Common.{ℕ, zero, suc, ◌<◌, ◌≡◌, refl, sym, ap, ap₂, ◌∙◌, Bool, true, false, ◌&&◌, List, [], ◌∷◌, eqb, length, get_or, drop, arith}
+use Rattle.std.proofs.lemmas.Bool.{ne_eqb}
+use Rattle.std.specs.List.{list_all}
 use Rattle.units.specs.Told.{pick}
 use Rattle.avl_arena.specs.Test.{every}
-use Rattle.avl_arena.proofs.Tested.{every_at, every_fails, every_from, every_more}
 use Rattle.img_tree.specs.inner.Marks.{is_named}
 
-module _ (named : List ℕ) where
-  -- the root needs no mark
-  pub root_passes : every (is_named named) 1 ≡ true
-  unfolding is_named
-  root_passes = refl
+and_over : (a b c : Bool) → ((a && b) && c) ≡ (a && (b && c))
+and_over true b c = refl
+and_over false b c = refl
 
-  by_mark : (x : ℕ) → 0 < x → is_named named x ≡ eqb (get_or named x 0) 1
-  unfolding is_named
-  by_mark x h = ap (λ (b : Bool). pick b true (eqb (get_or named x 0) 1)) (ne_eqb x 0 (λ e. omega arith))
+and_none : (a : Bool) → (true && a) ≡ (a && true)
+and_none true = refl
+and_none false = refl
 
-  pub unnamed : (x : ℕ) → 0 < x → x < length named → (get_or named x 0 ≡ 1 → ⊥) → false ≡ every (is_named named) (length named)
-  unnamed x g h n = sym (every_fails (is_named named) x (length named) (by_mark x g ∙ ne_eqb (get_or named x 0) 1 n) h)
+-- a test of each number up to m, the first one first
+every_shift : (f : ℕ → Bool) (m : ℕ) → every f (suc m) ≡ (f 0 && every (λ j. f (suc j)) m)
+every_shift f zero = and_none (f 0)
+every_shift f (suc m) =
+    ap (λ b. b && f (suc m)) (every_shift f m) ∙ and_over (f 0) (every (λ j. f (suc j)) m) (f (suc m))
 
-  pub one_named : (x : ℕ) → 0 < x → every (is_named named) x ≡ true → get_or named x 0 ≡ 1 → (y : ℕ) → y ≡ x + 1 → every (is_named named) y ≡ true
-  one_named x g p e y q = rw q (every_more (is_named named) x p (by_mark x g ∙ eq-eqb (get_or named x 0) 1 e))
+-- a test of each number as one of each element
+every_list : (f : ℕ → Bool) (p : ℕ → Bool) (xs : List ℕ) → ((j : ℕ) → j < length xs → f j ≡ p (get_or xs j 0))
+    → every f (length xs) ≡ list_all p xs
+every_list f p [] h = refl
+every_list f p (x ∷ xs) h =
+    every_shift f (length xs)
+    ∙ ap₂ ◌&&◌ (h 0 (omega arith)) (every_list (λ j. f (suc j)) p xs (λ j k. h (suc j) (omega arith)))
 
-  pub all_named : (x : ℕ) → length named ≤ x → every (is_named named) x ≡ true → true ≡ every (is_named named) (length named)
-  all_named x h p = sym (every_from (is_named named) (length named) (λ j k. every_at (is_named named) x p j (omega arith)))
+later : (n j : ℕ) → pick (eqb (suc j) 0) true (eqb n 1) ≡ eqb n 1
+later n j = ap (λ b. pick b true (eqb n 1)) (ne_eqb (suc j) 0 (λ e. omega arith))
+
+pub all_named : (named : List ℕ) → list_all (λ m. eqb m 1) (drop 1 named) ≡ every (is_named named) (length named)
+unfolding is_named
+all_named [] = refl
+all_named (x ∷ xs) =
+    sym (every_shift (is_named (x ∷ xs)) (length xs)
+    ∙ every_list (λ j. is_named (x ∷ xs) (suc j)) (λ m. eqb m 1) xs (λ j h. later (get_or xs j 0) j))

@@ -1,9 +1,5 @@
 -- The ways out of marking one directory, and one entry's. Assumes nothing.
-use Prim.Native.Nat.{ℕ, ◌≤◌, ◌<◌}
-use mathlib.Core.Path.{◌≡◌, refl, sym, ap, ◌∙◌}
-use mathlib.Core.Bool.{Bool, true, false}
-use mathlib.Core.List.{List}
-use lib.ListN.{length, get_or, set}
+use Rattle.std.proofs.Common.{ℕ, ◌≤◌, ◌<◌, ◌≡◌, refl, sym, ap, Bool, true, false, List, eqb, length, get_or, set}
 use borrow.Author.Tests.{lt-ltb, le-ltb, eq-eqb, ne_eqb}
 use Rattle.units.specs.Told.{pick}
 use Rattle.img_tree.specs.inner.Marks.{is_free, marked_at, is_entry_free, entry_marked}
@@ -37,12 +33,11 @@ module _ (named : List ℕ) (d x : ℕ) where
 
   -- an entry by its kind
   module _ (kind : ℕ) where
-    pub of_directory_lem : (r : Bool) (after : List ℕ) → kind ≡ 1 → r ≡ is_free named d x → after ≡ marked_at named d x →
+    pub of_directory_lem : (r : Bool) (after : List ℕ) → eqb kind 1 ≡ true → r ≡ is_free named d x → after ≡ marked_at named d x →
         (r ≡ is_entry_free named d kind x) × (after ≡ entry_marked named d kind x)
     unfolding is_entry_free entry_marked
-    of_directory_lem r after k e f =
-        (e ∙ sym (ap (λ (b : Bool). pick b (is_free named d x) true) (eq-eqb kind 1 k)), f ∙ sym (ap (λ (b : Bool). pick b (marked_at named d x) named) (eq-eqb kind 1 k)))
+    of_directory_lem r after k e f = (rw k e, rw k f)
 
-    pub of_file : (kind ≡ 1 → ⊥) → (true ≡ is_entry_free named d kind x) × (named ≡ entry_marked named d kind x)
+    pub of_file : eqb kind 1 ≡ false → (true ≡ is_entry_free named d kind x) × (named ≡ entry_marked named d kind x)
     unfolding is_entry_free entry_marked
-    of_file n = (sym (ap (λ (b : Bool). pick b (is_free named d x) true) (ne_eqb kind 1 n)), sym (ap (λ (b : Bool). pick b (marked_at named d x) named) (ne_eqb kind 1 n)))
+    of_file k = (rw k refl, rw k refl)

@@ -1,5 +1,5 @@
 -- A turn of marking all directories, and what the marks say in the end. Assumes nothing.
-use Prim.Native.Nat.{ℕ, suc, ◌+◌, ◌≤◌, ◌<◌}
+use Prim.Native.Nat.{ℕ, zero, suc, ◌+◌, ◌≤◌, ◌<◌}
 use native.Mathlib.Omega.{arith}
 use mathlib.Core.Path.{◌≡◌, refl, sym, ap, subst, ◌∙◌}
 use mathlib.Core.Bool.{Bool, true, false, not, ◌&&◌}
@@ -27,6 +27,11 @@ pub unmarked : (R : Request) (n : ℕ) (named : List ℕ) → named ≡ replicat
 unmarked R n named e h =
     let zeros : (x : ℕ) → x < directories_of R → get_or named x 0 ≡ 0 = λ x k. rw e (get_or-replicate n x 0 0 (omega arith)) in
     record { kept = rw e (length-replicate n 0 ∙ h); low = λ x k. omega (arith, zeros x k); counted = zeros; shared = refl }
+
+-- there is one
+pub some_first : (b : Bool) (n : ℕ) → b ≡ eqb n 0 → b ≡ false → 0 < n
+some_first b zero e f = let z : true ≡ false = sym e ∙ f in never (sym z)
+some_first b (suc n) e f = omega arith
 
 -- there is no directory
 pub no_directory : (R : Request) → directories_of R ≡ 0 → false ≡ is_tree R

@@ -1,13 +1,16 @@
 // Whether the directories of an image are a tree.
 #![tactic(auto)]
 
-ghost use Rattle.std.specs.Prelude.{◌≡◌, true, length};
+ghost use Rattle.std.specs.Prelude.{◌≡◌, ◌<◌, true, length};
 ghost use Rattle.avl_arena.specs.Test.{every};
-ghost use Rattle.img_model.specs.Shares.{part, is_tree};
-ghost use Rattle.img_tree.specs.inner.Marks.{shares, Even, entries, is_free, marked_at, is_entry_free, entry_marked};
-ghost use Rattle.img_tree.specs.inner.Marks.{Marks, is_markable, Marked, is_part_markable, is_named};
+ghost use Rattle.img_model.specs.Shares.{first_of, count_of, part, is_tree};
+ghost use Rattle.img_model.specs.Columns.{columns_in};
+ghost use Rattle.img_tree.specs.inner.Marks.{Even, entries, is_free, marked_at, is_entry_free, entry_marked, Marks};
+ghost use Rattle.img_tree.specs.inner.Marks.{is_markable, Marked, is_part_markable, is_named};
 
-use scratch::clear_words;
+use dirtab_entry::Kind;
+use img_model::Request;
+use scratch::clear;
 
 // Marks the directory x, which an entry of directory d names: false where it is d, an earlier one or none, or is
 // marked.
@@ -29,75 +32,68 @@ fn mark(d: usize, x: u64, named: &mut [u32]) -> bool
 }
 
 // The same for any entry of directory d: a file names none.
+// (`kind` is the number that C's column holds, and is made a Kind here.)
 fn mark_entry(d: usize, kind: u8, value: u64, named: &mut [u32]) -> bool
     ensures { (result ≡ is_entry_free named.old d kind value) × (named.new ≡ entry_marked named.old d kind value) }
 {
-    if kind == 1 {
-        return mark(d, value, named);
+    match Kind::from(kind) {
+        Kind::Directory => mark(d, value, named),
+        Kind::File => true,
     }
-    true
 }
 
 // Marks the directories that the entries of directory d name.
 fn mark_share(d: usize, kind: &[u8], value: &[u64], named: &mut [u32]) -> bool
     requires { (length value.now ≡ length kind.now) × Marks named.old }
-    ensures { (result ≡ is_markable named.old d (entries (length kind.now) kind.now value.now))
-        × (result ≡ true → Marked named.old (entries (length kind.now) kind.now value.now) named.new) }
+    ensures answer { result ≡ is_markable named.old d (entries (length kind.now) kind.now value.now) }
+    ensures marks { result ≡ true → Marked named.old (entries (length kind.now) kind.now value.now) named.new }
 {
-    let mut i = 0;
-    while i < kind.len() {
+    for i in 0..kind.len() {
         if !mark_entry(d, kind[i], value[i], named) {
             return false;
         }
-        i += 1;
     }
     true
 }
 
-// The same for n entries from the place f on: false where they reach past the list.
-fn mark_directory(d: usize, f: u32, n: u32, kind: &[u8], value: &[u64], named: &mut [u32]) -> bool
-    requires { (length value.now ≡ length kind.now) × Marks named.old }
-    ensures { (result ≡ is_part_markable named.old d f n kind.now value.now)
-        × (result ≡ true → Marked named.old (entries n (part f n kind.now) (part f n value.now)) named.new) }
+// The same for the whole of directory d: false where its share reaches past the list of entries.
+fn mark_directory(d: usize, request: Request<'_>, named: &mut [u32]) -> bool
+    requires { Even (columns_in request) (length named.old) × Marks named.old × (d < length request.from.now) }
+    ensures answer { let R = columns_in request.entry in
+        result ≡ is_part_markable named.old d (first_of R d) (count_of R d) R.kind R.value }
+    ensures marks { let R = columns_in request.entry in
+        result ≡ true → Marked named.old (entries (count_of R d) (part (first_of R d) (count_of R d) R.kind)
+        (part (first_of R d) (count_of R d) R.value)) named.new }
 {
-    let from = f as usize;
-    let to = from + (n as usize);
-    if kind.len() < to {
+    let from = request.from[d] as usize;
+    let to = from + (request.share[d] as usize);
+    if request.kind.len() < to {
         return false;
     }
-    mark_share(d, &kind[from..to], &value[from..to], named)
+    mark_share(d, &request.kind[from..to], &request.value[from..to], named)
 }
 
 // Every directory but the root is marked.
 fn all_marked(named: &[u32]) -> bool
     ensures { result ≡ every (is_named named.now) (length named.now) }
 {
-    let mut x = 1;
-    while x < named.len() {
-        if named[x] != 1 {
-            return false;
-        }
-        x += 1;
-    }
-    true
+    named.iter().skip(1).all(|mark| *mark == 1)
 }
 
 // There is a directory, every share lies in the list, and every directory but the root is named exactly once, by an
 // earlier one. `named` is scratch.
-pub fn is_tree(from: &[u32], share: &[u32], kind: &[u8], value: &[u64], named: &mut [u32]) -> bool
-    requires { Even (shares from.now share.now kind.now value.now) (length named.old) }
-    ensures { result ≡ is_tree (shares from.now share.now kind.now value.now) }
+pub fn is_tree(request: Request<'_>, named: &mut [u32]) -> bool
+    requires { Even (columns_in request) (length named.old) }
+    ensures { result ≡ is_tree (columns_in request.entry) }
 {
-    if from.len() == 0 {
+    if request.from.is_empty() {
         return false;
     }
-    clear_words(named);
-    let mut d: usize = 0;
-    while d < from.len() {
-        if !mark_directory(d, from[d], share[d], kind, value, named) {
+    clear(named);
+    for d in 0..request.from.len() {
+        if !mark_directory(d, request, named) {
             return false;
         }
-        d += 1;
     }
     all_marked(named)
 }

@@ -1,4 +1,4 @@
--- How puts compose, and one turn of each loop.
+-- How puts compose, numbers written and read back, and what every byte is.
 pub mod Put
-pub mod Turns
+pub mod Every
 pub mod Numbers

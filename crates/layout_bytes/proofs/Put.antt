@@ -3,13 +3,8 @@
 --     two_stores, four_stores         stores one behind the other
 --     put_then                        the same of three lists that calls have left
 --     put_seam                        a put at a place that is known as a seam of lists
-use Prim.Native.Nat.{ℕ, ◌+◌, ◌≤◌, ◌<◌}
-use mathlib.Core.Path.{◌≡◌, sym, ap, ap₂, ◌∙◌}
-use mathlib.Core.List.{List, [], ◌∷◌, ◌++◌, append_assoc}
-use native.Mathlib.Omega.{arith}
-use native.Mathlib.Numerals.{add-one}
-use lib.ListN.{length, take, drop, set, length-append, length-take, length-drop, length-set}
-use lib.Seq.{take_at, drop_at, drop-drop, drop-append-add, set_split}
+use Rattle.std.proofs.Common.{ℕ, ◌+◌, ◌≤◌, ◌<◌, ◌≡◌, sym, ap, ap₂, ◌∙◌, List, [], ◌∷◌, ◌++◌, append_assoc, arith, add-one, length, take, drop, set, length-append, length-take, length-drop, length-set, take_at, drop_at, drop-drop}
+use Rattle.std.proofs.Math.Seq.{drop-append-add, set_split}
 use Rattle.layout_bytes.specs.inner.Bytes.{put_at}
 
 pub put_length : (d : List ℕ) (at : ℕ) (s : List ℕ) → at + length s ≤ length d → length (put_at d at s) ≡ length d

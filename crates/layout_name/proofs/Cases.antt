@@ -1,7 +1,6 @@
 -- The scope's cases that speak of the order of names. Assumes nothing.
-use mathlib.Core.Path.{◌≡◌, refl}
-use mathlib.Core.List.{[], ◌∷◌}
-use Rattle.layout_name.specs.declared.Order.TheVariants.{Less, Equal}
+use Rattle.std.proofs.Common.{◌≡◌, refl, [], ◌∷◌}
+use Rattle.std.specs.declared.cmp.Ordering.TheVariants.{Less, Equal}
 use Rattle.layout_name.specs.Order.{number_order, list_order, order_by, raised, name_order}
 
 -- `abb` before `a_b`: the raised B, 66, is below the underscore, 95

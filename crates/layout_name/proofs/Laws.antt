@@ -5,21 +5,12 @@
 --     by_opposite, by_same_left                                               the same the other way round, and to a third
 --     high_is_greater                                                         a byte of 0x80 and above is greater than every ASCII byte
 --     name_step, name_left_ends, name_right_ends, name_both_end               one turn of a comparison
-use Prim.Native.Nat.{ℕ, ◌+◌, ◌-◌, ◌≤◌, ◌<◌}
-use mathlib.Core.Path.{◌≡◌, refl, sym, ap, ap₂, ◌∙◌}
-use mathlib.Core.Bool.{Bool, true, false}
-use mathlib.Core.Logic.{◌⊎◌, inl, inr}
-use mathlib.Core.List.{List, [], ◌∷◌, map}
-use native.Mathlib.Omega.{arith}
-use native.Mathlib.Decide.{dec_lt}
-use native.Mathlib.Numerals.{add-one}
-use lib.Dec.{leb}
-use lib.ListN.{length, drop, get_or, drop_of_length-le}
-use lib.Seq.{drop-cons}
+use Rattle.std.proofs.Common.{ℕ, ◌+◌, ◌-◌, ◌≤◌, ◌<◌, ◌≡◌, refl, sym, ap, ap₂, ◌∙◌, Bool, true, false, ◌⊎◌, inl, inr, List, [], ◌∷◌, map, arith, add-one, leb, length, drop, get_or, drop_of_length-le, drop-cons}
+use Rattle.std.proofs.Math.Decide.{dec_lt}
 use borrow.Author.Tests.{lt-ltb, le-ltb, le-leb, lt-leb}
 use Rattle.units.specs.Told.{pick}
-use Rattle.layout_name.specs.declared.Order.{Order}
-use Rattle.layout_name.specs.declared.Order.TheVariants.{Less, Equal, Greater}
+use Rattle.std.specs.declared.cmp.Ordering.{Ordering}
+use Rattle.std.specs.declared.cmp.Ordering.TheVariants.{Less, Equal, Greater}
 use Rattle.layout_name.specs.Order.{raised, number_order, and_then, list_order, order_by, name_order}
 use Rattle.layout_name.specs.inner.Order.{opposite}
 
@@ -78,7 +69,7 @@ pub number_less→ : (x y : ℕ) → number_order x y ≡ Less → x < y
 number_less→ x y e = less_by (three x y) e
 
 -- the order of two lists, the other way round
-opposite_then : (o p : Order) → and_then (opposite o) (opposite p) ≡ opposite (and_then o p)
+opposite_then : (o p : Ordering) → and_then (opposite o) (opposite p) ≡ opposite (and_then o p)
 opposite_then Less p = refl
 opposite_then Equal p = refl
 opposite_then Greater p = refl
@@ -97,12 +88,12 @@ order_equal [] = refl
 order_equal (x ∷ xs) = ap₂ and_then (number_equal x x refl) (order_equal xs)
 
 -- what the first of two orders says, where both together say a thing
-then_equal : (o p : Order) → and_then o p ≡ Equal → (o ≡ Equal) × (p ≡ Equal)
+then_equal : (o p : Ordering) → and_then o p ≡ Equal → (o ≡ Equal) × (p ≡ Equal)
 then_equal Less p e = let k : ◌≡◌ {A = ℕ} 0 1 = cc in absurd (omega arith)
 then_equal Equal p e = (refl, e)
 then_equal Greater p e = let k : ◌≡◌ {A = ℕ} 0 1 = cc in absurd (omega arith)
 
-then_less : (o p : Order) → and_then o p ≡ Less → (o ≡ Less) ⊎ ((o ≡ Equal) × (p ≡ Less))
+then_less : (o p : Ordering) → and_then o p ≡ Less → (o ≡ Less) ⊎ ((o ≡ Equal) × (p ≡ Less))
 then_less Less p e = inl refl
 then_less Equal p e = inr (refl, e)
 then_less Greater p e = let k : ◌≡◌ {A = ℕ} 0 1 = cc in absurd (omega arith)
@@ -138,7 +129,7 @@ order_trans (x ∷ xs) (y ∷ ys) (z ∷ zs) p q =
     go (inr h) (inl k) ih = first (omega (arith, number_equal→ x y h.0, number_less→ y z k))
     go (inr h) (inr k) ih = rw (number_equal x z (number_equal→ x y h.0 ∙ number_equal→ y z k.0)) (ih h.1 k.1)
 
-one_of : (o p : Order) → p ≡ opposite o → (o ≡ Less) ⊎ ((o ≡ Equal) ⊎ (p ≡ Less))
+one_of : (o p : Ordering) → p ≡ opposite o → (o ≡ Less) ⊎ ((o ≡ Equal) ⊎ (p ≡ Less))
 one_of Less p e = inl refl
 one_of Equal p e = inr (inl refl)
 one_of Greater p e = inr (inr e)

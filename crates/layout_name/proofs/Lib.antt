@@ -1,7 +1,7 @@
--- Laws of the order of names, and what the comparing loops are made of.
+-- Laws of the order of names, what std's methods give of bytes, and what the comparing functions are made of.
 pub mod Laws
-pub mod Cases
-pub mod Bytes
+pub mod Keys
 pub mod Turn
-pub mod Raised
 pub mod Front
+pub mod Raised
+pub mod Cases

@@ -1,11 +1,6 @@
 -- The last of fourteen bytes tells which of the two tests for no entry is needed. Assumes nothing.
-use Prim.Native.Nat.{ℕ, zero, suc, ◌<◌}
-use mathlib.Core.Path.{◌≡◌, sym, ap, ◌∙◌}
-use mathlib.Core.Bool.{Bool, false, ◌&&◌, and-false, or-false}
-use mathlib.Core.List.{List, [], ◌∷◌}
-use native.Mathlib.Omega.{arith}
-use lib.Dec.{eqb}
-use lib.ListN.{length, get_or}
+use Rattle.std.proofs.Common.{ℕ, zero, suc, ◌<◌, ◌≡◌, sym, ap, ◌∙◌, Bool, false, ◌&&◌, List, [], ◌∷◌, arith, eqb, length, get_or}
+use Rattle.std.proofs.Math.Bool.{and-false, or-false}
 use borrow.Author.Tests.{ne_eqb}
 use Rattle.layout_bytes.specs.Bytes.{all}
 use Rattle.layout_node.specs.Header.{is_blank}
@@ -22,11 +17,10 @@ module _ (h : List ℕ) (long : length h ≡ 14) where
   unfolding is_blank
   ones r e f = rw (not_all 0 h 13 (omega arith) (λ g. omega arith), ← e) (sym (or-false r))
 
-  module _ (not-ones : get_or h 13 0 ≡ 255 → ⊥) where
-    pub zeros : (r : Bool) → r ≡ all 0 h → r ≡ is_blank h
-    unfolding is_blank
-    zeros r e = rw (not_all 255 h 13 (omega arith) not-ones) e
+  pub zeros : (r : Bool) → r ≡ all 0 h → get_or h 13 0 ≡ 0 → r ≡ is_blank h
+  unfolding is_blank
+  zeros r e f = rw (not_all 255 h 13 (omega arith) (λ g. omega arith)) e
 
-    pub neither : (get_or h 13 0 ≡ 0 → ⊥) → false ≡ is_blank h
-    unfolding is_blank
-    neither n = rw (not_all 255 h 13 (omega arith) not-ones, not_all 0 h 13 (omega arith) n)
+  pub neither : (get_or h 13 0 ≡ 255 → ⊥) → (get_or h 13 0 ≡ 0 → ⊥) → false ≡ is_blank h
+  unfolding is_blank
+  neither m n = rw (not_all 255 h 13 (omega arith) m, not_all 0 h 13 (omega arith) n)

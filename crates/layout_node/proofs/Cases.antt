@@ -1,5 +1,5 @@
 -- The scope's cases that speak of an entry's length. Assumes nothing.
-use mathlib.Core.Path.{◌≡◌, refl}
+use Rattle.std.proofs.Common.{◌≡◌, refl}
 use Rattle.layout_node.specs.Header.{entry_length}
 
 -- a name of 255 bytes: the entry's length is 272

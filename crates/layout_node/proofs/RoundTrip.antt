@@ -1,10 +1,5 @@
 -- The fourteen bytes of a header are read back as its fields, and the fields that fourteen bytes say are written as those bytes. Assumes nothing.
-use Prim.Native.Nat.{ℕ, zero, suc, ◌+◌, ◌*◌, ◌<◌}
-use mathlib.Core.Path.{◌≡◌, refl, sym, ap, ap₂, ◌∙◌}
-use mathlib.Core.List.{List, [], ◌∷◌, ◌++◌}
-use native.Mathlib.Omega.{arith}
-use lib.ListN.{length, get_or, drop, drop_of_length-le}
-use lib.Seq.{drop-cons}
+use Rattle.std.proofs.Common.{ℕ, zero, suc, ◌+◌, ◌*◌, ◌<◌, ◌≡◌, refl, sym, ap, ap₂, ◌∙◌, List, [], ◌∷◌, ◌++◌, arith, length, get_or, drop, drop_of_length-le, drop-cons}
 use Rattle.layout_bytes.specs.Bytes.{le16, le32}
 use Rattle.layout_bytes.proofs.Numbers.{u16_le16, u32_le32, le16_u16, le32_u32}
 use Rattle.layout_node.specs.declared.Header.{Header}

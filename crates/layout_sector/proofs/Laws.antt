@@ -1,11 +1,5 @@
 -- Laws of the sector counter, for every alignment from 1 on. Assumes nothing.
-use Prim.Native.Nat.{ℕ, ◌+◌, ◌-◌, ◌*◌, ◌/◌, ◌%◌, ◌≤◌, ◌<◌}
-use mathlib.Core.Path.{◌≡◌, refl, sym, ap}
-use mathlib.Core.Bool.{Bool, true, false}
-use mathlib.Core.List.{[]}
-use native.Mathlib.Omega.{arith}
-use native.Mathlib.Nat.{div-add-mod', mod-lt}
-use lib.Dec.{ltb, eqb}
+use Rattle.std.proofs.Common.{ℕ, ◌+◌, ◌-◌, ◌*◌, ◌/◌, ◌%◌, ◌≤◌, ◌<◌, ◌≡◌, refl, sym, ap, Bool, true, false, [], arith, div-add-mod', mod-lt, ltb, eqb}
 use borrow.Author.Tests.{lt-ltb, ltb-true, eqb-false}
 use Rattle.units.specs.Told.{gives, refuses, pick}
 use Rattle.layout_sector.specs.Counter.{Run, sectors_for, aligned_up, last_free, take_of}

@@ -1,25 +1,9 @@
 -- What taking answers, from the tests that led there. Assumes nothing.
-use Prim.Native.Nat.{ℕ, ◌+◌, ◌-◌, ◌/◌, ◌%◌, ◌≤◌, ◌<◌}
-use mathlib.Core.Path.{◌≡◌, sym}
-use mathlib.Core.List.{[]}
-use native.Mathlib.Omega.{arith}
+use Rattle.std.proofs.Common.{ℕ, ◌+◌, ◌-◌, ◌/◌, ◌%◌, ◌≤◌, ◌<◌, ◌≡◌, sym, [], arith}
 use borrow.Author.Tests.{eq-eqb, ne_eqb, lt-ltb, le-ltb}
 use Rattle.units.specs.Told.{gives, refuses}
 use Rattle.layout_sector.specs.Counter.{sectors_for, aligned_up, take_of}
 use Rattle.layout_sector.proofs.Laws.{takes_some, aligned_one}
-
--- the sectors of a length: none of it, whole sectors, a part of one more
-pub for_none : (n : ℕ) → n ≡ 0 → 1 ≡ sectors_for n
-unfolding sectors_for
-for_none n e = sym (simp (eq-eqb _ _ e))
-
-pub for_whole : (n : ℕ) → (n ≡ 0 → ⊥) → n % 2048 ≡ 0 → n / 2048 ≡ sectors_for n
-unfolding sectors_for
-for_whole n h e = let k : n / 2048 ≡ (n + 2047) / 2048 = omega arith in rw (ne_eqb _ _ h) k
-
-pub for_more : (n : ℕ) → (n ≡ 0 → ⊥) → (n % 2048 ≡ 0 → ⊥) → n / 2048 + 1 ≡ sectors_for n
-unfolding sectors_for
-for_more n h e = let k : n / 2048 + 1 ≡ (n + 2047) / 2048 = omega arith in rw (ne_eqb _ _ h) k
 
 -- taking with alignment 1
 module _ (next n x count : ℕ) (at : x ≡ next) (takes : count ≡ sectors_for n) where

@@ -1,9 +1,10 @@
 -- How sectors are handed out: from the next free one, moving on by what a length takes. Assumes nothing.
 -- The alignment is 1 today: every start is a multiple of it. Another alignment is another argument of `take_of`.
-use Rattle.std.specs.Prelude.{ℕ, ◌+◌, ◌-◌, ◌*◌, ◌/◌, [], ltb, eqb}
+use Rattle.std.specs.Prelude.{ℕ, ◌+◌, ◌-◌, ◌*◌, ◌/◌, [], ltb, eqb, Result, Ok, Err}
 use Rattle.units.specs.Told.{Told, gives, refuses, pick}
-use Rattle.layout_sector.specs.declared.Taken.{Taken}
-use Rattle.layout_sector.specs.declared.Taken.TheVariants.{Start, SectorOverflow}
+use Rattle.units.specs.declared.Sector.{Sector}
+use Rattle.layout_sector.specs.declared.SectorCounter.{SectorCounter}
+use Rattle.layout_sector.specs.declared.SectorOverflow.{SectorOverflow}
 
 -- the sectors that a length takes: the length over 2,048, rounded up; a length of 0 takes one (sector.rs)
 unfoldable pub sectors_for : ℕ → ℕ
@@ -30,6 +31,6 @@ take_of align next n =
     pick (ltb last_free free) (refuses 8 []) (gives (record { start = start; free = free }))
 
 -- what each answer stands for
-abbrev pub told : Taken → Told Run
-told (Start s c) = gives (record { start = s.0; free = c.next.0 })
-told SectorOverflow = refuses 8 []
+abbrev pub told : Result (Sector × SectorCounter) SectorOverflow → Told Run
+told (Ok p) = gives (record { start = p.0.0; free = p.1.next.0 })
+told (Err e) = refuses 8 []

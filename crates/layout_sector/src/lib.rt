@@ -2,34 +2,36 @@
 #![tactic(auto)]
 
 ghost use Rattle.std.specs.Prelude.{◌≡◌};
+ghost use Rattle.units.specs.Told.{number_of};
 ghost use Rattle.layout_sector.specs.Counter.{sectors_for, told, take_of};
 
 use units::Sector;
 
 // The next free sector. Its field is private: sectors are handed out by `take` alone.
-#[derive(Clone, Copy)]
+#[derive(Clone, Copy, Debug, PartialEq, Eq)]
 pub struct SectorCounter {
     next: Sector,
 }
 
-// What taking answers.
-#[derive(Clone, Copy)]
-pub enum Taken {
-    // The first of the sectors taken, and the counter past the last of them.
-    Start(Sector, SectorCounter),
-    // 8: the next free sector would exceed 4,294,967,295.
-    SectorOverflow,
+// 8: the next free sector would exceed 4,294,967,295.
+#[derive(Clone, Copy, Debug, PartialEq, Eq)]
+pub struct SectorOverflow;
+
+impl SectorOverflow {
+    // The number of the refusal.
+    pub fn number(self) -> u32
+        ensures { result ≡ number_of (told (Err self)) }
+    {
+        8
+    }
 }
 
 // The sectors that a length takes: its 2,048-byte sectors, rounded up; a length of 0 takes one.
+#[tactic(auto, unfolding(crate::specs::Counter::sectors_for))]
 pub fn required_sectors(length: u64) -> u64
     ensures { result ≡ sectors_for length }
 {
-    if length == 0 {
-        return 1;
-    }
-    let whole = length / 2048;
-    if length % 2048 == 0 { whole } else { whole + 1 }
+    length.div_ceil(2048).max(1)
 }
 
 impl SectorCounter {
@@ -59,22 +61,21 @@ impl SectorCounter {
         self.next
     }
 
-    // Takes the sectors of a length.
-    pub fn take(self, length: u64) -> Taken
+    // Takes the sectors of a length: the first of them, and the counter past the last of them.
+    pub fn take(self, length: u64) -> Result<(Sector, SectorCounter), SectorOverflow>
         ensures { told result ≡ take_of 1 self.next.0 length }
     {
         let start = self.next;
         let count = required_sectors(length);
-        let left = 4294967295 - start.number();
-        if (left as u64) < count {
-            return Taken::SectorOverflow;
+        // (`as`, since a call of `u64::from` says no value to the proof.)
+        let left = (u32::MAX - start.number()) as u64;
+        if left < count {
+            return Err(SectorOverflow);
         }
         let free = start.number() + (count as u32);
-        Taken::Start(
-            start,
-            SectorCounter {
-                next: Sector::new(free),
-            },
-        )
+        let after = SectorCounter {
+            next: Sector::new(free),
+        };
+        Ok((start, after))
     }
 }

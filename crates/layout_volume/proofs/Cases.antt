@@ -1,8 +1,5 @@
 -- Stamps as bytes, computed. Assumes nothing.
-use Prim.Native.Nat.{ℕ}
-use mathlib.Core.Path.{◌≡◌, refl}
-use mathlib.Core.List.{[], ◌∷◌}
-use lib.ListN.{take, drop, replicate}
+use Rattle.std.proofs.Common.{ℕ, ◌≡◌, refl, [], ◌∷◌, take, drop, replicate}
 use Rattle.layout_volume.specs.declared.Descriptor.{Descriptor}
 use Rattle.layout_volume.specs.Descriptor.{descriptor_bytes}
 

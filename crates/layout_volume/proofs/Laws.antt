@@ -1,10 +1,5 @@
 -- A descriptor has 2,048 bytes, is read back from them, and is never read from fewer. Assumes nothing. (Stamp.antt has what depends on the stamp.)
-use Prim.Native.Nat.{ℕ, ◌+◌, ◌≤◌, ◌<◌}
-use mathlib.Core.Path.{◌≡◌, refl}
-use mathlib.Core.Bool.{Bool, true, false, ◌&&◌}
-use mathlib.Core.List.{List, [], ◌++◌}
-use native.Mathlib.Omega.{arith}
-use lib.ListN.{length, take, drop, length-take, length-drop}
+use Rattle.std.proofs.Common.{ℕ, ◌≤◌, ◌<◌, ◌≡◌, refl, Bool, true, false, ◌&&◌, List, [], ◌++◌, arith, length, take, drop, length-take, length-drop}
 use borrow.Author.Tests.{le-ltb}
 use Rattle.units.specs.Told.{gives, refuses, pick}
 use Rattle.layout_bytes.proofs.Numbers.{u32_le32, u64_le64}

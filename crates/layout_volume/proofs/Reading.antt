@@ -1,11 +1,6 @@
 -- What reading a descriptor answers, from the two tests for the mark. Assumes nothing.
-use Prim.Native.Nat.{ℕ, ◌+◌, ◌≤◌, ◌<◌}
-use mathlib.Core.Path.{◌≡◌, sym, ◌∙◌}
-use mathlib.Core.Bool.{Bool, true, false}
-use mathlib.Core.List.{List, []}
-use native.Mathlib.Omega.{arith}
-use native.Mathlib.Decide.{dec_lt}
-use lib.ListN.{length, take, drop, length-take, length-drop}
+use Rattle.std.proofs.Common.{ℕ, ◌+◌, ◌≤◌, ◌<◌, ◌≡◌, sym, ◌∙◌, Bool, true, false, List, [], arith, length, take, drop, length-take, length-drop}
+use Rattle.std.proofs.Math.Decide.{dec_lt}
 use Rattle.units.specs.declared.Sector.{Sector}
 use Rattle.units.specs.Told.{Told, gives, refuses}
 use Rattle.layout_bytes.specs.Bytes.{u32_at, u64_at}
@@ -21,16 +16,13 @@ reaches s at b is e = by (dec_lt (length (take 20 (drop at s))) 20)
     by (yes h) = let z : false ≡ true = sym (shorter (take 20 (drop at s)) mark h) ∙ sym is ∙ e in let k : ◌≡◌ {A = ℕ} 0 1 = cc in absurd (omega arith)
     by (no h) = omega (arith, simp (length-take, length-drop) at h)
 
--- so one that has the second mark has the root's sector and size, and the stamp
-module _ (s : List ℕ) (q : Bool) (second : q ≡ same_list (take 20 (drop 2028 s)) mark) (has : q ≡ true) where
-  pub sector_inside : 20 + 4 ≤ length s
-  sector_inside = omega (arith, reaches s 2028 q second has)
+-- so one that has the second mark has the whole descriptor
+pub all_inside : (s : List ℕ) (q : Bool) → q ≡ same_list (take 20 (drop 2028 s)) mark → q ≡ true → 2048 ≤ length s
+all_inside s q second has = reaches s 2028 q second has
 
-  pub size_inside : 24 + 4 ≤ length s
-  size_inside = omega (arith, reaches s 2028 q second has)
-
-  pub stamp_inside : 28 + 8 ≤ length s
-  stamp_inside = omega (arith, reaches s 2028 q second has)
+-- and so the stamp
+pub stamp_inside : (s : List ℕ) (q : Bool) → q ≡ same_list (take 20 (drop 2028 s)) mark → q ≡ true → 28 + 8 ≤ length s
+stamp_inside s q second has = omega (arith, all_inside s q second has)
 
 module _ (s : List ℕ) (p : Bool) (first : p ≡ same_list (take 20 s) mark) where
   pub no_first : p ≡ false → refuses 20 [] ≡ read_of s

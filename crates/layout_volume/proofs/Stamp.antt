@@ -1,13 +1,6 @@
 -- What depends on the stamp: eight bytes of a descriptor, the stamp that is read, and the date. Assumes nothing.
-use Prim.Native.Nat.{ℕ, zero, suc, ◌+◌, ◌<◌}
-use mathlib.Core.Path.{◌≡◌, refl, sym, ap, ◌∙◌}
-use mathlib.Core.Bool.{Bool, true, false, ◌&&◌}
-use mathlib.Core.List.{List, [], ◌++◌}
-use mathlib.Core.Option.{Option, some, none}
-use native.Mathlib.Omega.{arith}
-use lib.Dec.{ltb}
-use lib.ListN.{length, take, drop, replicate}
-use lib.Seq.{get_or-take, take-take, drop-drop}
+use Rattle.std.proofs.Common.{ℕ, zero, suc, ◌+◌, ◌<◌, ◌≡◌, refl, sym, ap, ◌∙◌, Bool, true, false, ◌&&◌, List, [], ◌++◌, arith, ltb, length, take, drop, replicate, get_or-take, take-take, drop-drop}
+use Rattle.std.proofs.Math.Option.{Option, some, none}
 use borrow.Author.Tests.{ne_eqb}
 use Rattle.units.specs.declared.Region.{Region}
 use Rattle.units.specs.Told.{Told, gives, refuses, pick}

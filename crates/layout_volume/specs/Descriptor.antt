@@ -1,18 +1,15 @@
 -- The volume descriptor: the mark, root sector u32, root size u32, stamp u64, 1,992 unused bytes, the mark again; 2,048
 -- bytes in all. The unused bytes are zero (volume.rs). A stamp counts 100 ns since the start of 1601. Assumes nothing.
-use Rattle.std.specs.Prelude.{ℕ, ◌+◌, Bool, true, false, ◌&&◌, List, [], ◌∷◌, ◌++◌, ltb, eqb, length}
-use Rattle.std.specs.Prelude.{take, drop, replicate}
+use Rattle.std.specs.Prelude.{ℕ, Bool, true, false, ◌&&◌, List, [], ◌∷◌, ◌++◌, ltb, eqb, length}
+use Rattle.std.specs.Prelude.{take, drop, replicate, Result, Ok, Err, Some, None}
+use Rattle.std.specs.Prelude.{Option as RustOption}
 use Rattle.std.proofs.Math.Option.{Option, some, none}
 use Rattle.units.specs.Told.{Told, gives, refuses, pick}
 use Rattle.units.specs.declared.Region.{Region}
 use Rattle.layout_bytes.specs.Bytes.{u32_at, u64_at, le32, le64}
 use Rattle.layout_volume.specs.declared.Descriptor.{Descriptor}
-use Rattle.layout_volume.specs.declared.DescriptorWritten.{DescriptorWritten}
-use Rattle.layout_volume.specs.declared.DescriptorWritten.TheVariants.{Done, BufferTooSmall}
-use Rattle.layout_volume.specs.declared.DescriptorRead.{DescriptorRead}
-use Rattle.layout_volume.specs.declared.DescriptorRead.TheVariants.{Volume, NoVolume}
-use Rattle.layout_volume.specs.declared.Date.{Date}
-use Rattle.layout_volume.specs.declared.Date.TheVariants.{Missing, At}
+use Rattle.layout_volume.specs.declared.BufferTooSmall.{BufferTooSmall}
+use Rattle.layout_volume.specs.declared.NoVolume.{NoVolume}
 
 -- the twenty bytes `MICROSOFT*XBOX*MEDIA`
 abbrev pub mark : List ℕ
@@ -31,9 +28,9 @@ same_list (x ∷ xs) [] = false
 same_list (x ∷ xs) (y ∷ ys) = eqb x y && same_list xs ys
 
 -- writing: 9 where the output is shorter than 2,048 bytes; else its first 2,048 bytes are the descriptor's
-abbrev pub write_told : DescriptorWritten → Told (Unit {0})
-write_told Done = gives tt
-write_told BufferTooSmall = refuses 9 []
+abbrev pub write_told : Result (Unit {0}) BufferTooSmall → Told (Unit {0})
+write_told (Ok u) = gives tt
+write_told (Err e) = refuses 9 []
 
 unfoldable pub write_of : List ℕ → Told (Unit {0})
 write_of out = pick (ltb (length out) 2048) (refuses 9 []) (gives tt)
@@ -42,9 +39,9 @@ unfoldable pub bytes_after : List ℕ → Descriptor → List ℕ
 bytes_after out d = pick (ltb (length out) 2048) out (descriptor_bytes d ++ drop 2048 out)
 
 -- reading: both marks must stand, whole (else 20); then root sector and size, and the stamp
-abbrev pub read_told : DescriptorRead → Told Descriptor
-read_told (Volume d) = gives d
-read_told NoVolume = refuses 20 []
+abbrev pub read_told : Result Descriptor NoVolume → Told Descriptor
+read_told (Ok d) = gives d
+read_told (Err e) = refuses 20 []
 
 unfoldable pub read_of : List ℕ → Told Descriptor
 read_of s =
@@ -58,9 +55,9 @@ root_alone (gives d) = gives d.root
 root_alone (refuses k vs) = refuses k vs
 
 -- the date that a stamp stands for: none where it is 0
-abbrev pub date_told : Date → Option ℕ
-date_told Missing = none
-date_told (At stamp) = some stamp
+abbrev pub date_told : RustOption ℕ → Option ℕ
+date_told None = none
+date_told (Some stamp) = some stamp
 
 unfoldable pub date_of : ℕ → Option ℕ
 date_of stamp = pick (eqb stamp 0) none (some stamp)

@@ -15,8 +15,7 @@ use Rattle.read_entry.specs.Links.{is_in, absent_under}
 use Rattle.read_lookup.specs.Lookup.{by_link, step_at, chain_from, lookup_by}
 use Rattle.read_lookup.proofs.Cases.{file}
 use Rattle.read_path.specs.Path.{trim, split, unended, parts_from, path_by, path_of}
-use Rattle.limits_rule.specs.declared.Limits.{Limits}
-use Rattle.limits_rule.specs.Limits.{volume_in, allowed_at, file_of, load_of, refused_by, limits_of}
+use Rattle.limits_rule.specs.Limits.{Limits, volume_in, allowed_at, file_of, load_of, refused_by, limits_of}
 
 -- the descriptor of a volume whose root table stands at sector 33 and has a size, with a stamp
 abbrev volume : ℕ → ℕ → List ℕ

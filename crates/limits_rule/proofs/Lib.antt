@@ -4,3 +4,5 @@ pub mod Steps
 pub mod Outcomes
 pub mod Numbers
 pub mod Cases
+pub mod Refused
+pub mod Told

@@ -9,13 +9,12 @@ use Rattle.units.specs.Told.{refuses}
 use Rattle.units.specs.declared.Sector.{Sector}
 use Rattle.units.specs.declared.Region.{Region}
 use Rattle.layout_volume.specs.declared.Descriptor.{Descriptor}
-use Rattle.read_entry.specs.Entry.{Placed}
+use Rattle.read_entry.specs.declared.Placed.{Placed}
 use Rattle.read_entry.specs.Links.{walk_absent, is_in}
 use Rattle.read_path.specs.Path.{path_of}
 use Rattle.read_path.proofs.Rules.{path_by_rule}
 use Rattle.read_path.proofs.Numbers.{OfPath, path-refuses}
-use Rattle.limits_rule.specs.declared.Limits.{Limits}
-use Rattle.limits_rule.specs.Limits.{limits_of}
+use Rattle.limits_rule.specs.Limits.{Limits, limits_of}
 use Rattle.limits_rule.specs.Outcome.{loaded, Accepts, Outcome, accepted, no_volume, no_date, clock_back, too_old, by_path, not_a_file}
 use Rattle.limits_rule.proofs.Outcomes.{outcome, outcome_one}
 

@@ -13,10 +13,9 @@ use Rattle.layout_node.specs.Header.{is_directory}
 use Rattle.layout_volume.specs.declared.Descriptor.{Descriptor}
 use Rattle.layout_volume.specs.Descriptor.{date_of}
 use Rattle.layout_volume.proofs.Stamp as stamps
-use Rattle.read_entry.specs.Entry.{Placed}
+use Rattle.read_entry.specs.declared.Placed.{Placed}
 use Rattle.read_path.specs.Path.{path_of}
-use Rattle.limits_rule.specs.declared.Limits.{Limits}
-use Rattle.limits_rule.specs.Limits.{volume_in, allowed_at, file_of, and_then, answered, limits_of}
+use Rattle.limits_rule.specs.Limits.{Limits, volume_in, allowed_at, file_of, and_then, answered, limits_of}
 use Rattle.limits_rule.specs.Outcome.{Allows, Outcome, accepted, no_volume, no_date, clock_back, too_old, by_path, not_a_file}
 use Rattle.limits_rule.proofs.Steps.{undated, before, older, allowed, file, directory, from_root, without_volume, by_volume}
 use Rattle.limits_rule.proofs.Marks.{volume_20, unmarked_volume, refused_unmarked}

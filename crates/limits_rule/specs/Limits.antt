@@ -2,6 +2,7 @@
 -- with all three 0. The order of refusals is 20, 40, 41, 42, the path's, 43. Times and ages count 100 ns, as a stamp
 -- does. Assumes nothing.
 use Rattle.std.specs.Prelude.{ℕ, ◌*◌, ◌-◌, List, [], ltb, leb, drop}
+use Rattle.std.specs.Prelude.{Result, Ok, Err}
 use Rattle.std.proofs.Math.Option.{Option, some, none}
 use Rattle.units.specs.Told.{Told, gives, refuses, pick}
 use Rattle.units.specs.declared.Sector.{Sector}
@@ -10,7 +11,19 @@ use Rattle.layout_node.specs.Header.{is_directory}
 use Rattle.layout_volume.specs.declared.Descriptor.{Descriptor}
 use Rattle.layout_volume.specs.Descriptor.{read_of, date_of}
 use Rattle.read_path.specs.Path.{path_of}
-use Rattle.limits_rule.specs.declared.Limits.{Limits}
+use Rattle.read_path.specs.declared.PathError.{PathError}
+use Rattle.read_path.specs.Path as following
+use Rattle.limits_rule.specs.declared.Limits.{Limits as Found}
+use Rattle.limits_rule.specs.declared.LimitsError.{LimitsError}
+use Rattle.limits_rule.specs.declared.LimitsError.TheVariants as error
+
+-- what the loader answers: a file's first sector and size and the stamp of its volume, together, with number 0; or the
+-- number of a refusal, and then all three are 0
+pub record Limits : Type 0 where
+  pub number : ℕ
+  pub sector : Sector
+  pub size : ℕ
+  pub stamp : ℕ
 
 -- the volume's descriptor, which stands at sector 32 of the image, wherever the window starts; 20 where the window
 -- starts past it, or a mark differs or is cut
@@ -53,3 +66,17 @@ answered (refuses k vs) = refused_by k
 -- the answer
 unfoldable pub limits_of : List ℕ → Sector → List ℕ → (time age : ℕ) → Limits
 limits_of w first path time age = answered (load_of w first path time age)
+
+-- what a path's refusal stands for: it stays (nothing is given, so nothing comes after it)
+abbrev pub refused_path : PathError → Told Limits
+refused_path e = and_then (following.told (Err e)) (λ x. file_of 0 x.header)
+
+-- what each answer of the code stands for
+abbrev pub told : Result Found LimitsError → Told Limits
+told (Ok x) = gives (record { number = 0; sector = x.sector; size = x.size; stamp = x.stamp })
+told (Err error.NoVolume) = refuses 20 []
+told (Err error.NoDate) = refuses 40 []
+told (Err error.NotYet) = refuses 41 []
+told (Err error.TooOld) = refuses 42 []
+told (Err (error.Path e)) = refused_path e
+told (Err error.IsDirectory) = refuses 43 []

@@ -6,10 +6,9 @@ use Rattle.units.specs.declared.Sector.{Sector}
 use Rattle.layout_node.specs.Header.{is_directory}
 use Rattle.layout_volume.specs.declared.Descriptor.{Descriptor}
 use Rattle.layout_volume.specs.Descriptor.{mark}
-use Rattle.read_entry.specs.Entry.{Placed}
+use Rattle.read_entry.specs.declared.Placed.{Placed}
 use Rattle.read_path.specs.Path.{path_of}
-use Rattle.limits_rule.specs.declared.Limits.{Limits}
-use Rattle.limits_rule.specs.Limits.{volume_in, refused_by}
+use Rattle.limits_rule.specs.Limits.{Limits, volume_in, refused_by}
 
 -- both marks stand at sector 32 of the image, at the sector's first byte and at its byte 2,028
 pub record Marked (w : List ℕ) (first : Sector) : Type 0 where

@@ -5,6 +5,8 @@
 use std::io;
 use std::io::Read;
 
+// (The library's three calls, here and in the other programs: a function for them would need a crate that the
+// programs share.)
 fn main(rt: HostRuntime) -> io::Result<()> {
     let mut input = rt.reader();
     io::copy(&mut input.by_ref().take(65536), &mut io::sink())?;

@@ -3,7 +3,6 @@
 // keeps the 32 sectors from there on.
 #![tactic(auto)]
 
-use loading::Decimal;
 use std::env::{Env, FillError};
 use std::io;
 use std::io::Read;
@@ -18,19 +17,16 @@ fn show_usage(rt: &impl Eprint) -> io::Result<()> {
 // Whether there is an argument of this number.
 fn has_arg(rt: &impl Env, i: usize) -> bool {
     let mut text = [0u8; 1];
-    match rt.arg(i, &mut text) {
-        Ok(_) => true,
-        Err(FillError::TooLong) => true,
-        Err(FillError::NotPresent) => false,
-    }
+    !matches!(rt.arg(i, &mut text), Err(FillError::NotPresent))
 }
 
 // The number that an argument is.
-fn number_of(rt: &impl Env, i: usize) -> Decimal {
+// (`arg` fills a lent buffer and answers how much of it, here and in `load_at`.)
+fn number_of(rt: &impl Env, i: usize) -> Option<u64> {
     let mut text = [0u8; 4096];
     match rt.arg(i, &mut text) {
         Ok(n) => loading::read_decimal(&text[..n]),
-        Err(_) => Decimal::NoNumber,
+        Err(_) => None,
     }
 }
 
@@ -54,10 +50,10 @@ fn main(rt: HostRuntime) -> io::Result<()> {
     if !has_arg(&rt, 3) || has_arg(&rt, 4) {
         return show_usage(&rt);
     }
-    let Decimal::Number(time) = number_of(&rt, 2) else {
+    let Some(time) = number_of(&rt, 2) else {
         return show_usage(&rt);
     };
-    let Decimal::Number(age) = number_of(&rt, 3) else {
+    let Some(age) = number_of(&rt, 3) else {
         return show_usage(&rt);
     };
     load_at(&rt, time, age)

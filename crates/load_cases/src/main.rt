@@ -133,18 +133,12 @@ fn show_window(rt: &impl Print, label: &str, w: &[u8], first: u32) -> io::Result
 
 // The first n bytes; all where there are fewer.
 fn front(w: &[u8], n: usize) -> &[u8] {
-    if w.len() < n {
-        return w;
-    }
-    &w[0..n]
+    &w[..n.min(w.len())]
 }
 
 // The bytes from a place on; none where there are fewer before it.
 fn rest(w: &[u8], from: usize) -> &[u8] {
-    if w.len() < from {
-        return &w[..0];
-    }
-    &w[from..]
+    w.get(from..).unwrap_or(&[])
 }
 
 // Windows of an image's first 34 sectors: sector 31 starts at 63,488, sector 32 at 65,536, sector 33 at 67,584.
@@ -167,10 +161,8 @@ fn show_cut(rt: &impl Print, w: &[u8], n: usize) -> io::Result<()> {
 
 // Windows that end before each byte of the second mark, and one that ends after its last.
 fn show_cuts(rt: &impl Print, w: &[u8]) -> io::Result<()> {
-    let mut n = 2028;
-    while n <= 2048 {
+    for n in 2028..=2048 {
         show_cut(rt, w, n)?;
-        n += 1;
     }
     Ok(())
 }

@@ -1,11 +1,12 @@
 -- What a byte more makes of a number, and what it leaves of the bytes after it. Assumes nothing.
---     below_0, past_9, too_large, one_more             one byte more
+--     no_digit, too_large, one_more                    one byte more
 --     stays_too_large                                  a number that is too large stays so
 --     more, no_more                                    a byte and those after it
 --     empty, begins, goes_on, ends_here, all_read      the reading loop
 use Prim.Native.Nat.{ℕ, suc, ◌+◌, ◌*◌, ◌-◌, ◌/◌, ◌≤◌, ◌<◌}
 use mathlib.Core.Path.{◌≡◌, refl, sym, ap, ◌∙◌}
 use mathlib.Core.Bool.{Bool, true, false}
+use mathlib.Core.Logic.{◌⊎◌, inl, inr}
 use mathlib.Core.List.{List, [], ◌∷◌}
 use mathlib.Core.Option.{Option, some, none}
 use native.Mathlib.Omega.{arith}
@@ -14,9 +15,9 @@ use lib.Dec.{ltb}
 use lib.ListN.{length, drop, get_or, drop_of_length-le}
 use lib.Seq.{drop-cons}
 use borrow.Author.Tests.{lt-ltb, le-ltb, le-leb, lt-leb, ltb-false}
+use Rattle.std.proofs.lemmas.Bool.Decides.{nat_tests}
 use Rattle.units.specs.Told.{pick}
-use Rattle.loading.specs.declared.Decimal.{Decimal}
-use Rattle.loading.specs.declared.Decimal.TheVariants.{Number, NoNumber}
+use Rattle.std.specs.Prelude.{◌==◌, Some, None, SomeIff, Option as Maybe}
 use Rattle.loading.specs.Decimal.{told, is_digit, with_digits, fitting, decimal_of}
 
 low_is_none : (b : ℕ) → b < 48 → is_digit b ≡ false
@@ -39,22 +40,29 @@ near : (m : ℕ) → m < 18446744073709551616 → some m ≡ fitting (some m)
 unfolding fitting
 near m h = simp (lt-ltb m 18446744073709551616 h)
 
-pub below_0 : (n b : ℕ) → b < 48 → none ≡ fitting (with_digits n (b ∷ []))
+-- a byte that is no digit, below 0 or past 9
+pub no_digit : (n b : ℕ) → (b < 48) ⊎ ((48 ≤ b) × (57 < b)) → none ≡ fitting (with_digits n (b ∷ []))
 unfolding with_digits fitting
-below_0 n b h = simp (low_is_none b h)
+no_digit n b (inl h) = simp (low_is_none b h)
+no_digit n b (inr h) = simp (high_is_none b h.1)
 
-pub past_9 : (n b : ℕ) → 57 < b → none ≡ fitting (with_digits n (b ∷ []))
-unfolding with_digits fitting
-past_9 n b h = simp (high_is_none b h)
-
-pub too_large : (n b : ℕ) → 48 ≤ b → b ≤ 57 → (18446744073709551615 - (b - 48)) / 10 < n → none ≡ fitting (with_digits n (b ∷ []))
+-- a digit more: too large, or a number
+pub too_large : (n b : ℕ) → 48 ≤ b → b ≤ 57 → 18446744073709551616 ≤ 10 * n + (b - 48) → none ≡ fitting (with_digits n (b ∷ []))
 unfolding with_digits
-too_large n b g h l = too_far (10 * n + (b - 48)) (omega arith) ∙ simp (digit b g h)
+too_large n b g h l = too_far (10 * n + (b - 48)) l ∙ simp (digit b g h)
 
-pub one_more : (n b : ℕ) → 48 ≤ b → b ≤ 57 → n ≤ (18446744073709551615 - (b - 48)) / 10
-    → some (10 * n + (b - 48)) ≡ fitting (with_digits n (b ∷ []))
+pub one_more : (n b : ℕ) → 48 ≤ b → b ≤ 57 → (k : ℕ) → k ≡ 10 * n + (b - 48) → k < 18446744073709551616 → some k ≡ fitting (with_digits n (b ∷ []))
 unfolding with_digits
-one_more n b g h l = near (10 * n + (b - 48)) (omega arith) ∙ simp (digit b g h)
+one_more n b g h k e l = rw e (near (10 * n + (b - 48)) (omega arith) ∙ simp (digit b g h))
+
+-- as the code multiplies and adds
+pub mul_none : (n b : ℕ) → 48 ≤ b → b ≤ 57 → (n * 10 < 18446744073709551616 → ⊥) → (r : Maybe ℕ) → r ≡ None → told r ≡ fitting (with_digits n (b ∷ []))
+mul_none n b g h l r e = rw e (too_large n b g h (omega arith))
+
+pub added : (n b m d : ℕ) → 48 ≤ b → b ≤ 57 → m ≡ n * 10 → d ≡ b - 48 → (r : Maybe ℕ) → SomeIff r (m + d < 18446744073709551616) (m + d)
+    → told r ≡ fitting (with_digits n (b ∷ []))
+added n b m d g h e f None l = too_large n b g h (omega arith)
+added n b m d g h e f (Some k) l = one_more n b g h k (omega (arith, l.1)) (omega (arith, l.0, l.1))
 
 if_digit : (t : Bool) (x : Option ℕ) → none ≡ fitting x → none ≡ fitting (pick t x none)
 unfolding fitting
@@ -95,27 +103,26 @@ unfolding with_digits
 no_more n b s e = none_by (is_digit b) (10 * n + (b - 48)) s e
 
 -- the reading loop
-pub empty : (s : List ℕ) → length s ≡ 0 → none ≡ decimal_of s
+pub empty : (s : List ℕ) → true ≡ (length s == 0) → none ≡ decimal_of s
 unfolding decimal_of
-empty [] h = refl
-empty (b ∷ s) h = absurd (omega arith)
+empty [] e = refl
+empty (b ∷ s) e = absurd (grind (arith, nat_tests))
 
-pub begins : (s : List ℕ) → (length s ≡ 0 → ⊥) → decimal_of s ≡ fitting (with_digits 0 s)
+pub begins : (s : List ℕ) → false ≡ (length s == 0) → decimal_of s ≡ fitting (with_digits 0 s)
 unfolding decimal_of
-begins [] h = absurd (h refl)
-begins (b ∷ s) h = refl
+begins [] e = let z : ◌≡◌ {A = ℕ} 0 1 = cc in absurd (omega arith)
+begins (b ∷ s) e = refl
 
 module _ (s : List ℕ) (i n : ℕ) (so : decimal_of s ≡ fitting (with_digits n (drop i s))) where
-  pub goes_on : (r : Decimal) (j m : ℕ) → i < length s → told r ≡ fitting (with_digits n (get_or s i 0 ∷ [])) → r ≡ Number m → j ≡ i + 1
-      → decimal_of s ≡ fitting (with_digits m (drop j s))
-  goes_on r j m h e k f =
+  -- the byte at i is read, and its answer goes on or ends the reading
+  pub goes_on : (j m : ℕ) → i < length s → told (Some m) ≡ fitting (with_digits n (get_or s i 0 ∷ [])) → j ≡ i + 1 → decimal_of s ≡ fitting (with_digits m (drop j s))
+  goes_on j m h e f =
       so ∙ ap (λ (x : List ℕ). fitting (with_digits n x)) (drop-cons s i 0 h)
-      ∙ more n (get_or s i 0) m (drop (suc i) s) (ap told (sym k) ∙ e)
+      ∙ more n (get_or s i 0) m (drop (suc i) s) e
       ∙ ap (λ (x : ℕ). fitting (with_digits m (drop x s))) (sym (f ∙ add-one i))
 
-  pub ends_here : (r : Decimal) → i < length s → told r ≡ fitting (with_digits n (get_or s i 0 ∷ [])) → r ≡ NoNumber → none ≡ decimal_of s
-  ends_here r h e k =
-      no_more n (get_or s i 0) (drop (suc i) s) (ap told (sym k) ∙ e) ∙ ap (λ (x : List ℕ). fitting (with_digits n x)) (sym (drop-cons s i 0 h)) ∙ sym so
+  pub ends_here : i < length s → told None ≡ fitting (with_digits n (get_or s i 0 ∷ [])) → (r : Maybe ℕ) → r ≡ None → told r ≡ decimal_of s
+  ends_here h e r k = rw k (no_more n (get_or s i 0) (drop (suc i) s) e ∙ ap (λ (x : List ℕ). fitting (with_digits n x)) (sym (drop-cons s i 0 h)) ∙ sym so)
 
   pub all_read : length s ≤ i → n < 18446744073709551616 → some n ≡ decimal_of s
   unfolding with_digits

@@ -1,13 +1,13 @@
 -- What bytes say as a decimal number: at least one digit, first to last, and a number of 64 bits. Assumes nothing.
 use Rattle.std.specs.Prelude.{ℕ, ◌+◌, ◌*◌, ◌-◌, Bool, ◌&&◌, List, [], ◌∷◌, ltb, leb}
+use Rattle.std.specs.Prelude.{Some, None, Option as Maybe}
 use Rattle.std.proofs.Math.Option.{Option, some, none}
 use Rattle.units.specs.Told.{pick}
-use Rattle.loading.specs.declared.Decimal.{Decimal}
-use Rattle.loading.specs.declared.Decimal.TheVariants.{Number, NoNumber}
 
-abbrev pub told : Decimal → Option ℕ
-told (Number n) = some n
-told NoNumber = none
+-- what an answer of the code stands for
+abbrev pub told : Maybe ℕ → Option ℕ
+told (Some n) = some n
+told None = none
 
 -- the bytes of the digits 0 to 9
 unfoldable pub is_digit : ℕ → Bool

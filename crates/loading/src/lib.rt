@@ -5,68 +5,38 @@
 ghost use Rattle.std.specs.Prelude.{◌≡◌, [], ◌∷◌};
 ghost use Rattle.loading.specs.Decimal.{told, with_digits, fitting, decimal_of};
 
-use limits::Limits;
 use std::io;
 use units::Sector;
 
-// What bytes say as a decimal number.
-#[derive(Clone, Copy)]
-pub enum Decimal {
-    Number(u64),
-    // There are none, or one is no digit, or the number is past 18,446,744,073,709,551,615.
-    NoNumber,
-}
-
-// A number with one digit more, which a byte says.
-fn append_digit(n: u64, b: u8) -> Decimal
+// A number with one digit more, which a byte says; none where the byte is no digit or the number is past u64::MAX.
+fn append_digit(n: u64, b: u8) -> Option<u64>
     ensures { told result ≡ fitting (with_digits n (b ∷ [])) }
 {
-    if b < b'0' {
-        return Decimal::NoNumber;
+    if b < b'0' || b'9' < b {
+        return None;
     }
-    if b'9' < b {
-        return Decimal::NoNumber;
-    }
-    let digit = (b - b'0') as u64;
-    if (18446744073709551615 - digit) / 10 < n {
-        return Decimal::NoNumber;
-    }
-    Decimal::Number(10 * n + digit)
+    n.checked_mul(10)?.checked_add(u64::from(b - b'0'))
 }
 
-// The number that bytes say in decimal digits. Zeros may lead.
-pub fn read_decimal(s: &[u8]) -> Decimal
+// The number that bytes say in decimal digits, of which zeros may lead. None where there are no bytes, where one is no
+// digit, and where the number is past u64::MAX.
+// (By hand: `parse` would take a sign before the digits, which is refused here.)
+pub fn read_decimal(s: &[u8]) -> Option<u64>
     ensures { told result ≡ decimal_of s.now }
 {
-    if s.len() == 0 {
-        return Decimal::NoNumber;
+    if s.is_empty() {
+        return None;
     }
     let mut n = 0;
-    let mut i = 0;
-    while i < s.len() {
-        match append_digit(n, s[i]) {
-            Decimal::Number(m) => {
-                n = m;
-            }
-            Decimal::NoNumber => {
-                return Decimal::NoNumber;
-            }
-        }
-        i += 1;
+    for b in s {
+        n = append_digit(n, *b)?;
     }
-    Decimal::Number(n)
+    Some(n)
 }
 
-// A line of sector, size and stamp; or the refusal's number.
-fn show_answer(rt: &impl Print, a: Limits) -> io::Result<()> {
-    if a.number != 0 {
-        return println!(rt; "refused {}", a.number);
-    }
-    let sector = a.sector;
-    println!(rt; "{} {} {}", sector.number(), a.size, a.stamp)
-}
-
-// Loads a file's limits, and shows them or the refusal.
+// Loads a file's limits, and shows them on a line, sector, size and stamp; or the refusal's number.
+// (By its parts and with no Display: the line is that of these programs alone. Its parameters are those of
+// `load_limits`.)
 pub fn show_limits(
     rt: &impl Print,
     w: &[u8],
@@ -75,5 +45,8 @@ pub fn show_limits(
     time: u64,
     age: u64,
 ) -> io::Result<()> {
-    show_answer(rt, limits::load_limits(w, first, path, time, age))
+    match limits::load_limits(w, first, path, time, age) {
+        Ok(found) => println!(rt; "{} {} {}", found.sector.number(), found.size, found.stamp),
+        Err(e) => println!(rt; "refused {}", e.number()),
+    }
 }

@@ -8,7 +8,7 @@ use borrow.Author.Tests.{ne_eqb}
 use Rattle.units.specs.Told.{Told, gives, refuses, pick}
 use Rattle.units.specs.declared.Sector.{Sector}
 use Rattle.units.specs.declared.Region.{Region}
-use Rattle.layout_name.specs.declared.Order.{Order}
+use Rattle.std.specs.declared.cmp.Ordering.{Ordering}
 use Rattle.name_role.specs.Roles.{sought_order, bad_sought}
 use Rattle.read_entry.specs.Entry.{Placed, read_at, name_of}
 use Rattle.read_entry.specs.Links.{is_in}
@@ -37,7 +37,7 @@ module _ (absent w : List ℕ) (first : Sector) (t : Region) (name : List ℕ) w
   step_entry o x e = rw e
 
   -- at an entry, by the order of the names
-  pub chain_entry : (o m n : ℕ) (x : Placed) (c : Order) → read_at w first t o ≡ gives (some x) → sought_order name (name_of w x.place x.header.name_len) ≡ c
+  pub chain_entry : (o m n : ℕ) (x : Placed) (c : Ordering) → read_at w first t o ≡ gives (some x) → sought_order name (name_of w x.place x.header.name_len) ≡ c
       → chain (suc m) n o ≡ ending (by_order absent x c) o (n + 1) (λ p. chain m (n + 1) p)
   unfolding chain_from
   chain_entry o m n x c e q = rw (step_entry o x e, q)

@@ -1,8 +1,6 @@
 -- Names by role, computed: case does not count, and what is stored is what was given. Assumes nothing.
-use mathlib.Core.Path.{◌≡◌, refl}
-use mathlib.Core.Bool.{true, false}
-use mathlib.Core.List.{[], ◌∷◌}
-use Rattle.layout_name.specs.declared.Order.TheVariants.{Less, Equal, Greater}
+use Rattle.std.proofs.Common.{◌≡◌, refl, true, false, [], ◌∷◌}
+use Rattle.std.specs.declared.cmp.Ordering.TheVariants.{Less, Equal, Greater}
 use Rattle.layout_name.specs.Order.{number_order, list_order, raised}
 use Rattle.name_role.specs.Roles.{given_keys, stored_keys, sought_keys, stored_of, given_order, stored_order, sought_order, bad_sought}
 

@@ -6,16 +6,11 @@
 --     given_stored, sought_given, stored-length                      between roles, of names that can be stored
 --     stored_is                                                      what a writer that copies a given name's bytes stores
 --     none_good, storable_good, slash_good                           names that can be sought
-use Prim.Native.Nat.{ℕ, ◌≤◌}
-use mathlib.Core.Path.{◌≡◌, refl, ap, ◌∙◌}
-use mathlib.Core.Bool.{Bool, true, false}
-use mathlib.Core.List.{List, [], ◌∷◌, ◌++◌}
-use native.Mathlib.Omega.{arith}
-use lib.Dec.{ltb}
-use lib.ListN.{length, get_or, get_or-map}
+use Rattle.std.proofs.Common.{ℕ, ◌≤◌, ◌≡◌, refl, ap, ◌∙◌, Bool, true, false, List, [], ◌∷◌, ◌++◌, arith, ltb, length, get_or}
+use Rattle.std.proofs.Math.ListN.{get_or-map}
 use Rattle.units.specs.Told.{pick}
-use Rattle.layout_name.specs.declared.Order.{Order}
-use Rattle.layout_name.specs.declared.Order.TheVariants.{Less, Equal}
+use Rattle.std.specs.declared.cmp.Ordering.{Ordering}
+use Rattle.std.specs.declared.cmp.Ordering.TheVariants.{Less, Equal}
 use Rattle.layout_name.specs.Order.{list_order, order_by, raised, name_order}
 use Rattle.layout_name.specs.inner.Order.{opposite}
 use Rattle.layout_name.proofs.Laws.{order_opposite, order_equal, order_equal→, order_trans}
@@ -25,21 +20,21 @@ use Rattle.name_role.proofs.Storable.{is_storable}
 -- ---- what comparing tells
 
 -- what `layout_name::compare` promises of its answer to two names
-abbrev pub Compared : Order → List ℕ → List ℕ → Type 0
+abbrev pub Compared : Ordering → List ℕ → List ℕ → Type 0
 Compared r a b = r ≡ name_order a b
 
 -- of two given names
-pub given_compared : (a b : List ℕ) {r : Order} → Compared r a b → r ≡ given_order a b
+pub given_compared : (a b : List ℕ) {r : Ordering} → Compared r a b → r ≡ given_order a b
 unfolding name_order order_by given_order given_keys
 given_compared a b e = e
 
 -- of two stored names
-pub stored_compared : (a b : List ℕ) {r : Order} → Compared r a b → r ≡ stored_order a b
+pub stored_compared : (a b : List ℕ) {r : Ordering} → Compared r a b → r ≡ stored_order a b
 unfolding name_order order_by stored_order stored_keys
 stored_compared a b e = e
 
 -- of a name that is sought and a stored one
-pub sought_compared : (a b : List ℕ) {r : Order} → Compared r a b → r ≡ sought_order a b
+pub sought_compared : (a b : List ℕ) {r : Ordering} → Compared r a b → r ≡ sought_order a b
 unfolding name_order order_by sought_order sought_keys stored_keys
 sought_compared a b e = e
 

@@ -1,8 +1,5 @@
 -- A given name that can be stored. Assumes nothing.
-use Prim.Native.Nat.{ℕ}
-use mathlib.Core.Bool.{Bool, true, false}
-use mathlib.Core.List.{List, [], ◌∷◌}
-use lib.Dec.{ltb}
+use Rattle.std.proofs.Common.{ℕ, Bool, true, false, List, [], ◌∷◌, ltb}
 use Rattle.units.specs.Told.{pick}
 
 -- every byte is at most 127

@@ -3,7 +3,7 @@
 -- Assumes nothing. What is above cites these names and their laws (proofs/Roles.antt) alone.
 use Rattle.std.specs.Prelude.{ℕ, Bool, true, false, List, [], ◌∷◌, map, ltb}
 use Rattle.units.specs.Told.{pick}
-use Rattle.layout_name.specs.declared.Order.{Order}
+use Rattle.std.specs.declared.cmp.Ordering.{Ordering}
 use Rattle.layout_name.specs.Order.{list_order, raised}
 
 -- the keys of a given name: its bytes, a to z raised
@@ -23,15 +23,15 @@ unfoldable pub stored_of : List ℕ → List ℕ
 stored_of a = a
 
 -- the order of two given names
-unfoldable pub given_order : List ℕ → List ℕ → Order
+unfoldable pub given_order : List ℕ → List ℕ → Ordering
 given_order a b = list_order (given_keys a) (given_keys b)
 
 -- the order of two stored names
-unfoldable pub stored_order : List ℕ → List ℕ → Order
+unfoldable pub stored_order : List ℕ → List ℕ → Ordering
 stored_order a b = list_order (stored_keys a) (stored_keys b)
 
 -- the order of a name that is sought to one that is stored
-unfoldable pub sought_order : List ℕ → List ℕ → Order
+unfoldable pub sought_order : List ℕ → List ℕ → Ordering
 sought_order s b = list_order (sought_keys s) (stored_keys b)
 
 -- a name that cannot be sought (2): some byte is above 127

@@ -14,8 +14,8 @@ use lib.Dec.{eqb}
 use Rattle.units.specs.Told.{Told, gives, refuses, number_of, pick}
 use Rattle.units.specs.declared.Sector.{Sector}
 use Rattle.units.specs.declared.Region.{Region}
-use Rattle.layout_name.specs.declared.Order.{Order}
-use Rattle.layout_name.specs.declared.Order.TheVariants.{Less, Equal, Greater}
+use Rattle.std.specs.declared.cmp.Ordering.{Ordering}
+use Rattle.std.specs.declared.cmp.Ordering.TheVariants.{Less, Equal, Greater}
 use Rattle.name_role.specs.Roles.{sought_order, bad_sought}
 use Rattle.read_entry.specs.Entry.{Placed, read_at, name_of}
 use Rattle.read_entry.specs.Links.{is_in}
@@ -34,7 +34,7 @@ module _ (absent : List ℕ) where
   unfolding by_link
   link_linked k p h e = pick_linked (is_in k absent) k p h e
 
-  order_linked : (x : Placed) (c : Order) (p : ℕ) → x.header.left.0 < 65536 → x.header.right.0 < 65536 → by_order absent x c ≡ onward p → chains.Linked most p
+  order_linked : (x : Placed) (c : Ordering) (p : ℕ) → x.header.left.0 < 65536 → x.header.right.0 < 65536 → by_order absent x c ≡ onward p → chains.Linked most p
   order_linked x Less p l r e = link_linked x.header.left.0 p l e
   order_linked x Equal p l r e = let z : ◌≡◌ {A = ℕ} 0 1 = cc in absurd (omega arith)
   order_linked x Greater p l r e = link_linked x.header.right.0 p r e
@@ -47,7 +47,7 @@ module _ (absent : List ℕ) where
   unfolding by_link
   link_reads k = pick_reads (is_in k absent) k
 
-  order_reads : (x : Placed) (o : Order) → chains.Reading (by_order absent x o)
+  order_reads : (x : Placed) (o : Ordering) → chains.Reading (by_order absent x o)
   order_reads x Less c vs e = link_reads x.header.left.0 c vs e
   order_reads x Equal c vs e = let z : ◌≡◌ {A = ℕ} 0 1 = cc in absurd (omega arith)
   order_reads x Greater c vs e = link_reads x.header.right.0 c vs e
@@ -60,7 +60,7 @@ module _ (absent : List ℕ) where
   unfolding by_link
   link_found k z e = pick-found (is_in k absent) k z e
 
-  order_found : (x : Placed) (c : Order) (z : Placed) → by_order absent x c ≡ found z → (x ≡ z) × (c ≡ Equal)
+  order_found : (x : Placed) (c : Ordering) (z : Placed) → by_order absent x c ≡ found z → (x ≡ z) × (c ≡ Equal)
   order_found x Less z e = absurd (link_found x.header.left.0 z e)
   order_found x Equal z e = (cc, refl)
   order_found x Greater z e = absurd (link_found x.header.right.0 z e)

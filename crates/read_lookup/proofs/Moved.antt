@@ -1,29 +1,26 @@
 -- A lookup in a table's own part of a window, as a table of sector 0 in a window that starts with sector 0, is the lookup in the window, with the entry's place
 -- counted from the part's start. Assumes nothing.
-use Prim.Native.Nat.{ℕ, zero, suc, ◌+◌, ◌-◌, ◌*◌, ◌≤◌}
-use mathlib.Core.Path.{◌≡◌, refl, sym, ap, ◌∙◌}
-use mathlib.Core.Bool.{Bool, true, false}
-use mathlib.Core.List.{List, [], ◌∷◌}
-use mathlib.Core.Option.{Option, some, none}
-use native.Mathlib.Omega.{arith}
+use Rattle.std.proofs.Common.{◌≡◌, ℕ, zero, suc, ◌+◌, ◌-◌, ◌*◌, ◌≤◌, Bool, true, false, List, [], ◌∷◌, length, drop, length-drop, eqb, add_comm, refl, sym, ap, ◌∙◌, arith, Result, Ok, Err}
+use Rattle.std.proofs.Math.Option.{Option, some, none}
+use Rattle.std.specs.Result.{IsErrAnd}
 use borrow.Author.Tests.{eqb-false}
-use lib.Dec.{eqb}
-use lib.ListN.{length, drop, length-drop}
 use Rattle.units.specs.Told.{Told, gives, refuses, pick}
 use Rattle.units.specs.declared.Sector.{Sector}
 use Rattle.units.specs.declared.Offset.{Offset}
 use Rattle.units.specs.declared.Region.{Region}
-use Rattle.layout_name.specs.declared.Order.{Order}
-use Rattle.layout_name.specs.declared.Order.TheVariants.{Less, Equal, Greater}
+use Rattle.std.specs.declared.cmp.Ordering.{Ordering}
+use Rattle.std.specs.declared.cmp.Ordering.TheVariants.{Less, Equal, Greater}
 use Rattle.name_role.specs.Roles.{sought_order, bad_sought}
 use Rattle.layout_node.specs.declared.Header.{Header}
 use Rattle.read_entry.specs.Entry.{Placed, read_at, name_of}
 use Rattle.read_entry.specs.Links.{is_in}
-use Rattle.read_entry.specs.inner.Part.{part_of, placed_on, moved}
+use Rattle.read_entry.specs.declared.Table.{Table}
+use Rattle.read_entry.specs.inner.Part.{part_of, placed_on, moved, IsNarrowed}
 use Rattle.read_entry.proofs.Fit.{entry_held}
 use Rattle.read_entry.proofs.Moved.{read_moved, name_moved, read_nothing, Starts, inside, outside, starts}
-use Rattle.read_lookup.specs.declared.Looked.{Looked}
-use Rattle.read_lookup.specs.declared.Looked.TheVariants as looked
+use Rattle.read_lookup.specs.declared.Found.{Found}
+use Rattle.read_lookup.specs.declared.LookupError.{LookupError}
+use Rattle.read_lookup.specs.declared.LookupError.TheVariants as error
 use Rattle.read_lookup.specs.Lookup.{Leads, found, missing, refused, onward, Finding, by_link, by_order, by_read, step_at, ending, most, chain_from, lookup_by, told}
 use Rattle.read_lookup.proofs.Laws.{found_stands}
 
@@ -42,7 +39,7 @@ link_moved : (b : ℕ) (c : Bool) (k : ℕ) → pick c missing (onward (4 * k)) 
 link_moved b true k = refl
 link_moved b false k = refl
 
-order_moved : (b : ℕ) (absent : List ℕ) (x : Placed) (c : Order) → by_order absent (placed_on b x) c ≡ moved_step b (by_order absent x c)
+order_moved : (b : ℕ) (absent : List ℕ) (x : Placed) (c : Ordering) → by_order absent (placed_on b x) c ≡ moved_step b (by_order absent x c)
 unfolding by_link
 order_moved b absent x Less = link_moved b (is_in x.header.left.0 absent) x.header.left.0
 order_moved b absent x Equal = refl
@@ -119,23 +116,46 @@ part_short_by : (w : List ℕ) (first : Sector) (t : Region) (part : List ℕ) �
 part_short_by w first t part (inside b begins held is base) = let l : length (drop b w) ≡ length w - b = length-drop b w in rw is (omega arith)
 part_short_by w first t part (outside is refused-there) = rw is (omega arith)
 
-pub part_short : (w : List ℕ) (first : Sector) (t : Region) (part : List ℕ) → part ≡ part_of w first t → length part ≤ length w
-part_short w first t part e = part_short_by w first t part (starts w first t part e)
+-- the part is no longer than the window
+pub part_short : (t u : Table) → IsNarrowed t u → length u.window.now ≤ length t.window.now
+part_short t u narrowed = part_short_by t.window.now t.first t.region u.window.now (starts t.window.now t.first t.region u.window.now narrowed.0)
 
--- each answer in the part, as the code has it, and the answer for the window
-module _ (absent w : List ℕ) (first : Sector) (t : Region) (name part : List ℕ) (is-part : part ≡ part_of w first t) (f s : Sector) (f-is : f.0 ≡ 0) (s-is : s.0 ≡ 0)
-    (r : Looked) (looked-in : told r ≡ lookup_by absent part f (record { sector = s; size = t.size }) name) where
-  -- an entry that is found stands in the part
-  pub place_held : (h : Header) (p : ℕ) (o : Offset) (n : ℕ) → r ≡ looked.Found h p o n → p + 14 ≤ length part
-  place_held h p o n e =
-      let u : Region = record { sector = s; size = t.size } in
-      entry_held part f u o.0 (record { header = h; place = p })
-      (found_stands absent part f u name (record { entry = record { header = h; place = p }; offset = o.0; headers = n }) (sym (rw e at looked-in))).0
+-- a refusal stays
+same_refusal : (b : ℕ) (e : LookupError) → told (Err e) ≡ moved_answer b (told (Err e))
+same_refusal b error.BadRule = refl
+same_refusal b error.BadByte = refl
+same_refusal b error.DirectoryEmpty = refl
+same_refusal b (error.DoesNotExist n) = refl
+same_refusal b (error.Read e) = refl
+same_refusal b error.Looped = refl
 
-  module _ (base : ℕ) (base-is : base ≡ length w - length part) where
-    whole : moved_answer base (told r) ≡ lookup_by absent w first t name
-    whole = rw (looked-in, base-is) (sym (lookup_moved absent w first t name f (record { sector = s; size = t.size }) f-is s-is refl part is-part))
+-- the answer in the part, as the code has it, and the answer for the window
+module _ (absent : List ℕ) (t u : Table) (narrowed : IsNarrowed t u) (name : List ℕ) where
+  abbrev over : Told Finding
+  over = lookup_by absent t.window.now t.first t.region name
 
-    -- each answer in the part is that for the window, with the place of what is found counted from the part's start
-    pub there : (q : Looked) → r ≡ q → moved_answer base (told q) ≡ lookup_by absent w first t name
-    there q e = rw e at whole
+  abbrev within : Told Finding
+  within = lookup_by absent u.window.now u.first u.region name
+
+  whole : moved_answer (length t.window.now - length u.window.now) within ≡ over
+  whole = sym (lookup_moved absent t.window.now t.first t.region name u.first u.region narrowed.1 narrowed.2 narrowed.3 u.window.now narrowed.0)
+
+  module _ (x : Found) (found-there : told (Ok x) ≡ within) where
+    -- an entry that is found stands in the part
+    pub place_held : x.entry.place + 14 ≤ length u.window.now
+    place_held =
+        entry_held u.window.now u.first u.region x.offset.0 x.entry
+        (found_stands absent u.window.now u.first u.region name (record { entry = x.entry; offset = x.offset.0; headers = x.headers }) (sym found-there)).0
+
+    -- and in the window, its place is counted from the part's start
+    pub found_over : gives (record {
+      entry = record { header = x.entry.header; place = x.entry.place + (length t.window.now - length u.window.now) };
+      offset = x.offset.0;
+      headers = x.headers;
+    }) ≡ over
+    found_over = rw (add_comm x.entry.place (length t.window.now - length u.window.now)) (ap (moved_answer (length t.window.now - length u.window.now)) found-there ∙ whole)
+
+  -- a refusal in the part is the window's
+  pub refused_over : (e : LookupError) → told (Err e) ≡ within → (r : Result Found LookupError) → IsErrAnd r (λ v. v ≡ e) → told r ≡ over
+  refused_over e refused-there (Ok f) is = elim is [ ]
+  refused_over e refused-there (Err v) is = rw is (same_refusal (length t.window.now - length u.window.now) e ∙ ap (moved_answer (length t.window.now - length u.window.now)) refused-there ∙ whole)

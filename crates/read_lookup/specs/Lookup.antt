@@ -2,18 +2,20 @@
 -- entry's. Assumes nothing. The chain is cut at 65,536 headers, since there are no more offsets that a link can
 -- name: a chain that reaches so many reads some offset twice, and so never ends, and no other does
 -- (proofs/Laws.antt).
-use Rattle.std.specs.Prelude.{ℕ, zero, suc, ◌+◌, ◌*◌, List, [], ◌∷◌, eqb}
+use Rattle.std.specs.Prelude.{ℕ, zero, suc, ◌+◌, ◌*◌, List, [], ◌∷◌, eqb, Result, Ok, Err}
 use Rattle.std.proofs.Math.Option.{Option, some, none}
 use Rattle.units.specs.Told.{Told, gives, refuses, pick}
 use Rattle.units.specs.declared.Sector.{Sector}
 use Rattle.units.specs.declared.Region.{Region}
-use Rattle.layout_name.specs.declared.Order.{Order}
-use Rattle.layout_name.specs.declared.Order.TheVariants.{Less, Equal, Greater}
+use Rattle.std.specs.declared.cmp.Ordering.{Ordering}
+use Rattle.std.specs.declared.cmp.Ordering.TheVariants.{Less, Equal, Greater}
 use Rattle.name_role.specs.Roles.{sought_order, bad_sought}
 use Rattle.read_entry.specs.Entry.{Placed, read_at, name_of}
+use Rattle.read_entry.specs.Entry as reading
 use Rattle.read_entry.specs.Links.{is_in, absent_under, under_rule}
-use Rattle.read_lookup.specs.declared.Looked.{Looked}
-use Rattle.read_lookup.specs.declared.Looked.TheVariants as looked
+use Rattle.read_lookup.specs.declared.Found.{Found}
+use Rattle.read_lookup.specs.declared.LookupError.{LookupError}
+use Rattle.read_lookup.specs.declared.LookupError.TheVariants as error
 
 -- what the header at one offset leads to: the entry sought, nothing, a refusal, or the next offset
 pub data Leads : Type 0 where
@@ -27,7 +29,7 @@ unfoldable pub by_link : List ℕ → ℕ → Leads
 by_link absent k = pick (is_in k absent) missing (onward (4 * k))
 
 -- a lesser name is left, a greater one right
-abbrev pub by_order : List ℕ → Placed → Order → Leads
+abbrev pub by_order : List ℕ → Placed → Ordering → Leads
 by_order absent x Less = by_link absent x.header.left.0
 by_order absent x Equal = found x
 by_order absent x Greater = by_link absent x.header.right.0
@@ -76,12 +78,11 @@ unfoldable pub lookup_of : ℕ → List ℕ → Sector → Region → List ℕ �
 lookup_of rule w first t name = under_rule (absent_under rule) (λ absent. lookup_by absent w first t name)
 
 -- what each answer of the code stands for
-abbrev pub told : Looked → Told Finding
-told (looked.Found h p o n) = gives (record { entry = record { header = h; place = p }; offset = o.0; headers = n })
-told looked.BadRule = refuses 29 []
-told looked.BadByte = refuses 2 []
-told looked.DirectoryEmpty = refuses 21 []
-told (looked.DoesNotExist n) = refuses 22 (n ∷ [])
-told (looked.OutOfBounds o) = refuses 23 (o.0 ∷ [])
-told (looked.Truncated o) = refuses 24 (o.0 ∷ [])
-told looked.Looped = refuses 25 []
+abbrev pub told : Result Found LookupError → Told Finding
+told (Ok f) = gives (record { entry = f.entry; offset = f.offset.0; headers = f.headers })
+told (Err error.BadRule) = refuses 29 []
+told (Err error.BadByte) = refuses 2 []
+told (Err error.DirectoryEmpty) = refuses 21 []
+told (Err (error.DoesNotExist n)) = refuses 22 (n ∷ [])
+told (Err (error.Read e)) = reading.refused e
+told (Err error.Looped) = refuses 25 []

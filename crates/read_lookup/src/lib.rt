@@ -3,44 +3,69 @@
 #![tactic(auto)]
 
 ghost use Rattle.std.specs.Prelude.{◌≡◌, [], ◌∷◌};
-ghost use Rattle.read_entry.specs.Links.{absent_under};
+ghost use Rattle.units.specs.Told.{number_of};
 ghost use Rattle.name_role.specs.Roles.{bad_sought};
-ghost use Rattle.read_lookup.specs.Lookup.{by_link, step_at, told, lookup_by, lookup_of};
-ghost use Rattle.read_lookup.specs.inner.Lookup.{leading, ruling};
+ghost use Rattle.read_lookup.specs.Lookup.{told, lookup_by, lookup_of};
+ghost use Rattle.read_lookup.specs.inner.Lookup.{absent_link};
 
-use layout_name::Order;
-use layout_node::Header;
-use read_entry::Read;
-use units::{Link, Offset, Region, Sector};
+use read_entry::{Placed, ReadError, Table};
+use std::cmp::Ordering;
+use units::Offset;
 
-// What the header at one offset leads to.
-#[derive(Clone, Copy)]
-pub enum Step {
-    // The entry sought, and its place in the window.
-    Found(Header, usize),
-    // No entry, or an absent link.
-    Absent,
-    OutOfBounds(Offset),
-    Truncated(Offset),
-    // The offset to go on with.
-    Next(Offset),
+// Which links are absent in a lookup.
+#[derive(Clone, Copy, Debug, PartialEq, Eq)]
+pub enum Rule {
+    // 1: the links 0 and 255.
+    One,
+    // 2: the links 0 and 65,535, as for the walk.
+    Two,
 }
 
-// What the number of a rule names.
-#[derive(Clone, Copy)]
-pub enum Ruled {
-    // The link that is absent under the rule; 0 is absent under every rule.
-    Absent(u16),
-    // 29: no rule has the number.
-    BadRule,
+// 29: no rule has the number.
+#[derive(Clone, Copy, Debug, PartialEq, Eq)]
+pub struct BadRule;
+
+impl TryFrom<u32> for Rule {
+    type Error = BadRule;
+
+    ghost use Rattle.read_entry.specs.Links.{absent_under};
+    ghost use Rattle.read_lookup.specs.inner.Lookup.{ruling};
+
+    ghost try_from_gives = { λ number r. ruling r ≡ absent_under number };
+
+    #[tactic(auto, unfolding(read_entry::specs::Links::absent_under))]
+    fn try_from(number: u32) -> Result<Rule, BadRule> {
+        match number {
+            1 => Ok(Rule::One),
+            2 => Ok(Rule::Two),
+            _ => Err(BadRule),
+        }
+    }
 }
 
-// What a lookup answers.
+impl Rule {
+    // The link that is absent under the rule; 0 is absent under both.
+    pub fn absent_link(self) -> u16
+        ensures { result ≡ absent_link self }
+    {
+        match self {
+            Rule::One => 0xff,
+            Rule::Two => 0xffff,
+        }
+    }
+}
+
+// What a lookup finds: the entry, its offset in the table, and the number of headers read.
 #[derive(Clone, Copy)]
-pub enum Looked {
-    // The entry: its header, the place in the window of its first byte, its offset in the table; and the number of
-    // headers read.
-    Found(Header, usize, Offset, u32),
+pub struct Found {
+    pub entry: Placed,
+    pub offset: Offset,
+    pub headers: u32,
+}
+
+// Why a lookup finds no entry.
+#[derive(Clone, Copy, Debug, PartialEq, Eq)]
+pub enum LookupError {
     // 29: no rule has the number.
     BadRule,
     // 2: a byte of the name is above 127.
@@ -50,41 +75,44 @@ pub enum Looked {
     // 22: an absent link, or no entry; with the number of headers read.
     DoesNotExist(u32),
     // 23, 24: with the offset that was to be read.
-    OutOfBounds(Offset),
-    Truncated(Offset),
+    Read(ReadError),
     // 25: an offset would be read again.
     Looped,
 }
 
-// A link to go by: 0 and `absent` lead nowhere.
-fn by_link(l: Link, absent: u16) -> Step
-    ensures { leading result ≡ by_link (0 ∷ absent ∷ []) l.0 }
-{
-    let n = l.number();
-    if n == 0 {
-        return Step::Absent;
+impl LookupError {
+    // The number of the refusal.
+    pub fn number(self) -> u32
+        ensures { result ≡ number_of (told (Err self)) }
+    {
+        match self {
+            LookupError::BadRule => 29,
+            LookupError::BadByte => 2,
+            LookupError::DirectoryEmpty => 21,
+            LookupError::DoesNotExist(_) => 22,
+            LookupError::Read(e) => e.number(),
+            LookupError::Looped => 25,
+        }
     }
-    if n == absent {
-        return Step::Absent;
-    }
-    Step::Next(l.offset())
 }
 
-// One step: the header at an offset.
-fn step_at(w: &[u8], first: Sector, table: Region, name: &[u8], absent: u16, offset: Offset) -> Step
-    ensures { leading result ≡ step_at (0 ∷ absent ∷ []) w.now first table name.now offset.0 }
-{
-    match read_entry::read_at(w, first, table, offset) {
-        Read::Entry(h, place) => {
-            match layout_name::compare(name, read_entry::name_of(w, place, h.name_len)) {
-                Order::Less => by_link(h.left, absent),
-                Order::Equal => Step::Found(h, place),
-                Order::Greater => by_link(h.right, absent),
-            }
-        }
-        Read::Nothing => Step::Absent,
-        Read::OutOfBounds(o) => Step::OutOfBounds(o),
-        Read::Truncated(o) => Step::Truncated(o),
+impl From<ReadError> for LookupError {
+    ghost use Rattle.read_lookup.specs.declared.LookupError.TheVariants as error;
+
+    ghost from_gives = { λ e r. r ≡ error.Read e };
+
+    fn from(e: ReadError) -> LookupError {
+        LookupError::Read(e)
+    }
+}
+
+impl From<BadRule> for LookupError {
+    ghost use Rattle.read_lookup.specs.declared.LookupError.TheVariants as error;
+
+    ghost from_gives = { λ e r. r ≡ error.BadRule };
+
+    fn from(_e: BadRule) -> LookupError {
+        LookupError::BadRule
     }
 }
 
@@ -92,85 +120,66 @@ fn step_at(w: &[u8], first: Sector, table: Region, name: &[u8], absent: u16, off
 pub fn is_bad_sought(s: &[u8]) -> bool
     ensures { result ≡ bad_sought s.now }
 {
-    let mut i = 0;
-    while i < s.len() {
-        if 127 < s[i] {
-            return true;
-        }
-        i += 1;
-    }
-    false
+    s.iter().any(|byte| 127 < *byte)
 }
 
 // The entry of a name in a table, by links of which 0 and `absent` lead nowhere. Each header is read by the numbers of
 // the window and of the table.
 // A chain of links that has read 65,536 headers never ends: there are no more offsets that a link can name.
-fn look_in(w: &[u8], first: Sector, table: Region, name: &[u8], absent: u16) -> Looked
-    ensures { told result ≡ lookup_by (0 ∷ absent ∷ []) w.now first table name.now }
+fn look_in(table: Table, name: &[u8], absent: u16) -> Result<Found, LookupError>
+    ensures { let t = table.entry in
+        told result ≡ lookup_by (0 ∷ absent ∷ []) t.window.now t.first t.region name.now }
 {
     if is_bad_sought(name) {
-        return Looked::BadByte;
+        return Err(LookupError::BadByte);
     }
-    let size = table.size;
-    if size == 0 {
-        return Looked::DirectoryEmpty;
+    if table.region.size == 0 {
+        return Err(LookupError::DirectoryEmpty);
     }
-    let mut at = Offset::new(0);
-    let mut headers: u32 = 0;
-    while headers < 65536 {
-        headers += 1;
-        match step_at(w, first, table, name, absent, at) {
-            Step::Found(h, place) => return Looked::Found(h, place, at, headers),
-            Step::Absent => return Looked::DoesNotExist(headers),
-            Step::OutOfBounds(o) => return Looked::OutOfBounds(o),
-            Step::Truncated(o) => return Looked::Truncated(o),
-            Step::Next(o) => at = o,
-        }
+    let mut offset = Offset::new(0);
+    for read in 0..65536 {
+        let headers = read + 1;
+        let Some(entry) = table.read_at(offset)? else {
+            return Err(LookupError::DoesNotExist(headers));
+        };
+        let link = match layout_name::compare(name, entry.name_in(table.window)) {
+            Ordering::Less => entry.header.left,
+            Ordering::Equal => return Ok(Found {
+                entry,
+                offset,
+                headers,
+            }),
+            Ordering::Greater => entry.header.right,
+        };
+        let Some(next) = read_entry::follow(link, absent) else {
+            return Err(LookupError::DoesNotExist(headers));
+        };
+        offset = next;
     }
-    Looked::Looped
+    Err(LookupError::Looped)
 }
 
 // The same. The table is read in its own part of the window, which starts with the table: so nothing is worked out at
 // each header but the header.
-pub fn look_up_by(w: &[u8], first: Sector, table: Region, name: &[u8], absent: u16) -> Looked
-    ensures { told result ≡ lookup_by (0 ∷ absent ∷ []) w.now first table name.now }
+// (`absent` is any number, as the definition has it; a `Rule` would ask more of callers.)
+pub fn look_up_by(table: Table, name: &[u8], absent: u16) -> Result<Found, LookupError>
+    ensures { let t = table.entry in
+        told result ≡ lookup_by (0 ∷ absent ∷ []) t.window.now t.first t.region name.now }
 {
-    let size = table.size;
-    let part = read_entry::part_of(w, first, table);
-    let base = w.len() - part.len();
-    let zero = Sector::new(0);
-    let sector = Sector::new(0);
-    match look_in(part, zero, Region { sector, size }, name, absent) {
-        Looked::Found(h, place, o, n) => Looked::Found(h, base + place, o, n),
-        Looked::BadRule => Looked::BadRule,
-        Looked::BadByte => Looked::BadByte,
-        Looked::DirectoryEmpty => Looked::DirectoryEmpty,
-        Looked::DoesNotExist(n) => Looked::DoesNotExist(n),
-        Looked::OutOfBounds(o) => Looked::OutOfBounds(o),
-        Looked::Truncated(o) => Looked::Truncated(o),
-        Looked::Looped => Looked::Looped,
-    }
-}
-
-// The link that is absent, beside 0, under the rule of a number.
-pub fn absent_under(rule: u32) -> Ruled
-    ensures { ruling result ≡ absent_under rule }
-{
-    if rule == 1 {
-        return Ruled::Absent(0xff);
-    }
-    if rule == 2 {
-        return Ruled::Absent(0xffff);
-    }
-    Ruled::BadRule
+    let part = table.narrowed();
+    let base = table.window.len() - part.window.len();
+    let mut found = look_in(part, name, absent)?;
+    found.entry.place += base;
+    Ok(found)
 }
 
 // The entry of a name in a table, under the rule of a number.
-pub fn look_up(w: &[u8], first: Sector, table: Region, name: &[u8], rule: u32) -> Looked
-    ensures { told result ≡ lookup_of rule w.now first table name.now }
+// (A number and no `Rule`, which would ask more of callers: C gives a number, and one that is no rule is 29.)
+#[tactic(auto, unfolding(crate::specs::Lookup::lookup_of))]
+pub fn look_up(table: Table, name: &[u8], rule: u32) -> Result<Found, LookupError>
+    ensures { let t = table.entry in
+        told result ≡ lookup_of rule t.window.now t.first t.region name.now }
 {
-    match absent_under(rule) {
-        Ruled::Absent(n) => look_up_by(w, first, table, name, n),
-        Ruled::BadRule => Looked::BadRule,
-    }
+    let rule = Rule::try_from(rule)?;
+    look_up_by(table, name, rule.absent_link())
 }

@@ -10,4 +10,5 @@ pub mod Rules
 pub mod Numbers
 pub mod Cases
 pub mod Parts
+pub mod Places
 pub mod Slashes

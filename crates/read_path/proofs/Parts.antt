@@ -1,28 +1,17 @@
 -- A path's parts, as a loop over the path takes them: the first part, and what is left. Assumes nothing.
-use Prim.Native.Nat.{ℕ, zero, suc, ◌+◌, ◌-◌, ◌≤◌, ◌<◌}
-use mathlib.Core.Path.{◌≡◌, refl, sym, ap, ◌∙◌}
-use mathlib.Core.Bool.{Bool, true, false}
-use mathlib.Core.List.{List, [], ◌∷◌}
-use native.Mathlib.Omega.{arith}
-use lib.Dec.{eqb, leb}
-use borrow.Author.Tests.{leb-true, leb-false}
+use Rattle.std.proofs.Common.{◌≡◌, ℕ, zero, suc, ◌+◌, ◌-◌, ◌≤◌, ◌<◌, Bool, true, false, List, [], ◌∷◌, eqb, leb, length, take, drop, length-drop, drop_of_length-le, refl, sym, ap, ◌∙◌, arith, Result}
+use Rattle.std.proofs.Math.Seq.{take-length, drop-drop}
 use native.Mathlib.Decide.{ℕ_discrete}
-use lib.ListN.{length, take, drop, length-drop, drop_of_length-le}
-use lib.Seq.{take-length, drop-drop}
+use borrow.Author.Tests.{leb-true, leb-false}
 use Rattle.units.specs.Told.{Told, refuses, pick}
 use Rattle.units.specs.declared.Sector.{Sector}
 use Rattle.units.specs.declared.Region.{Region}
 use Rattle.read_entry.specs.Entry.{Placed}
-use Rattle.read_lookup.specs.declared.Looked.{Looked}
 use Rattle.read_lookup.specs.Lookup.{Finding, lookup_by}
-use Rattle.read_lookup.specs.Lookup as lookup
-use Rattle.read_path.specs.declared.Turn.{Turn}
-use Rattle.read_path.specs.declared.Turn.TheVariants as turn
-use Rattle.read_path.specs.declared.PathFound.{PathFound}
-use Rattle.read_path.specs.declared.PathFound.TheVariants as path_found
-use Rattle.read_path.specs.Path.{grow, split, unended, last_of, turn_of, onward, parts_from, told}
-use Rattle.read_path.specs.inner.Path.{first_len, turning, turn_at}
+use Rattle.read_path.specs.declared.PathError.{PathError}
+use Rattle.read_path.specs.Path.{Turns, stops, grow, split, unended, last_of, turn_of, onward, parts_from, told}
 use Rattle.read_path.specs.Path as Path
+use Rattle.read_path.specs.inner.Path.{first_len}
 
 -- no slash: one part, the whole
 only_by : (x : ℕ) (xs : List ℕ) (b : Bool) → (first_len xs ≡ length xs → split xs ≡ xs ∷ []) → pick b zero (suc (first_len xs)) ≡ suc (length xs) → pick b ([] ∷ split xs) (grow x (split xs)) ≡ (x ∷ xs) ∷ []
@@ -112,40 +101,53 @@ module _ (absent w : List ℕ) (first : Sector) (t : Region) where
       let left : Some (unended (split rest)) = some_left rest (simp length-drop (omega arith)) in
       rw (first_part l (omega arith), unended_more (take (first_len l) l) (split rest) (some_split rest), left.2)
 
+-- where a part leads, the last or one before it
+abbrev pub turn_at : Bool → Told Finding → Turns
+turn_at last a = pick last (stops (last_of a)) (turn_of a)
+
 -- the last part leads into no table
 not_last : (b : Bool) (a : Told Finding) (u : Region) → Path.into u ≡ turn_at b a → b ≡ false
 not_last true a u e = let z : ◌≡◌ {A = ℕ} 0 1 = cc in absurd (omega arith)
 not_last false a u e = refl
 
--- a turn of the loop, at place i of the path, in the table t; x is the answer of the whole
-module _ (absent w : List ℕ) (first : Sector) (t : Region) (path : List ℕ) (i : ℕ) (x : Told Placed) (so_far : x ≡ parts_from absent w first t (unended (split (drop i path)))) where
-  pub at_end : length path ≤ i → told path_found.NoDirent ≡ x
-  at_end h = sym (so_far ∙ no_part absent w first t (drop i path) (simp length-drop (omega arith)))
+-- a turn of the loop, with a text l left of the path, in the table t; x is the answer of the whole
+module _ (absent w : List ℕ) (first : Sector) (t : Region) (l : List ℕ) (x : Told Placed) (so_far : x ≡ parts_from absent w first t (unended (split l))) where
+  pub at_end : length l ≤ 0 → refuses 28 [] ≡ x
+  at_end h = sym (so_far ∙ no_part absent w first t l h)
 
-  module _ (more : i < length path) (e : ℕ) (ends : (e ≡ i + first_len (drop i path)) × (e ≤ length path)) (a : Looked) (looked : lookup.told a ≡ lookup_by absent w first t (take (e - i) (drop i path))) where
-    part : take (e - i) (drop i path) ≡ take (first_len (drop i path)) (drop i path)
-    part = let d : e - i ≡ first_len (drop i path) = omega (arith, ends.0) in rw d
+  module _ (more : length l ≡ 0 → ⊥) (n : ℕ) (len : n ≡ first_len l) (part after : List ℕ) (part-is : part ≡ take n l) (after-is : after ≡ drop n l) (cut : length after + n ≡ length l)
+      (a : Told Finding) (looked : a ≡ lookup_by absent w first t part) where
+    -- it is the last part
+    pub last : length after ≤ 1 → x ≡ last_of a
+    last h = so_far ∙ last_part absent w first t l (omega arith) (omega arith) (omega arith) ∙ rw (looked, part-is, len)
 
-    last : length path ≤ e + 1 → x ≡ last_of (lookup.told a)
-    last h = so_far ∙ last_part absent w first t (drop i path) (simp length-drop (omega arith)) (simp length-drop (omega (arith, ends.0, ends.1)))
-        (simp length-drop (omega (arith, ends.0))) ∙ rw (looked, part)
+    -- more is left
+    pub went : 1 < length after → (next : List ℕ) → next ≡ drop 1 after → x ≡ onward (turn_of a) (λ u. parts_from absent w first u (unended (split next)))
+    went h next is =
+        let k : n + 1 ≡ suc n = omega arith in
+        let d : next ≡ drop (suc n) l = is ∙ ap (drop 1) after-is ∙ drop-drop 1 n l ∙ ap (λ (i : ℕ). drop i l) k in
+        so_far ∙ more_parts absent w first t l (omega arith) ∙ rw (d, looked, part-is, len)
 
-    went : e + 1 < length path → x ≡ onward (turn_of (lookup.told a)) (λ u. parts_from absent w first u (unended (split (drop (e + 1) path))))
-    went h =
-        let k : ℕ = first_len (drop i path) in
-        let d : i + suc k ≡ e + 1 = omega (arith, ends.0) in
-        so_far ∙ more_parts absent w first t (drop i path) (simp length-drop (omega (arith, ends.0))) ∙ rw (looked, part, drop-drop (suc k) i path, d)
+    -- a refusal of its lookup is the answer, be it the last part or not
+    pub refused : ((next : Region → Told Placed) → onward (turn_of a) next ≡ last_of a) → x ≡ last_of a
+    refused stays = by_len (leb (length after) 1) refl
+      where
+        by_len : (b : Bool) → leb (length after) 1 ≡ b → x ≡ last_of a
+        by_len true h = last (leb-true _ _ h)
+        by_len false h = went (leb-false _ _ h) (drop 1 after) refl ∙ stays _
 
-    turned : (b : Bool) → leb (length path) (e + 1) ≡ b → x ≡ onward (turn_at b (lookup.told a)) (λ u. parts_from absent w first u (unended (split (drop (e + 1) path))))
-    turned true h = last (leb-true _ _ h)
-    turned false h = went (leb-false _ _ h)
+    -- either way
+    turned : (b : Bool) → leb (length after) 1 ≡ b → (next : List ℕ) → next ≡ drop 1 after → x ≡ onward (turn_at b a) (λ u. parts_from absent w first u (unended (split next)))
+    turned true h next is = last (leb-true _ _ h)
+    turned false h next is = went (leb-false _ _ h) next is
 
-    module _ (s : Turn) (is : turning s ≡ turn_at (leb (length path) (e + 1)) (lookup.told a)) where
-      pub more_left : (u : Region) → s ≡ turn.Into u → (j : ℕ) → j ≡ e + 1 → j ≤ length path
-      more_left u at j d = omega (arith, leb-false (length path) (e + 1) (not_last (leb (length path) (e + 1)) (lookup.told a) u (sym (ap turning at) ∙ is)))
+    -- if it leads into a table, the path goes on behind the slash, and there is what is left of it
+    pub more_left : (u : Region) → Path.into u ≡ turn_at (leb (length after) 1) a → (j : ℕ) → j ≡ n + 1 → j ≤ length l
+    more_left u at j d = omega (arith, leb-false (length after) 1 (not_last (leb (length after) 1) a u at))
 
-      pub into : (u : Region) → s ≡ turn.Into u → (j : ℕ) → j ≡ e + 1 → x ≡ parts_from absent w first u (unended (split (drop j path)))
-      into u at j d = turned _ refl ∙ rw (← is, at, d)
+    pub into : (u : Region) → Path.into u ≡ turn_at (leb (length after) 1) a → (next : List ℕ) → next ≡ drop 1 after → x ≡ parts_from absent w first u (unended (split next))
+    into u at next is = turned _ refl next is ∙ rw (← at)
 
-      pub stop : (f : PathFound) → s ≡ turn.Stop f → told f ≡ x
-      stop f at = sym (turned _ refl ∙ rw (← is, at))
+    -- if it stops with an answer of the code, that is the answer
+    pub stop : (f : Result Placed PathError) → stops (told f) ≡ turn_at (leb (length after) 1) a → told f ≡ x
+    stop f at = sym (turned _ refl (drop 1 after) refl ∙ rw (← at))

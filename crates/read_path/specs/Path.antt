@@ -1,16 +1,17 @@
 -- What a path leads to: leading slashes go, one trailing slash goes, the rest is split at each slash, and each part
 -- is looked up in the table that the part before it names. Assumes nothing.
-use Rattle.std.specs.Prelude.{ℕ, List, [], ◌∷◌, eqb}
+use Rattle.std.specs.Prelude.{ℕ, List, [], ◌∷◌, eqb, Result, Ok, Err}
 use Rattle.units.specs.Told.{Told, gives, refuses, pick}
 use Rattle.units.specs.declared.Sector.{Sector}
 use Rattle.units.specs.declared.Region.{Region}
 use Rattle.name_role.specs.Roles.{bad_sought}
 use Rattle.layout_node.specs.Header.{is_directory}
 use Rattle.read_entry.specs.Entry.{Placed}
+use Rattle.read_entry.specs.Entry as reading
 use Rattle.read_entry.specs.Links.{absent_under, under_rule}
 use Rattle.read_lookup.specs.Lookup.{Finding, lookup_by}
-use Rattle.read_path.specs.declared.PathFound.{PathFound}
-use Rattle.read_path.specs.declared.PathFound.TheVariants as path_found
+use Rattle.read_path.specs.declared.PathError.{PathError}
+use Rattle.read_path.specs.declared.PathError.TheVariants as error
 
 -- leading slashes (47) go
 unfoldable pub trim : List ℕ → List ℕ
@@ -73,14 +74,13 @@ unfoldable pub path_of : ℕ → List ℕ → Sector → Region → List ℕ →
 path_of rule w first t path = under_rule (absent_under rule) (λ absent. path_by absent w first t path)
 
 -- what each answer of the code stands for
-abbrev pub told : PathFound → Told Placed
-told (path_found.Entry h p) = gives (record { header = h; place = p })
-told path_found.BadRule = refuses 29 []
-told path_found.BadByte = refuses 2 []
-told path_found.DirectoryEmpty = refuses 21 []
-told path_found.DoesNotExist = refuses 22 []
-told (path_found.OutOfBounds o) = refuses 23 (o.0 ∷ [])
-told (path_found.Truncated o) = refuses 24 (o.0 ∷ [])
-told path_found.Looped = refuses 25 []
-told path_found.IsNotDirectory = refuses 27 []
-told path_found.NoDirent = refuses 28 []
+abbrev pub told : Result Placed PathError → Told Placed
+told (Ok x) = gives x
+told (Err error.BadRule) = refuses 29 []
+told (Err error.BadByte) = refuses 2 []
+told (Err error.DirectoryEmpty) = refuses 21 []
+told (Err error.DoesNotExist) = refuses 22 []
+told (Err (error.Read e)) = reading.refused e
+told (Err error.Looped) = refuses 25 []
+told (Err error.IsNotDirectory) = refuses 27 []
+told (Err error.NoDirent) = refuses 28 []

@@ -2,20 +2,17 @@
 // names.
 #![tactic(auto)]
 
-ghost use Rattle.std.specs.Prelude.{◌≡◌, [], ◌∷◌, ◌+◌, ◌≤◌, length, drop};
-ghost use Rattle.read_lookup.specs.Lookup as lookup;
-ghost use Rattle.read_path.specs.Path.{trim, told, last_of, path_by, path_of};
-ghost use Rattle.read_path.specs.inner.Path.{first_len, turning, turn_at};
+ghost use Rattle.std.specs.Prelude.{◌≡◌, [], ◌∷◌, ◌≤◌, length, drop};
+ghost use Rattle.units.specs.Told.{number_of};
+ghost use Rattle.read_path.specs.Path.{trim, told, path_by, path_of};
+ghost use Rattle.read_path.specs.inner.Path.{first_len};
 
-use layout_node::Header;
-use read_lookup::{Looked, Ruled};
-use units::{Offset, Region, Sector};
+use read_entry::{Placed, ReadError, Table};
+use read_lookup::{BadRule, LookupError, Rule};
 
-// What a path leads to.
-#[derive(Clone, Copy)]
-pub enum PathFound {
-    // The entry: its header, and the place in the window of its first byte.
-    Entry(Header, usize),
+// Why a path leads to no entry.
+#[derive(Clone, Copy, Debug, PartialEq, Eq)]
+pub enum PathError {
     // 29: no rule has the number.
     BadRule,
     // 2: a byte of the path is above 127.
@@ -23,8 +20,7 @@ pub enum PathFound {
     // 21, 22, 23, 24, 25: as the lookup of a part answers, 22 without its count.
     DirectoryEmpty,
     DoesNotExist,
-    OutOfBounds(Offset),
-    Truncated(Offset),
+    Read(ReadError),
     Looped,
     // 27: a part but the last is no directory.
     IsNotDirectory,
@@ -32,112 +28,116 @@ pub enum PathFound {
     NoDirent,
 }
 
-// The answer of a part: the table to go into, or the path's answer.
-#[derive(Clone, Copy)]
-pub enum Turn {
-    Into(Region),
-    Stop(PathFound),
-}
-
-// The end of the leading slashes.
-fn trimmed(s: &[u8]) -> usize
-    ensures { (result ≤ length s.now) × (drop result s.now ≡ trim s.now) }
-{
-    let mut i = 0;
-    while i < s.len() {
-        if s[i] != 47 {
-            return i;
+impl PathError {
+    // The number of the refusal.
+    pub fn number(self) -> u32
+        ensures { result ≡ number_of (told (Err self)) }
+    {
+        match self {
+            PathError::BadRule => 29,
+            PathError::BadByte => 2,
+            PathError::DirectoryEmpty => 21,
+            PathError::DoesNotExist => 22,
+            PathError::Read(e) => e.number(),
+            PathError::Looped => 25,
+            PathError::IsNotDirectory => 27,
+            PathError::NoDirent => 28,
         }
-        i += 1;
     }
-    i
 }
 
-// The end of the part that starts at a place: the next slash, or the end.
-fn part_end(s: &[u8], from: usize) -> usize
-    requires { from ≤ length s.now }
-    ensures { (result ≡ from + first_len (drop from s.now)) × (result ≤ length s.now) }
-{
-    let mut i = from;
-    while i < s.len() {
-        if s[i] == 47 {
-            return i;
+impl From<BadRule> for PathError {
+    ghost use Rattle.read_path.specs.declared.PathError.TheVariants as error;
+
+    ghost from_gives = { λ e r. r ≡ error.BadRule };
+
+    fn from(_e: BadRule) -> PathError {
+        PathError::BadRule
+    }
+}
+
+impl From<LookupError> for PathError {
+    ghost use Rattle.std.specs.Prelude.{Err};
+    ghost use Rattle.read_lookup.specs.Lookup as lookup;
+    ghost use Rattle.read_path.specs.Path as path;
+
+    ghost from_gives = { λ e r. path.told (Err r) ≡ path.last_of (lookup.told (Err e)) };
+
+    fn from(e: LookupError) -> PathError {
+        match e {
+            LookupError::BadRule => PathError::BadRule,
+            LookupError::BadByte => PathError::BadByte,
+            LookupError::DirectoryEmpty => PathError::DirectoryEmpty,
+            LookupError::DoesNotExist(_) => PathError::DoesNotExist,
+            LookupError::Read(e) => PathError::Read(e),
+            LookupError::Looped => PathError::Looped,
         }
-        i += 1;
-    }
-    i
-}
-
-// The answer of the last part.
-fn last_of(a: Looked) -> PathFound
-    ensures { told result ≡ last_of (lookup.told a) }
-{
-    match a {
-        Looked::Found(h, place, _, _) => PathFound::Entry(h, place),
-        Looked::BadRule => PathFound::BadRule,
-        Looked::BadByte => PathFound::BadByte,
-        Looked::DirectoryEmpty => PathFound::DirectoryEmpty,
-        Looked::DoesNotExist(_) => PathFound::DoesNotExist,
-        Looked::OutOfBounds(o) => PathFound::OutOfBounds(o),
-        Looked::Truncated(o) => PathFound::Truncated(o),
-        Looked::Looped => PathFound::Looped,
     }
 }
 
-// The answer of a part: an entry ends the path with the last part, and must be a directory before it.
-fn turn_of(a: Looked, last: bool) -> Turn
-    ensures { turning result ≡ turn_at last (lookup.told a) }
+// The path without its leading slashes.
+fn trimmed(path: &[u8]) -> &[u8]
+    ensures { result.now ≡ trim path.now }
 {
-    match a {
-        Looked::Found(h, place, _, _) => {
-            if last {
-                return Turn::Stop(PathFound::Entry(h, place));
-            }
-            let sector = h.sector;
-            let size = h.size;
-            if h.is_directory() {
-                return Turn::Into(Region { sector, size });
-            }
-            Turn::Stop(PathFound::IsNotDirectory)
-        }
-        _ => Turn::Stop(last_of(a)),
-    }
+    let start = path
+        .iter()
+        .position(|byte| *byte != b'/')
+        .unwrap_or(path.len());
+    &path[start..]
+}
+
+// The length of the first part: up to the first slash, or to the end.
+fn part_len(path: &[u8]) -> usize
+    ensures len { result ≡ first_len path.now }
+    ensures within { result ≤ length path.now }
+{
+    path.iter()
+        .position(|byte| *byte == b'/')
+        .unwrap_or(path.len())
 }
 
 // The entry that a path leads to from a table, by links of which 0 and `absent` lead nowhere.
-fn find_path_by(w: &[u8], first: Sector, table: Region, path: &[u8], absent: u16) -> PathFound
-    ensures { told result ≡ path_by (0 ∷ absent ∷ []) w.now first table path.now }
+// (`absent` is a number here as in `read_lookup::look_up_by`, which it is handed to.)
+fn find_path_by(mut table: Table, path: &[u8], absent: u16) -> Result<Placed, PathError>
+    ensures { let t = table.entry in
+        told result ≡ path_by (0 ∷ absent ∷ []) t.window.now t.first t.region path.now }
 {
     if read_lookup::is_bad_sought(path) {
-        return PathFound::BadByte;
+        return Err(PathError::BadByte);
     }
-    let mut t = table;
-    let mut i = trimmed(path);
-    while i < path.len() {
-        let e = part_end(path, i);
-        let a = read_lookup::look_up_by(w, first, t, &path[i..e], absent);
-        match turn_of(a, path.len() <= e + 1) {
-            Turn::Into(u) => t = u,
-            Turn::Stop(f) => return f,
+    let mut rest = trimmed(path);
+    // No index is counted: `split` would not say which part is the last, and one slash may end a path.
+    while !rest.is_empty() {
+        let (part, after) = rest.split_at(part_len(rest));
+        let entry = read_lookup::look_up_by(table, part, absent)?.entry;
+        if after.len() <= 1 {
+            return Ok(entry);
         }
-        i = e + 1;
+        if !entry.header.is_directory() {
+            return Err(PathError::IsNotDirectory);
+        }
+        table.region = entry.header.region();
+        rest = &after[1..];
     }
-    PathFound::NoDirent
+    Err(PathError::NoDirent)
 }
 
 // The entry that a path leads to from a table, under the rule of a number.
-pub fn find_path(w: &[u8], first: Sector, table: Region, path: &[u8], rule: u32) -> PathFound
-    ensures { told result ≡ path_of rule w.now first table path.now }
+// (A number and no `Rule`, as for `read_lookup::look_up`.)
+#[tactic(auto, unfolding(crate::specs::Path::path_of))]
+pub fn find_path(table: Table, path: &[u8], rule: u32) -> Result<Placed, PathError>
+    ensures { let t = table.entry in
+        told result ≡ path_of rule t.window.now t.first t.region path.now }
 {
-    match read_lookup::absent_under(rule) {
-        Ruled::Absent(n) => find_path_by(w, first, table, path, n),
-        Ruled::BadRule => PathFound::BadRule,
-    }
+    let rule = Rule::try_from(rule)?;
+    find_path_by(table, path, rule.absent_link())
 }
 
 // The same under rule two, for a caller who knows no other.
-pub fn find_path_two(w: &[u8], first: Sector, table: Region, path: &[u8]) -> PathFound
-    ensures { told result ≡ path_of 2 w.now first table path.now }
+#[tactic(auto, unfolding(crate::specs::Path::path_of, read_entry::specs::Links::absent_under))]
+pub fn find_path_two(table: Table, path: &[u8]) -> Result<Placed, PathError>
+    ensures { let t = table.entry in
+        told result ≡ path_of 2 t.window.now t.first t.region path.now }
 {
-    find_path_by(w, first, table, path, 0xffff)
+    find_path_by(table, path, Rule::Two.absent_link())
 }

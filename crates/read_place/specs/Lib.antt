@@ -1,2 +1,3 @@
 -- What stands at a place of a table.
 pub mod Place
+pub mod inner

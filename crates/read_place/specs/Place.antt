@@ -1,20 +1,20 @@
 -- What stands at a place of a table, an offset in it, by what reading there finds: the table of a directory, where
 -- the entry's links lead, and its name. Assumes nothing.
-use Rattle.std.specs.Prelude.{ℕ, ◌*◌, List, [], ◌∷◌}
+use Rattle.std.specs.Prelude.{ℕ, ◌*◌, List, [], ◌∷◌, Result, Ok, Err, Some, None, Option as Maybe}
 use Rattle.std.proofs.Math.Option.{Option, some, none}
 use Rattle.units.specs.Told.{Told, gives, refuses, pick}
 use Rattle.units.specs.Lent.{Part}
 use Rattle.units.specs.declared.Sector.{Sector}
 use Rattle.units.specs.declared.Region.{Region}
 use Rattle.units.specs.declared.Link.{Link}
+use Rattle.units.specs.declared.Offset.{Offset}
 use Rattle.layout_node.specs.declared.Header.{Header}
 use Rattle.layout_node.specs.Header.{is_directory}
-use Rattle.read_entry.specs.Entry.{Placed, read_at, name_part}
+use Rattle.read_entry.specs.declared.ReadError.{ReadError}
+use Rattle.read_entry.specs.Entry.{Placed, read_at, name_part, refused}
 use Rattle.read_entry.specs.Links.{is_in, walk_absent}
-use Rattle.read_place.specs.declared.Entered.{Entered}
-use Rattle.read_place.specs.declared.Entered.TheVariants as into
-use Rattle.read_place.specs.declared.Linked.{Linked}
-use Rattle.read_place.specs.declared.Linked.TheVariants as to
+use Rattle.read_place.specs.declared.EnterError.{EnterError}
+use Rattle.read_place.specs.declared.EnterError.TheVariants as error
 
 -- an entry that is gone into must be a directory (else 27); its table is the region that the header names
 unfoldable pub header_entered : Header → Told Region
@@ -59,15 +59,13 @@ unfoldable pub name_at : List ℕ → Sector → Region → ℕ → Part
 name_at w first t o = name_in w (read_at w first t o)
 
 -- what each answer of the code stands for
-abbrev pub entered : Entered → Told Region
-entered (into.Into t) = gives t
-entered into.DoesNotExist = refuses 22 []
-entered (into.OutOfBounds o) = refuses 23 (o.0 ∷ [])
-entered (into.Truncated o) = refuses 24 (o.0 ∷ [])
-entered into.IsNotDirectory = refuses 27 []
+abbrev pub entered : Result Region EnterError → Told Region
+entered (Ok t) = gives t
+entered (Err error.DoesNotExist) = refuses 22 []
+entered (Err (error.Read e)) = refused e
+entered (Err error.IsNotDirectory) = refuses 27 []
 
-abbrev pub linked : Linked → Told (Option ℕ)
-linked (to.To o) = gives (some o.0)
-linked to.Absent = gives none
-linked (to.OutOfBounds o) = refuses 23 (o.0 ∷ [])
-linked (to.Truncated o) = refuses 24 (o.0 ∷ [])
+abbrev pub linked : Result (Maybe Offset) ReadError → Told (Option ℕ)
+linked (Ok (Some o)) = gives (some o.0)
+linked (Ok None) = gives none
+linked (Err e) = refused e

@@ -5,3 +5,4 @@ pub mod Turn
 pub mod Told
 pub mod Cases
 pub mod Moved
+pub mod Kept

@@ -8,11 +8,14 @@ use Rattle.units.specs.Told.{Told, gives, refuses}
 use Rattle.units.specs.declared.Sector.{Sector}
 use Rattle.units.specs.declared.Region.{Region}
 use Rattle.layout_node.specs.declared.Header.{Header}
-use Rattle.read_entry.specs.Entry.{Placed, read_at}
+use Rattle.read_entry.specs.declared.Placed.{Placed}
+use Rattle.read_entry.specs.Entry.{read_at}
 use Rattle.read_entry.specs.Links.{walk_absent}
-use Rattle.read_entry.specs.inner.Part.{part_of, moved}
+use Rattle.read_entry.specs.declared.Table.{Table}
+use Rattle.read_entry.specs.inner.Part.{moved, IsNarrowed}
 use Rattle.read_entry.proofs.Moved.{read_moved, read_nothing, Starts, inside, outside, starts}
-use Rattle.read_walk.specs.declared.Walked.{Walked}
+use Rattle.std.specs.Prelude.{Result}
+use Rattle.read_walk.specs.declared.WalkError.{WalkError}
 use Rattle.read_walk.specs.Walk.{before, push, by_read, to_entry, walk_from}
 use Rattle.read_walk.specs.inner.Run.{Runs}
 use Rattle.read_walk.proofs.Steps.{walk_refused}
@@ -52,10 +55,10 @@ module _ (w : List ℕ) (first : Sector) (t : Region) (some_size : t.size ≡ 0 
       (walk_refused walk_absent (read_at [] f u) 0 [] room 24 (0 ∷ []) (read_nothing w first t f u f-is u-is same some_size)
       ∙ sym (walk_refused walk_absent (read_at w first t) 0 [] room 24 (0 ∷ []) (refused-there some_size)))
 
--- the loop over the part, as the code has it, is the loop over the window
-pub runs_moved : (w : List ℕ) (first : Sector) (t : Region) → (t.size ≡ 0 → ⊥) → (part : List ℕ) → part ≡ part_of w first t → (f s : Sector) → f.0 ≡ 0 → s.0 ≡ 0 →
-    (room : ℕ) (r : Walked) (list : List ℕ) →
-    Runs (walk_on part f (record { sector = s; size = t.size }) room (0 ∷ [])) r list → Runs (walk_on w first t room (0 ∷ [])) r list
-runs_moved w first t some_size part e f s f-is s-is room r list runs =
+-- the loop over the table in its own part, as the code has it, is the loop over the window
+pub runs_moved : (t u : Table) → (t.region.size ≡ 0 → ⊥) → IsNarrowed t u → (room : ℕ) (r : Result ℕ WalkError) (list : List ℕ)
+    → Runs (walk_on u.window.now u.first u.region room (0 ∷ [])) r list → Runs (walk_on t.window.now t.first t.region room (0 ∷ [])) r list
+runs_moved t u some_size n room r list runs =
+    let w = t.window.now in
     subst (λ (x : Told (List ℕ)). Runs x r list)
-    (walk_by w first t some_size f (record { sector = s; size = t.size }) f-is s-is refl room part (starts w first t part e)) runs
+    (walk_by w t.first t.region some_size u.first u.region n.1 n.2 n.3 room u.window.now (starts w t.first t.region u.window.now n.0)) runs

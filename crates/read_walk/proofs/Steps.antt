@@ -5,7 +5,7 @@ use mathlib.Core.Path.{◌≡◌, refl, sym, ap}
 use mathlib.Core.List.{List, [], ◌∷◌, ◌++◌, append_assoc}
 use mathlib.Core.Option.{Option, some, none}
 use Rattle.units.specs.Told.{Told, gives, refuses}
-use Rattle.read_entry.specs.Entry.{Placed}
+use Rattle.read_entry.specs.declared.Placed.{Placed}
 use Rattle.read_walk.specs.Walk.{before, push, to_entry, walk_from}
 
 pub before_none : (x : Told (List ℕ)) → before [] x ≡ x

@@ -1,8 +1,10 @@
 -- One turn of the walk's loop, over plain lists and numbers: each way out of it, and each way round. Assumes nothing.
-use Prim.Native.Nat.{ℕ, suc, ◌+◌, ◌-◌, ◌*◌, ◌^◌, ◌≤◌, ◌<◌}
+use Prim.Native.Nat.{ℕ, suc, ◌+◌, ◌-◌, ◌≤◌, ◌<◌}
 use mathlib.Core.Path.{◌≡◌, refl, sym, ap, ◌∙◌}
 use mathlib.Core.List.{List, [], ◌∷◌, append-nil}
-use mathlib.Core.Option.{some}
+use mathlib.Core.Bool.{true, false}
+use mathlib.Core.Option.{Option, some}
+use Rattle.std.specs.Prelude.{Result, Ok, Err, Some, None, IsErr, IsErrAnd}
 use native.Mathlib.Omega.{arith}
 use native.Mathlib.Nat.{sub-zero}
 use native.Mathlib.Numerals.{add-one}
@@ -12,16 +14,15 @@ use Rattle.units.specs.Told.{Told, gives, refuses}
 use Rattle.units.specs.declared.Sector.{Sector}
 use Rattle.units.specs.declared.Offset.{Offset}
 use Rattle.units.specs.declared.Region.{Region}
-use Rattle.layout_node.specs.declared.Header.{Header}
-use Rattle.read_entry.specs.declared.Read.{Read}
-use Rattle.read_entry.specs.declared.Read.TheVariants as read
-use Rattle.read_entry.specs.Entry.{read_at}
+use Rattle.read_entry.specs.declared.ReadError.{ReadError}
+use Rattle.read_entry.specs.Entry.{read_at, number_in, offset_in}
+use Rattle.read_entry.specs.declared.Placed.{Placed}
 use Rattle.read_entry.specs.Entry as entry-said
 use Rattle.read_entry.specs.Links.{walk_absent}
-use Rattle.read_walk.specs.declared.Walked.{Walked}
-use Rattle.read_walk.specs.declared.Walked.TheVariants as walked
+use Rattle.read_walk.specs.declared.WalkError.{WalkError}
+use Rattle.read_walk.specs.declared.WalkError.TheVariants as walk_error
 use Rattle.read_walk.specs.Walk.{before, push, walk_from, counted, told}
-use Rattle.read_walk.specs.inner.Run.{stack_of, Pushed, kept_of, Runs}
+use Rattle.read_walk.specs.inner.Run.{stack_of, Pushed, Runs}
 use Rattle.read_walk.proofs.Stack.{stack_pop}
 use Rattle.read_walk.proofs.Steps.{before_none, before-before, walk_none, walk_nothing, walk_refused, walk_full, walk_entry}
 
@@ -36,15 +37,14 @@ pub record State (w : List ℕ) (first : Sector) (t : Region) (x : Told (List �
   pub list_kept : length list ≡ room
   pub scratch_kept : length scratch ≡ places
   pub fits : room < places
-  pub small : places * 4 < 2 ^ 63
 
 -- a way out with a refusal, which keeps nothing of the list
-refused : (x : Told (List ℕ)) (a : Walked) (list : List ℕ) (k : ℕ) (vs : List ℕ) → x ≡ refuses k vs → told a ≡ refuses k vs → kept_of a ≡ 0 → Runs x a list
-refused x a list k vs e ta z = record { is = ta ∙ sym (ap counted e); listed = rw (z, e); within = omega arith }
+refused : (x : Told (List ℕ)) (a : WalkError) (list : List ℕ) (k : ℕ) (vs : List ℕ) → x ≡ refuses k vs → told (Err a) ≡ refuses k vs → Runs x (Err a) list
+refused x a list k vs e ta = record { is = ta ∙ sym (ap counted e); listed = rw e; within = omega arith }
 
 module _ (w : List ℕ) (first : Sector) (t : Region) (x : Told (List ℕ)) (room places : ℕ) (list scratch : List ℕ) (top n : ℕ)
     (s : State w first t x room places list scratch top n) where
-  pub done : top ≤ 0 → Runs x (walked.Done n) list
+  pub done : top ≤ 0 → Runs x (Ok n) list
   unfolding stack_of
   done h =
       let z : top ≡ 0 = omega arith in
@@ -63,53 +63,52 @@ module _ (w : List ℕ) (first : Sector) (t : Region) (x : Told (List ℕ)) (roo
     popped : x ≡ before (take n list) (walk_on w first t (room - n) (o ∷ stack_of scratch (top - 1)))
     popped = s.to_do ∙ ap (λ (st : List ℕ). before (take n list) (walk_on w first t (room - n) st)) (stack_pop scratch top more)
 
-    -- what is read there, as the code has it: r at the offset p
-    module _ (p : Offset) (p-is : p.0 ≡ o) (r : Read) (reading : entry-said.told r ≡ read_at w first t p.0) where
-      found : read_at w first t o ≡ entry-said.told r
-      found = sym (reading ∙ ap (read_at w first t) p-is)
+    -- what is read there, as the code has it, at the offset p: r is what is told of it
+    module _ (p : Offset) (p-is : p.0 ≡ o) where
+      found : {r : Told (Option Placed)} → r ≡ read_at w first t p.0 → read_at w first t o ≡ r
+      found e = sym (e ∙ ap (read_at w first t) p-is)
 
-      stops : (a : Walked) (k : ℕ) (vs : List ℕ) → entry-said.told r ≡ refuses k vs → told a ≡ refuses k vs → kept_of a ≡ 0 → Runs x a list
-      stops a k vs e ta z =
-          refused x a list k vs
-          (popped ∙ rw (walk_refused walk_absent (read_at w first t) o (stack_of scratch (top - 1)) (room - n) k vs (found ∙ e))) ta z
+      -- a refusal ends the walk
+      pub unread : (e : ReadError) → entry-said.told (Err e) ≡ read_at w first t p.0 → (a : Result ℕ WalkError)
+          → IsErr a × IsErrAnd a (λ (b : WalkError). b ≡ walk_error.Read e) → Runs x a list
+      unread e r (Ok n) h = absurd (not_ok h.0)
+        where
+          not_ok : false ≡ true → ⊥
+          not_ok e = let z : ◌≡◌ {A = ℕ} 0 1 = cc in omega arith
+      unread e r (Err a) h =
+          refused x a list (number_in e) ((offset_in e).0 ∷ [])
+          (popped ∙ rw (walk_refused walk_absent (read_at w first t) o (stack_of scratch (top - 1)) (room - n) (number_in e) ((offset_in e).0 ∷ []) (found r))) (rw h.1)
 
-      pub outside : (q : Offset) → r ≡ read.OutOfBounds q → Runs x (walked.OutOfBounds q) list
-      outside q e = stops (walked.OutOfBounds q) 23 (q.0 ∷ []) (ap entry-said.told e) refl refl
-
-      pub truncated : (q : Offset) → r ≡ read.Truncated q → Runs x (walked.Truncated q) list
-      truncated q e = stops (walked.Truncated q) 24 (q.0 ∷ []) (ap entry-said.told e) refl refl
-
-      pub nothing : r ≡ read.Nothing → (u : ℕ) → u ≡ top - 1 → State w first t x room places list scratch u n
-      nothing e u d = record {
-        to_do = rw d (popped ∙ ap (before (take n list)) (walk_nothing walk_absent (read_at w first t) o (stack_of scratch (top - 1)) (room - n) (found ∙ ap entry-said.told e)));
+      pub nothing : entry-said.told (Ok None) ≡ read_at w first t p.0 → (u : ℕ) → u ≡ top - 1 → State w first t x room places list scratch u n
+      nothing r u d = record {
+        to_do = rw d (popped ∙ ap (before (take n list)) (walk_nothing walk_absent (read_at w first t) o (stack_of scratch (top - 1)) (room - n) (found r)));
         room_left = s.room_left;
         low = omega (arith, s.low);
         list_kept = s.list_kept;
         scratch_kept = s.scratch_kept;
         fits = s.fits;
-        small = s.small;
       }
 
-      module _ (h : Header) (at : ℕ) (is_entry_lem : r ≡ read.Entry h at) where
-        entry_at : read_at w first t o ≡ gives (some (record { header = h; place = at }))
-        entry_at = found ∙ ap entry-said.told is_entry_lem
+      module _ (y : Placed) (r : entry-said.told (Ok (Some y)) ≡ read_at w first t p.0) where
+        entry_at : read_at w first t o ≡ gives (some y)
+        entry_at = found r
 
-        pub full : length list ≤ n → Runs x walked.WalkFull list
+        pub full : length list ≤ n → Runs x (Err walk_error.WalkFull) list
         full k =
             let z : room - n ≡ 0 = omega (arith, s.list_kept) in
-            refused x walked.WalkFull list 26 []
-            (popped ∙ rw (z, walk_full walk_absent (read_at w first t) o (stack_of scratch (top - 1)) (record { header = h; place = at }) entry_at)) refl refl
+            refused x walk_error.WalkFull list 26 []
+            (popped ∙ rw (z, walk_full walk_absent (read_at w first t) o (stack_of scratch (top - 1)) y entry_at)) refl
 
         module _ (has_room : n < length list) where
-          entered : x ≡ before (take (n + 1) (set list n o)) (walk_on w first t (room - (n + 1)) (push walk_absent h.left.0 (push walk_absent h.right.0 (stack_of scratch (top - 1)))))
+          entered : x ≡ before (take (n + 1) (set list n o)) (walk_on w first t (room - (n + 1)) (push walk_absent y.header.left.0 (push walk_absent y.header.right.0 (stack_of scratch (top - 1)))))
           entered =
               let z : room - n ≡ suc (room - (n + 1)) = omega (arith, s.list_kept) in
               popped
-              ∙ rw (z, walk_entry walk_absent (read_at w first t) o (stack_of scratch (top - 1)) (room - (n + 1)) (record { header = h; place = at }) entry_at)
-              (before-before (take n list) (o ∷ []) (walk_on w first t (room - (n + 1)) (push walk_absent h.left.0 (push walk_absent h.right.0 (stack_of scratch (top - 1)))))
+              ∙ rw (z, walk_entry walk_absent (read_at w first t) o (stack_of scratch (top - 1)) (room - (n + 1)) y entry_at)
+              (before-before (take n list) (o ∷ []) (walk_on w first t (room - (n + 1)) (push walk_absent y.header.left.0 (push walk_absent y.header.right.0 (stack_of scratch (top - 1)))))
               ∙ rw (add-one n, take-suc-set list n o has_room))
 
-          pub entry : (s₁ : List ℕ) (t₁ : ℕ) → Pushed walk_absent h.right.0 scratch (top - 1) s₁ t₁ → (s₂ : List ℕ) (t₂ : ℕ) → Pushed walk_absent h.left.0 s₁ t₁ s₂ t₂ →
+          pub entry : (s₁ : List ℕ) (t₁ : ℕ) → Pushed walk_absent y.header.right.0 scratch (top - 1) s₁ t₁ → (s₂ : List ℕ) (t₂ : ℕ) → Pushed walk_absent y.header.left.0 s₁ t₁ s₂ t₂ →
               (m : ℕ) → m ≡ n + 1 → State w first t x room places (set list n o) s₂ t₂ m
           entry s₁ t₁ p s₂ t₂ q m d = record {
             to_do = rw (d, q.stack, p.stack) entered;
@@ -118,21 +117,19 @@ module _ (w : List ℕ) (first : Sector) (t : Region) (x : Told (List ℕ)) (roo
             list_kept = length-set list n o ∙ s.list_kept;
             scratch_kept = q.kept ∙ p.kept ∙ s.scratch_kept;
             fits = s.fits;
-            small = s.small;
           }
 
 -- where the loop begins: the scratch s₀ with 0 stored in its first place
-pub starts : (w : List ℕ) (first : Sector) (t : Region) (list s₀ : List ℕ) → length list < length s₀ → length s₀ * 4 < 2 ^ 63 →
+pub starts : (w : List ℕ) (first : Sector) (t : Region) (list s₀ : List ℕ) → length list < length s₀ →
     State w first t (walk_on w first t (length list) (0 ∷ [])) (length list) (length (set s₀ 0 0)) list (set s₀ 0 0) 1 0
 unfolding stack_of
-starts w first t list s₀ h k = record {
+starts w first t list s₀ h = record {
   to_do = rw (sub-zero, get_or-set_same s₀ 0 0 0 (omega arith)) (sym (before_none (walk_on w first t (length list) (0 ∷ []))));
   room_left = omega arith;
   low = omega arith;
   list_kept = refl;
   scratch_kept = refl;
   fits = rw length-set h;
-  small = rw length-set k;
 }
 
 -- the scratch is as long as it came

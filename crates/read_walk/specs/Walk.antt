@@ -2,16 +2,18 @@
 -- bound on its steps: each entry takes a place of the list, of which there are `room`, and between two entries the
 -- stack only shrinks, so the definition recurses on the places, and within them on the stack.
 use Rattle.std.specs.Prelude.{ℕ, zero, suc, ◌-◌, ◌*◌, not, List, [], ◌∷◌, ◌++◌, leb, eqb, length, replicate}
+use Rattle.std.specs.Prelude.{Result, Ok, Err}
 use Rattle.std.proofs.Math.Option.{Option, some, none}
 use Rattle.units.specs.Told.{Told, gives, refuses, pick}
 use Rattle.units.specs.Lent.{cleared_if}
 use Rattle.units.specs.declared.Sector.{Sector}
 use Rattle.units.specs.declared.Region.{Region}
 use Rattle.layout_node.specs.declared.Header.{Header}
-use Rattle.read_entry.specs.Entry.{Placed, read_at}
+use Rattle.read_entry.specs.declared.Placed.{Placed}
+use Rattle.read_entry.specs.Entry.{read_at, refused}
 use Rattle.read_entry.specs.Links.{is_in, walk_absent}
-use Rattle.read_walk.specs.declared.Walked.{Walked}
-use Rattle.read_walk.specs.declared.Walked.TheVariants as walked
+use Rattle.read_walk.specs.declared.WalkError.{WalkError}
+use Rattle.read_walk.specs.declared.WalkError.TheVariants as walk_error
 
 -- what a walk lists, with offsets listed before
 abbrev pub before : List ℕ → Told (List ℕ) → Told (List ℕ)
@@ -70,9 +72,8 @@ unfoldable pub scratch_after : ℕ → List ℕ → List ℕ
 scratch_after n scratch = cleared_if (not (leb (length scratch) n)) scratch
 
 -- what each answer of the code stands for
-abbrev pub told : Walked → Told ℕ
-told (walked.Done n) = gives n
-told walked.Room = refuses 6 []
-told (walked.OutOfBounds o) = refuses 23 (o.0 ∷ [])
-told (walked.Truncated o) = refuses 24 (o.0 ∷ [])
-told walked.WalkFull = refuses 26 []
+abbrev pub told : Result ℕ WalkError → Told ℕ
+told (Ok n) = gives n
+told (Err walk_error.Room) = refuses 6 []
+told (Err (walk_error.Read e)) = refused e
+told (Err walk_error.WalkFull) = refuses 26 []

@@ -20,13 +20,13 @@ use Rattle.reader.specs.Reader.{placed_at}
 
 -- what a reader's lookup of a name under the rule of a number, its entry and its going in answer
 abbrev pub looks : Reader → List ℕ → ℕ → Told Finding
-looks r name rule = lookup_of rule r.window.now r.first r.table name
+looks r name rule = lookup_of rule r.table.window.now r.table.first r.table.region name
 
 abbrev pub reads : Reader → Told (Option Placed)
-reads r = read_at r.window.now r.first r.table r.at.0
+reads r = read_at r.table.window.now r.table.first r.table.region r.at.0
 
 abbrev pub enters : Reader → Told Region
-enters r = table_at r.window.now r.first r.table r.at.0
+enters r = table_at r.table.window.now r.table.first r.table.region r.at.0
 
 -- the reader at the entry that a lookup found
 abbrev pub at_found : Reader → Finding → Reader
@@ -42,17 +42,17 @@ unfolding lookup_of
 found_by_links rule w first t name x e = by_links_lem (absent_under rule) (λ links. lookup_by links w first t name) x e
 
 -- so it stands at its offset, and its name is the one sought
-stands : (r : Reader) (name : List ℕ) (rule : ℕ) (x : Finding) → looks r name rule ≡ gives x → (reads (at_found r x) ≡ gives (some x.entry)) × Named r.window.now name x.entry
+stands : (r : Reader) (name : List ℕ) (rule : ℕ) (x : Finding) → looks r name rule ≡ gives x → (reads (at_found r x) ≡ gives (some x.entry)) × Named r.table.window.now name x.entry
 stands r name rule x e =
-    let f = found_by_links rule r.window.now r.first r.table name x e in
-    found_stands f.0 r.window.now r.first r.table name x f.1
+    let f = found_by_links rule r.table.window.now r.table.first r.table.region name x e in
+    found_stands f.0 r.table.window.now r.table.first r.table.region name x f.1
 
 -- the reader there reads the entry that was found
 pub found_is_read : (r : Reader) (name : List ℕ) (rule : ℕ) (x : Finding) → looks r name rule ≡ gives x → reads (at_found r x) ≡ gives (some x.entry)
 found_is_read r name rule x e = (stands r name rule x e).0
 
 -- and its name is the one sought
-pub found_is_named : (r : Reader) (name : List ℕ) (rule : ℕ) (x : Finding) → looks r name rule ≡ gives x → Named r.window.now name x.entry
+pub found_is_named : (r : Reader) (name : List ℕ) (rule : ℕ) (x : Finding) → looks r name rule ≡ gives x → Named r.table.window.now name x.entry
 found_is_named r name rule x e = (stands r name rule x e).1
 
 -- going in, as a path has it: into the table, or the refusal

@@ -8,8 +8,11 @@ use Rattle.reader.specs.declared.Reader.{Reader}
 
 -- a reader of a table in a window, at offset 0
 abbrev pub opened : Bor (List ℕ) → Sector → Region → Reader
-opened window first table = record { window = window; first = first; table = table; at = record { 0 = 0 } }
+opened window first table = record {
+  table = record { window = window; first = first; region = table };
+  at = record { 0 = 0 };
+}
 
 -- the same reader at an offset
 abbrev pub placed_at : Reader → Offset → Reader
-placed_at r o = record { window = r.window; first = r.first; table = r.table; at = o }
+placed_at r o = record { table = r.table; at = o }

@@ -6,14 +6,16 @@
 // `xdvdfs::read_descriptor` gives:
 //
 //     let r = Reader::new(w, Sector::new(32), root);
-//     r.look_up(b"media", 2)                          answers Looked::Found(_, _, at, _)
-//     r.placed(at).enter()                            answers Entered::Into(table)
-//     r.within(table).look_up(b"default.xbe", 2)      answers Looked::Found(h, _, _, _)
+//     let media = r.look_up(b"media", 2)?;
+//     let table = r.placed(media.offset).enter()?;
+//     let file = r.within(table).look_up(b"default.xbe", 2)?.entry.header.region();
 //
-// and h.sector and h.size say where the bytes stand; 2 is the number of a rule, which says what links are absent. In
-// one call, where only the entry is asked for:
+// and file.sector and file.size say where the bytes stand; 2 is the number of a rule, which says what links are
+// absent. In one call, where only the entry is asked for:
 //
-//     r.find_path(b"media/default.xbe", 2)            answers PathFound::Entry(h, _)
+//     let file = r.find_path(b"media/default.xbe", 2)?.header.region();
+//
+// A rule is a number here as in `xdvdfs`: every number is accepted.
 //
 // An answer holds no reader: `look_up`, `left` and `right` answer an offset, for `placed`, and `enter` a table, for
 // `within`.
@@ -24,8 +26,7 @@
 // does not say what is next in a walk: where two links name one entry, the walk lists it twice, and what follows
 // differs (there, `no_next`).
 //
-// Each function here takes the reader apart and calls one that takes its parts; crate reader_cases is a program that
-// uses a reader.
+// Each function here calls one that takes the table; crate reader_cases is a program that uses a reader.
 #![tactic(auto)]
 
 ghost use Rattle.std.specs.Prelude.{◌≡◌};
@@ -37,19 +38,17 @@ ghost use Rattle.read_place.specs.Place as place;
 ghost use Rattle.reader.specs.Reader.{opened, placed_at};
 
 pub use layout_node::Header;
-pub use read_entry::Read;
-pub use read_lookup::Looked;
-pub use read_path::PathFound;
-pub use read_place::{Entered, Linked};
+use read_entry::Table;
+pub use read_entry::{Placed, ReadError};
+pub use read_lookup::{Found, LookupError};
+pub use read_path::PathError;
+pub use read_place::EnterError;
 pub use units::{Offset, Region, Sector};
 
-// The window, its first sector, the table and the offset in it. The fields stand in the order in which the readers
-// take them.
+// The table in its window, and the offset in it.
 #[derive(Clone, Copy)]
 pub struct Reader<'a> {
-    window: &'a [u8],
-    first: Sector,
-    table: Region,
+    table: Table<'a>,
     at: Offset,
 }
 
@@ -59,9 +58,11 @@ impl<'a> Reader<'a> {
         ensures { result ≡ opened window.entry first table }
     {
         Reader {
-            window,
-            first,
-            table,
+            table: Table {
+                window,
+                first,
+                region: table,
+            },
             at: Offset::new(0),
         }
     }
@@ -71,19 +72,14 @@ impl<'a> Reader<'a> {
     pub fn placed(self, at: Offset) -> Reader<'a>
         ensures { result ≡ placed_at self.entry at }
     {
-        Reader {
-            window: self.window,
-            first: self.first,
-            table: self.table,
-            at,
-        }
+        Reader { at, ..self }
     }
 
     // A reader of another table in the same window, at offset 0.
     pub fn within(self, table: Region) -> Reader<'a>
-        ensures { result ≡ opened self.entry.window self.entry.first table }
+        ensures { result ≡ opened self.entry.table.window self.entry.table.first table }
     {
-        Reader::new(self.window, self.first, table)
+        Reader::new(self.table.window, self.table.first, table)
     }
 
     // Looks a name up in the table, from offset 0 on, wherever the position is, under the rule of a number. 29 where
@@ -91,64 +87,64 @@ impl<'a> Reader<'a> {
     // came to an absent link or to no entry. Under rule one (1) links 0 and 255 are absent: an entry at or below a
     // link of 255 may have the name, and going by `left` and `right` leads to it. Under rule two (2) 0 and 65,535
     // are absent, as for the walk, `left` and `right`.
-    pub fn look_up(self, name: &[u8], rule: u32) -> Looked
-        ensures { let s = self.entry in
-            lookup.told result ≡ lookup.lookup_of rule s.window.now s.first s.table name.now }
+    pub fn look_up(self, name: &[u8], rule: u32) -> Result<Found, LookupError>
+        ensures { let t = self.entry.table in
+            lookup.told result ≡ lookup.lookup_of rule t.window.now t.first t.region name.now }
     {
-        read_lookup::look_up(self.window, self.first, self.table, name, rule)
+        read_lookup::look_up(self.table, name, rule)
     }
 
     // Follows a path from the table, wherever the position is, each part under the rule of the number. 29, 2, 28,
     // then for each part what its lookup gives, and 27 where a part but the last is no directory. Under rule one (1)
     // links 0 and 255 are absent, and an entry at or below a link of 255 may have the part's name; under rule two (2)
     // 0 and 65,535 are.
-    pub fn find_path(self, path: &[u8], rule: u32) -> PathFound
-        ensures { let s = self.entry in
-            following.told result ≡ following.path_of rule s.window.now s.first s.table path.now }
+    pub fn find_path(self, path: &[u8], rule: u32) -> Result<Placed, PathError>
+        ensures { let t = self.entry.table in
+            following.told result ≡ following.path_of rule t.window.now t.first t.region path.now }
     {
-        read_path::find_path(self.window, self.first, self.table, path, rule)
+        read_path::find_path(self.table, path, rule)
     }
 
     // The entry at the position: its header and place in the window, or that there is none. 23, 24 with the offset.
-    pub fn entry(self) -> Read
-        ensures { let s = self.entry in
-            reading.told result ≡ reading.read_at s.window.now s.first s.table s.at.0 }
+    pub fn entry(self) -> Result<Option<Placed>, ReadError>
+        ensures { let s = self.entry in let t = s.table in
+            reading.told result ≡ reading.read_at t.window.now t.first t.region s.at.0 }
     {
-        read_entry::read_at(self.window, self.first, self.table, self.at)
+        self.table.read_at(self.at)
     }
 
     // The name of the entry at the position, as that part of the window itself; where there is no entry, the empty
     // part at the window's start.
     pub fn name(self) -> &'a [u8]
-        ensures { let s = self.entry in
-            IsPart result s.window (place.name_at s.window.now s.first s.table s.at.0) }
+        ensures { let s = self.entry in let t = s.table in
+            IsPart result t.window (place.name_at t.window.now t.first t.region s.at.0) }
     {
-        read_place::name_at(self.window, self.first, self.table, self.at)
+        read_place::name_at(self.table, self.at)
     }
 
     // The table of the directory at the position. 22 where there is no entry, 23, 24 with the offset, 27 where the
     // entry is no directory.
-    pub fn enter(self) -> Entered
-        ensures { let s = self.entry in
-            place.entered result ≡ place.table_at s.window.now s.first s.table s.at.0 }
+    pub fn enter(self) -> Result<Region, EnterError>
+        ensures { let s = self.entry in let t = s.table in
+            place.entered result ≡ place.table_at t.window.now t.first t.region s.at.0 }
     {
-        read_place::table_at(self.window, self.first, self.table, self.at)
+        read_place::table_at(self.table, self.at)
     }
 
     // Where the left link of the entry at the position leads, or that it is absent: 0 and 0xffff are, as for the
     // walk. 23, 24 with the position.
-    pub fn left(self) -> Linked
-        ensures { let s = self.entry in
-            place.linked result ≡ place.left_at s.window.now s.first s.table s.at.0 }
+    pub fn left(self) -> Result<Option<Offset>, ReadError>
+        ensures { let s = self.entry in let t = s.table in
+            place.linked result ≡ place.left_at t.window.now t.first t.region s.at.0 }
     {
-        read_place::left_at(self.window, self.first, self.table, self.at)
+        read_place::left_at(self.table, self.at)
     }
 
     // The same of the right link.
-    pub fn right(self) -> Linked
-        ensures { let s = self.entry in
-            place.linked result ≡ place.right_at s.window.now s.first s.table s.at.0 }
+    pub fn right(self) -> Result<Option<Offset>, ReadError>
+        ensures { let s = self.entry in let t = s.table in
+            place.linked result ≡ place.right_at t.window.now t.first t.region s.at.0 }
     {
-        read_place::right_at(self.window, self.first, self.table, self.at)
+        read_place::right_at(self.table, self.at)
     }
 }

@@ -37,6 +37,8 @@
 //         1 sector and 5 size of the root, 9 stamp (eight bytes), 17 the descriptor's 2,048 bytes.
 //   v     a descriptor read:
 //         1 number, 5 sector and 9 size of the root, 13 stamp (eight bytes), 21 the bytes that are read.
+// An answer is recorded by its number, 0 where nothing is refused, and compared by it: so the modules take numbers,
+// with 0 for a value that a refusal has not. They lend the front door arrays of the greatest size that a record has.
 #![tactic(auto)]
 
 mod names; // recorded names of tables, under both rules
@@ -46,13 +48,13 @@ mod record; // what stands at a place of a record
 mod table; // recorded tables
 mod volume; // recorded descriptors
 
-use record::{part, rest, short_at};
+use record::Record;
 use std::alloc::Global;
 use std::io::Read;
 use std::{fs, io};
 
 // How many records of each kind were run, and how many differ.
-#[derive(Clone, Copy)]
+#[derive(Clone, Copy, Default)]
 struct Tally {
     tables: u32,
     plans: u32,
@@ -66,141 +68,125 @@ struct Tally {
     differ: u32,
 }
 
-fn one_more(n: u32) -> u32 {
-    if n < 1000000000 {
-        return n + 1;
+// One more of a kind, up to 1,000,000,000.
+fn count(kind: &mut u32) {
+    if *kind < 1_000_000_000 {
+        *kind += 1;
     }
-    n
 }
 
-fn with(t: Tally, same: bool) -> Tally {
-    let mut u = t;
-    if same {
-        return u;
-    }
-    u.differ = one_more(t.differ);
-    u
-}
-
-// One request more under a number that is no rule.
-fn refused(t: Tally, same: bool) -> Tally {
-    let mut u = t;
-    u.no_rule = one_more(t.no_rule);
-    with(u, same)
-}
-
-// The names of a record.
-fn run_names(t: Tally, s: &[u8]) -> Tally {
-    let n = short_at(s, 13);
-    let w = rest(s, 15 + 40 * n);
-    let mut u = t;
-    let mut i = 0;
-    while i < n {
-        u.names = one_more(u.names);
-        u = with(u, names::same_name(s, w, i));
-        i += 1;
-    }
-    u
-}
-
-// One record more.
-fn run(t: Tally, s: &[u8]) -> Tally {
-    let mut u = t;
-    if s.len() == 0 {
-        return with(u, false);
-    }
-    if s[0] == b't' {
-        u.tables = one_more(t.tables);
-        return with(u, table::same_table(s));
-    }
-    if s[0] == b'i' {
-        u.plans = one_more(t.plans);
-        return with(u, plan::same_plan(s));
-    }
-    if s[0] == b'l' {
-        u.lookups = one_more(t.lookups);
-        return refused(with(u, read::same_lookup(s)), read::refused_lookup(s));
-    }
-    if s[0] == b'p' {
-        u.paths = one_more(t.paths);
-        return refused(with(u, read::same_path(s)), read::refused_path(s));
-    }
-    if s[0] == b'w' {
-        u.walks = one_more(t.walks);
-        return with(u, read::same_walk(s));
-    }
-    if s[0] == b'd' {
-        u.written = one_more(t.written);
-        return with(u, volume::same_written(s));
-    }
-    if s[0] == b'v' {
-        u.volumes = one_more(t.volumes);
-        return with(u, volume::same_read(s));
-    }
-    if s[0] == b'n' {
-        return run_names(u, s);
-    }
-    with(u, false)
-}
-
-// The records of a block, up to its end or to a length of 0.
-fn run_block(t: Tally, s: &[u8]) -> Tally {
-    let mut u = t;
-    let mut at = 0;
-    while at < s.len() {
-        let n = short_at(s, at);
-        if n == 0 {
-            return u;
+impl Tally {
+    // One answer more, the same as the recorded one or not.
+    fn note(&mut self, same: bool) {
+        if !same {
+            count(&mut self.differ);
         }
-        if s.len() - at < n + 2 {
-            return with(u, false);
-        }
-        u = run(u, part(s, at + 2, n));
-        at += n + 2;
     }
-    u
-}
 
-// The next block of the file.
-fn run_next(alloc: Global, t: Tally, file: &mut impl Read) -> io::Result<Tally> {
-    let mut kept = Vec::with_capacity(alloc, 65536)?;
-    file.by_ref().take(65536).read_to_end(&mut kept)?;
-    Ok(run_block(t, kept.as_slice()))
-}
+    // One request more under a number that is no rule.
+    fn note_refused(&mut self, same: bool) {
+        count(&mut self.no_rule);
+        self.note(same);
+    }
 
-fn show(rt: &impl Print, n: u32, what: &str) -> io::Result<()> {
-    println!(rt; "{n} {what}")
+    // The names of a record.
+    fn run_names(&mut self, r: Record<'_>) {
+        let n = r.short_at(13);
+        let w = r.rest(15 + 40 * n);
+        for i in 0..n {
+            count(&mut self.names);
+            self.note(names::same_name(r, w, i));
+        }
+    }
+
+    // One record more.
+    fn run(&mut self, r: Record<'_>) {
+        match r.bytes.first() {
+            Some(b't') => {
+                count(&mut self.tables);
+                self.note(table::same_table(r));
+            }
+            Some(b'i') => {
+                count(&mut self.plans);
+                self.note(plan::same_plan(r));
+            }
+            Some(b'l') => {
+                count(&mut self.lookups);
+                self.note(read::same_lookup(r));
+                self.note_refused(read::refused_lookup(r));
+            }
+            Some(b'p') => {
+                count(&mut self.paths);
+                self.note(read::same_path(r));
+                self.note_refused(read::refused_path(r));
+            }
+            Some(b'w') => {
+                count(&mut self.walks);
+                self.note(read::same_walk(r));
+            }
+            Some(b'd') => {
+                count(&mut self.written);
+                self.note(volume::same_written(r));
+            }
+            Some(b'v') => {
+                count(&mut self.volumes);
+                self.note(volume::same_read(r));
+            }
+            Some(b'n') => self.run_names(r),
+            _ => self.note(false),
+        }
+    }
+
+    // The records of a block, up to its end or to a length of 0.
+    fn run_block(&mut self, block: Record<'_>) {
+        let mut at = 0;
+        // No index is counted: a record's length says where the next one starts.
+        while at < block.bytes.len() {
+            let n = block.short_at(at);
+            if n == 0 {
+                return;
+            }
+            if block.bytes.len() - at < n + 2 {
+                return self.note(false);
+            }
+            self.run(block.inner(at + 2, n));
+            at += n + 2;
+        }
+    }
+
+    // The next block of the file.
+    fn run_next(&mut self, alloc: Global, file: &mut impl Read) -> io::Result<()> {
+        let mut kept = Vec::with_capacity(alloc, 65536)?;
+        file.by_ref().take(65536).read_to_end(&mut kept)?;
+        self.run_block(Record {
+            bytes: kept.as_slice(),
+        });
+        Ok(())
+    }
 }
 
 fn main(rt: HostRuntime) -> io::Result<()> {
     let Ok(mut file) = fs::open(&rt, "answers") else {
         return println!(rt; "not opened");
     };
-    let mut t = Tally {
-        tables: 0,
-        plans: 0,
-        lookups: 0,
-        paths: 0,
-        walks: 0,
-        written: 0,
-        volumes: 0,
-        no_rule: 0,
-        names: 0,
-        differ: 0,
-    };
-    let mut i: u32 = 0;
-    while i < 32 {
-        t = run_next(rt.alloc(), t, &mut file)?;
-        i += 1;
+    let mut t = Tally::default();
+    for _ in 0..32 {
+        t.run_next(rt.alloc(), &mut file)?;
     }
-    show(&rt, t.tables, "tables")?;
-    show(&rt, t.plans, "plans")?;
-    show(&rt, t.lookups, "lookups")?;
-    show(&rt, t.paths, "paths")?;
-    show(&rt, t.walks, "walks")?;
-    show(&rt, t.written, "descriptors written")?;
-    show(&rt, t.volumes, "descriptors read")?;
-    show(&rt, t.no_rule, "under no rule")?;
-    show(&rt, t.names, "names under both rules")?;
-    show(&rt, t.differ, "differ")
+    let said = [
+        (t.tables, "tables"),
+        (t.plans, "plans"),
+        (t.lookups, "lookups"),
+        (t.paths, "paths"),
+        (t.walks, "walks"),
+        (t.written, "descriptors written"),
+        (t.volumes, "descriptors read"),
+        (t.no_rule, "under no rule"),
+        (t.names, "names under both rules"),
+        (t.differ, "differ"),
+    ];
+    for (n, what) in said {
+        println!(rt; "{n} {what}")?;
+    }
+    Ok(())
 }

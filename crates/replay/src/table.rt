@@ -2,16 +2,15 @@
 // crates/replay/src/main.rt describes the records.
 ghost use Rattle.std.specs.Prelude.{◌<◌, length};
 
-use crate::record::{fill, is, number_at, part, short_at};
-use dirtab_entry::cause_number;
-use xdvdfs::{ListWritten, Sector};
+use crate::record::Record;
+use xdvdfs::{Entries, ListError, ListScratch, Names, Sector, Written};
 
 // What the output holds at a place past the size: 0xff up to the next sector line, and what it held before, 0,
 // after it.
 fn filling(size: usize, i: usize) -> u8
     requires { size < 1000000 }
 {
-    if i < (size + 2047) / 2048 * 2048 {
+    if i < size.next_multiple_of(2048) {
         return 255;
     }
     0
@@ -21,47 +20,34 @@ fn filling(size: usize, i: usize) -> u8
 fn is_table(out: &[u8], table: &[u8]) -> bool
     requires { length table.now < 1000000 }
 {
-    let mut i = 0;
-    while i < out.len() {
-        if i < table.len() {
-            if out[i] != table[i] {
-                return false;
-            }
-        } else if out[i] != filling(table.len(), i) {
+    for (i, x) in out.iter().enumerate() {
+        let wanted = if i < table.len() {
+            table[i]
+        } else {
+            filling(table.len(), i)
+        };
+        if *x != wanted {
             return false;
         }
-        i += 1;
     }
     true
 }
 
 // Whether the recorded answer is this one; a table's bytes are compared too.
-fn is_written(s: &[u8], n: u32, entry: u32, size: u32, next: u32) -> bool {
-    is(s, 5, n) && is(s, 9, entry) && is(s, 13, size) && is(s, 17, next)
+fn is_written(r: Record<'_>, n: u32, entry: u32, size: u32, next: u32) -> bool {
+    r.is(5, n) && r.is(9, entry) && r.is(13, size) && r.is(17, next)
 }
 
-fn answer_is(s: &[u8], r: ListWritten) -> bool {
-    match r {
-        ListWritten::Done(size, next) => is_written(s, 0, 0, size, next.number()),
-        ListWritten::Room => is_written(s, 6, 0, 0, 0),
-        ListWritten::Refused(cause, i) => is_written(s, cause_number(cause), i, 0, 0),
-        ListWritten::TooManyDirectoryEntries => is_written(s, 7, 0, 0, 0),
-        ListWritten::SectorOverflow => is_written(s, 8, 0, 0, 0),
-        ListWritten::BufferTooSmall => is_written(s, 9, 0, 0, 0),
+fn answer_is(r: Record<'_>, answer: Result<Written, ListError>) -> bool {
+    match answer {
+        Ok(table) => is_written(r, 0, 0, table.size, table.free.number()),
+        Err(ListError::Refused(cause, i)) => is_written(r, cause.number(), i, 0, 0),
+        Err(e) => is_written(r, e.number(), 0, 0, 0),
     }
 }
 
-// Writes the recorded list of n entries, whose names stand from `names` on and whose table's bytes after them.
-fn write_recorded(
-    s: &[u8],
-    n: usize,
-    start: &[u32],
-    len: &[u32],
-    size: &[u32],
-    kind: &[u8],
-    names: &[u8],
-    out: &mut [u8],
-) -> bool
+// Writes the recorded list of n entries.
+fn write_recorded(r: Record<'_>, n: usize, entries: Entries<'_>, out: &mut [u8]) -> bool
     requires { n < 65536 }
 {
     let mut left = [7u16; 64];
@@ -71,39 +57,41 @@ fn write_recorded(
     let mut key = [7u32; 64];
     let mut order = [7u16; 64];
     let mut place = [7u16; 64];
-    let first = Sector::new(number_at(s, 1));
-    let r = xdvdfs::write_list(
-        n as u32,
-        start,
-        len,
-        size,
-        kind,
-        names,
-        first,
-        &mut left,
-        &mut right,
-        &mut parent,
-        &mut height,
-        &mut key,
-        &mut order,
-        &mut place,
-        out,
-    );
-    answer_is(s, r)
+    let mut scratch = ListScratch {
+        left: &mut left,
+        right: &mut right,
+        parent: &mut parent,
+        height: &mut height,
+        key: &mut key,
+        order: &mut order,
+        place: &mut place,
+    };
+    let first = Sector::new(r.number_at(1));
+    answer_is(
+        r,
+        xdvdfs::write_list(n as u32, entries, first, &mut scratch, out),
+    )
 }
 
-pub fn same_table(s: &[u8]) -> bool {
-    let n = short_at(s, 21);
-    let names = short_at(s, 23);
+pub fn same_table(r: Record<'_>) -> bool {
+    let n = r.short_at(21);
+    let names = r.short_at(23);
     let mut start = [0u32; 64];
     let mut len = [0u32; 64];
     let mut size = [0u32; 64];
     let mut out = [0u8; 16384];
-    fill(s, 25, &mut start);
-    fill(s, 25 + 4 * n, &mut len);
-    fill(s, 25 + 8 * n, &mut size);
-    let kinds = part(s, 25 + 12 * n, n);
-    let bytes = part(s, 25 + 13 * n, names);
-    let table = part(s, 25 + 13 * n + names, 65536);
-    write_recorded(s, n, &start, &len, &size, kinds, bytes, &mut out) && is_table(&out, table)
+    r.fill(25, &mut start);
+    r.fill(25 + 4 * n, &mut len);
+    r.fill(25 + 8 * n, &mut size);
+    let entries = Entries {
+        names: Names {
+            bytes: r.part(25 + 13 * n, names),
+            start: &start,
+            len: &len,
+        },
+        size: &size,
+        kind: r.part(25 + 12 * n, n),
+    };
+    let table = r.part(25 + 13 * n + names, 65536);
+    write_recorded(r, n, entries, &mut out) && is_table(&out, table)
 }

@@ -3,66 +3,77 @@
 
 ghost use Rattle.std.specs.Prelude.{◌≡◌, ◌++◌, ◌-◌, ◌≤◌, length, take, replicate};
 
-// Zero everywhere, in a column of bytes.
-pub fn clear_bytes(bytes: &mut [u8])
-    ensures { bytes.new ≡ replicate (length bytes.old) 0 }
-{
-    let mut i = 0;
-    while i < bytes.len() {
-        bytes[i] = 0;
-        i += 1;
-    }
+// A number that a column holds, with its 0. A column is filled with clones of the 0: the two laws say that cloning it
+// never fails and gives 0 again.
+pub trait Zero: Copy {
+    ghost ZERO: { Self };
+
+    const ZERO: Self;
+
+    ghost fills: { Self.is_infallible ZERO };
+
+    ghost is_kept: { (y : Self) → Self.is_clone ZERO y → y ≡ ZERO };
 }
 
-// Zero everywhere, in a column of two bytes a place.
-pub fn clear_shorts(shorts: &mut [u16])
-    ensures { shorts.new ≡ replicate (length shorts.old) 0 }
-{
-    let mut i = 0;
-    while i < shorts.len() {
-        shorts[i] = 0;
-        i += 1;
-    }
+impl Zero for u8 {
+    ghost ZERO = { 0 };
+
+    const ZERO: u8 = 0;
+
+    ghost fills = { tt };
+
+    ghost is_kept = { λ _ e. e };
 }
 
-// Zero everywhere, in a column of eight bytes a place.
-pub fn clear_longs(longs: &mut [u64])
-    ensures { longs.new ≡ replicate (length longs.old) 0 }
-{
-    let mut i = 0;
-    while i < longs.len() {
-        longs[i] = 0;
-        i += 1;
-    }
+impl Zero for u16 {
+    ghost ZERO = { 0 };
+
+    const ZERO: u16 = 0;
+
+    ghost fills = { tt };
+
+    ghost is_kept = { λ _ e. e };
 }
 
-// Zero from a place on, in a column of four bytes a place.
-pub fn clear_from(words: &mut [u32], from: usize)
-    requires { from ≤ length words.old }
-    ensures { words.new ≡ take from words.old ++ replicate (length words.old - from) 0 }
-{
-    let mut i = from;
-    while i < words.len() {
-        words[i] = 0;
-        i += 1;
-    }
+impl Zero for u32 {
+    ghost ZERO = { 0 };
+
+    const ZERO: u32 = 0;
+
+    ghost fills = { tt };
+
+    ghost is_kept = { λ _ e. e };
 }
 
-// Zero everywhere, in a column of four bytes a place.
-pub fn clear_words(words: &mut [u32])
-    ensures { words.new ≡ replicate (length words.old) 0 }
+impl Zero for u64 {
+    ghost ZERO = { 0 };
+
+    const ZERO: u64 = 0;
+
+    ghost fills = { tt };
+
+    ghost is_kept = { λ _ e. e };
+}
+
+// Zero everywhere.
+pub fn clear<T: Zero>(xs: &mut [T])
+    ensures { xs.new ≡ replicate (length xs.old) T.ZERO }
 {
-    clear_from(words, 0);
+    xs.fill(T::ZERO);
+}
+
+// Zero from a place on.
+pub fn clear_from<T: Zero>(xs: &mut [T], from: usize)
+    requires { from ≤ length xs.old }
+    ensures { xs.new ≡ take from xs.old ++ replicate (length xs.old - from) T.ZERO }
+{
+    xs[from..].fill(T::ZERO);
 }
 
 // One column into another of the same length.
-pub fn copy_words(from: &[u32], to: &mut [u32])
+pub fn copy<T: Copy>(from: &[T], to: &mut [T])
     requires { length to.old ≡ length from.now }
     ensures { to.new ≡ from.now }
 {
-    let mut at = 0;
-    while at < from.len() {
-        to[at] = from[at];
-        at += 1;
-    }
+    to.copy_from_slice(from);
 }

@@ -88,15 +88,12 @@ module _ (w : List ℕ) (p : ℕ) where
         by false e = of_entry whole e
 
 -- at an offset of a table that starts where the window does, n its number
-module _ (w : List ℕ) (size : ℕ) (o : Offset) (n : ℕ) (is-n : n ≡ o.0) where
-  abbrev There : List ℕ → Type 0
-  There name = (first : Sector) (t : Region) → Begins first t size → name ≡ name_by w (read_at w first t o.0)
+module _ (w : List ℕ) (first : Sector) (t : Region) (b : Begins first t) (o : Offset) (n : ℕ) (is-n : n ≡ o.0) where
+  pub name_outside : t.size ≤ n → [] ≡ name_by w (read_at w first t o.0)
+  name_outside h = rw (read_by_tests w first t o.0, le-leb t.size o.0 (omega arith))
 
-  pub name_outside : size ≤ n → There []
-  name_outside h first t b = rw (read_by_tests w first t o.0, le-leb t.size o.0 (omega (arith, b.sized)))
-
-  pub name_inside : (name : List ℕ) → n < size → Here w n name → There name
-  name_inside name h e first t b =
+  pub name_inside : (name : List ℕ) → n < t.size → Here w n name → name ≡ name_by w (read_at w first t o.0)
+  name_inside name h e =
       let at : byte_of t o.0 - 2048 * first.0 ≡ n = omega (arith, b.window, b.table) in
       e o.0
-      ∙ sym (rw (read_by_tests w first t o.0, lt-leb t.size o.0 (omega (arith, b.sized)), le-ltb (byte_of t o.0) (2048 * first.0) (omega (arith, b.window)), at))
+      ∙ sym (rw (read_by_tests w first t o.0, lt-leb t.size o.0 (omega arith), le-ltb (byte_of t o.0) (2048 * first.0) (omega (arith, b.window)), at))

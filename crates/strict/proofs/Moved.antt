@@ -10,14 +10,17 @@ use Rattle.units.specs.Told.{Told, gives, refuses}
 use Rattle.units.specs.declared.Sector.{Sector}
 use Rattle.units.specs.declared.Region.{Region}
 use Rattle.name_role.specs.Roles.{stored_order}
-use Rattle.read_entry.specs.Entry.{Placed, read_at, name_of}
-use Rattle.read_entry.specs.inner.Part.{part_of, placed_on, moved}
+use Rattle.read_entry.specs.declared.Placed.{Placed}
+use Rattle.read_entry.specs.Entry.{read_at, name_of}
+use Rattle.read_entry.specs.declared.Table.{Table}
+use Rattle.read_entry.specs.inner.Part.{placed_on, moved, IsNarrowed}
 use Rattle.read_entry.proofs.Moved.{read_moved, name_moved, read_nothing, Starts, inside, outside, starts}
 use Rattle.read_walk.specs.Walk.{before}
-use Rattle.strict_rule.specs.declared.Checked.{Checked}
+use Rattle.std.specs.Prelude.{Result}
+use Rattle.strict_rule.specs.declared.CheckError.{CheckError}
 use Rattle.strict_rule.specs.Strict.{Visit, root, entered, end_of, end_by, name_by, is_less, is_under, is_over, every, apart, placed, ordered, verdict_at, if_good, by_read, to_entry, strict_from}
 use Rattle.strict_rule.specs.inner.Nearest.{entered_nearest}
-use Rattle.strict.specs.inner.Run.{run_of, Runs}
+use Rattle.strict.specs.inner.Run.{Begins, run_of, Runs}
 use Rattle.strict_rule.proofs.Steps.{check_refused}
 use Rattle.strict_rule.proofs.Nearest.{nearest_suffice}
 
@@ -92,23 +95,28 @@ module _ (w : List ℕ) (b : ℕ) (held : b ≤ length w) (f g : ℕ → Told (O
       (λ v x rest.
       ap₂ if_good (verdict_alike size seen false v x) (ap (before (v.offset ∷ [])) (check_alike size room (seen ++ (v.offset ∷ [])) (entered_nearest v x rest)))) stack
 
--- f and s: the first sector, and the table's, for the part alone
-module _ (w : List ℕ) (first : Sector) (t : Region) (some_size : t.size ≡ 0 → ⊥) (f s : Sector) (f-is : f.0 ≡ 0) (s-is : s.0 ≡ 0) where
-  abbrev u : Region
-  u = record { sector = s; size = t.size }
-
+-- f and u: the first sector and the table for the part alone
+module _ (w : List ℕ) (first : Sector) (t : Region) (some_size : t.size ≡ 0 → ⊥) (f : Sector) (u : Region) (f-is : f.0 ≡ 0) (u-is : u.sector.0 ≡ 0) (same : u.size ≡ t.size) where
   check_by : (room : ℕ) (part : List ℕ) → Starts w first t part → run_of part f u room ≡ run_of w first t room
   check_by room part (inside b begins held is base) =
-      rw is (sym (check_alike w b held (read_at w first t) (read_at (drop b w) f u) (read_moved w first t f u f-is s-is refl b begins held) t.size room [] (root ∷ [])))
+      rw is
+      (ap (λ (n : ℕ). strict_from entered_nearest (drop b w) (read_at (drop b w) f u) n room [] (root ∷ [])) same
+      ∙ sym (check_alike w b held (read_at w first t) (read_at (drop b w) f u) (read_moved w first t f u f-is u-is same b begins held) t.size room [] (root ∷ [])))
   check_by room part (outside is refused-there) =
       rw is
-      (check_refused entered_nearest [] (read_at [] f u) t.size [] root [] room 24 (0 ∷ []) (read_nothing w first t f u f-is s-is refl some_size)
+      (check_refused entered_nearest [] (read_at [] f u) u.size [] root [] room 24 (0 ∷ []) (read_nothing w first t f u f-is u-is same some_size)
       ∙ sym (check_refused entered_nearest w (read_at w first t) t.size [] root [] room 24 (0 ∷ []) (refused-there some_size)))
 
--- the loop over the part with nearest bounds, as the code has it, is the check of the window
-pub runs_moved : (w : List ℕ) (first : Sector) (t : Region) → (t.size ≡ 0 → ⊥) → (part : List ℕ) → part ≡ part_of w first t → (f s : Sector) → f.0 ≡ 0 → s.0 ≡ 0 →
-    (room : ℕ) (r : Checked) (list : List ℕ) →
-    Runs (run_of part f (record { sector = s; size = t.size }) room) r list → Runs (strict_from entered w (read_at w first t) t.size room [] (root ∷ [])) r list
-runs_moved w first t some_size part e f s f-is s-is room r list runs =
+-- the loop over the table in its own part with nearest bounds, as the code has it, is the check of the window
+pub runs_moved : (t u : Table) → (t.region.size ≡ 0 → ⊥) → IsNarrowed t u → (room : ℕ) (r : Result ℕ CheckError) (list : List ℕ)
+    → Runs (run_of u.window.now u.first u.region room) r list
+    → Runs (strict_from entered t.window.now (read_at t.window.now t.first t.region) t.region.size room [] (root ∷ [])) r list
+runs_moved t u some_size n room r list runs =
+    let w = t.window.now in
     subst (λ (x : Told (List ℕ)). Runs x r list)
-    (check_by w first t some_size f s f-is s-is room part (starts w first t part e) ∙ nearest_suffice w (read_at w first t) t.size room) runs
+    (check_by w t.first t.region some_size u.first u.region n.1 n.2 n.3 room u.window.now (starts w t.first t.region u.window.now n.0)
+    ∙ nearest_suffice w (read_at w t.first t.region) t.region.size room) runs
+
+-- and it starts where the window does
+pub begins_there : (t u : Table) → IsNarrowed t u → Begins u.first u.region
+begins_there t u n = record { window = n.1; table = n.2 }

@@ -2,6 +2,7 @@
 use Prim.Native.Nat.{ℕ, ◌+◌, ◌*◌, ◌/◌, ◌%◌, ◌<◌}
 use mathlib.Core.Path.{◌≡◌, refl, sym, ap, ap₂, ◌∙◌}
 use mathlib.Core.Bool.{Bool, true, false}
+use mathlib.Core.Logic.{◌⊎◌, inl, inr}
 use mathlib.Core.List.{List, [], ◌∷◌, map}
 use native.Mathlib.Omega.{arith}
 use borrow.Author.Tests.{eq-eqb, ne_eqb}
@@ -37,22 +38,26 @@ module _ (k u v : ℕ) (low-k : k < 65536) (low-u : u < 65536) (low-v : v < 6553
 
 -- a link, n its number, with the rest of its visit's number
 module _ (s : List ℕ) (top rest n : ℕ) (l : Link) (is-n : n ≡ l.0) where
-  pub zero_link : n ≡ 0 → Pushed l.0 rest s top s top
+  zero_link : n ≡ 0 → Pushed l.0 rest s top s top
   unfolding push is_in
   zero_link e = record { stack = rw (← is-n, eq-eqb _ _ e); height = omega arith; kept = refl }
 
   module _ (not_zero : n ≡ 0 → ⊥) where
-    pub ones_link : n ≡ 65535 → Pushed l.0 rest s top s top
+    ones_link : n ≡ 65535 → Pushed l.0 rest s top s top
     unfolding push is_in
     ones_link e = record { stack = rw (← is-n, ne_eqb _ _ not_zero, eq-eqb _ _ e); height = omega arith; kept = refl }
 
-    pub link : (top < length s) × (rest < 4294967296) → (n ≡ 65535 → ⊥) → (r : ℕ) → r ≡ top + 1 → Pushed l.0 rest s top (set s top (n + 65536 * rest)) r
+    pub link : (top < length s) × (rest < 4294967296) → (n ≡ 65535 → ⊥) → (v : ℕ) → v ≡ n → (r : ℕ) → r ≡ top + 1 → Pushed l.0 rest s top (set s top (v + 65536 * rest)) r
     unfolding push is_in
-    link h m r d = record {
+    link h m v is-v r d = rw is-v (record {
       stack = rw (← is-n, ne_eqb _ _ not_zero, ne_eqb _ _ m, d) (ap (map visit_of) (stack_push s top (n + 65536 * rest) h.0));
       height = omega arith;
       kept = length-set s top (n + 65536 * rest);
-    }
+    })
+
+  pub absent_link : (n ≡ 0) ⊎ ((n ≡ 0 → ⊥) × (n ≡ 65535)) → Pushed l.0 rest s top s top
+  absent_link (inl e) = zero_link e
+  absent_link (inr e) = ones_link e.0 e.1
 
 -- the children of the entry at visit c
 bound_of_link : (k : ℕ) → k < 65535 → bound_of k ≡ 4 * k ∷ []

@@ -12,7 +12,7 @@ use borrow.Author.Tests.{eq-eqb, ne_eqb, eqb-true}
 use lib.Dec.{eqb}
 use lib.ListN.{length, get_or, replicate, length-replicate, get_or-replicate}
 use Rattle.units.specs.Told.{Told}
-use Rattle.read_entry.specs.Entry.{Placed}
+use Rattle.read_entry.specs.declared.Placed.{Placed}
 use Rattle.read_entry.specs.Links.{is_in}
 use Rattle.strict_map.specs.inner.Map.{Tested, Taken, Marked}
 use Rattle.strict_map.proofs.Turn.{below_or_not}

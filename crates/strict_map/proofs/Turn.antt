@@ -1,14 +1,13 @@
 -- A turn of each loop over a map of units, over plain lists and numbers. Assumes nothing.
 use Prim.Native.Nat.{ℕ, ◌+◌, ◌-◌, ◌%◌, ◌≤◌, ◌<◌}
-use mathlib.Core.Path.{◌≡◌, refl, ◌∙◌}
+use mathlib.Core.Path.{◌≡◌}
 use mathlib.Core.Bool.{true, false}
 use mathlib.Core.Logic.{◌⊎◌, inl, inr, ⊎_elim}
 use mathlib.Core.List.{List}
 use native.Mathlib.Omega.{arith}
 use native.Mathlib.Decide.{dec_lt}
-use lib.ListN.{length, get_or, set, length-set}
-use lib.Seq.{get_or-set_same, get_or-set_other}
-use Rattle.strict_map.specs.inner.Map.{Tested, Marked}
+use lib.ListN.{get_or}
+use Rattle.strict_map.specs.inner.Map.{Tested}
 
 below_by : (a b : ℕ) → Dec (a < b) → (a < b) ⊎ (b ≤ a)
 below_by a b (yes h) = inl h
@@ -59,53 +58,3 @@ module _ (m : List ℕ) (from to i : ℕ) (p : Passing m from to i) where
     last = λ e. p.last;
     taken = λ e. let z : ◌≡◌ {A = ℕ} 0 1 = cc in absurd (omega arith);
   }
-
--- marking's invariant: the first unit holds 1, those after it before i hold 2, and all else is as it was
-pub record Marking (m : List ℕ) (from to : ℕ) (now : List ℕ) (i : ℕ) : Type 0 where
-  pub low : from < i
-  pub high : i ≤ to
-  pub room : to ≤ length m
-  pub done : Marked m from i now
-
-pub first_marked : (m : List ℕ) (from to : ℕ) → to ≤ length m → from < to → (i : ℕ) → i ≡ from + 1 → Marking (set m from 1) from to (set m from 1) i
-first_marked m from to l h i d = record {
-  low = omega arith;
-  high = omega arith;
-  room = rw length-set l;
-  done = record {
-    kept = refl;
-    first = get_or-set_same m from 1 0 (omega arith);
-    others = λ u a b. absurd (omega arith);
-    beside = λ u a. refl;
-  };
-}
-
-module _ (m : List ℕ) (from to : ℕ) (now : List ℕ) (i : ℕ) (p : Marking m from to now i) where
-  pub one_more : i < to → (j : ℕ) → j ≡ i + 1 → Marking m from to (set now i 2) j
-  one_more h j d = record {
-    low = omega (arith, p.low);
-    high = omega arith;
-    room = p.room;
-    done = record {
-      kept = length-set now i 2 ∙ p.done.kept;
-      first = get_or-set_other now i from 2 0 (λ e. omega (arith, p.low)) ∙ p.done.first;
-      others = λ u a b. ⊎_elim
-          (λ (x : u < i). get_or-set_other now i u 2 0 (λ e. omega arith) ∙ p.done.others u a x)
-          (λ (x : i ≤ u). let z : u ≡ i = omega arith in rw z (get_or-set_same now i 2 0 (omega (arith, p.done.kept, p.room))))
-          (below_or_not u i);
-      beside = λ u a. get_or-set_other now i u 2 0 (λ e. ⊎_elim (λ (x : u < from). omega (arith, p.low)) (λ (x : j ≤ u). omega arith) a)
-          ∙ p.done.beside u (⊎_elim (λ (x : u < from). inl x) (λ (x : j ≤ u). inr (omega arith)) a);
-    };
-  }
-
--- the loop's end, of the map as it came
-pub all_marked_lem : (m : List ℕ) (from to : ℕ) (now : List ℕ) (i : ℕ) → Marking (set m from 1) from to now i → to ≤ i → Marked m from to now
-all_marked_lem m from to now i p h =
-    let z : i ≡ to = omega (arith, p.high) in
-    let d : Marked (set m from 1) from to now = rw z at p.done in
-    record {
-      kept = d.kept ∙ length-set m from 1;
-      first = d.first;
-      others = d.others;
-      beside = λ u a. d.beside u a ∙ get_or-set_other m from u 1 0 (λ e. ⊎_elim (λ (x : u < from). omega arith) (λ (x : to ≤ u). omega (arith, p.low)) a);
-    }

@@ -17,7 +17,8 @@ use Rattle.units.specs.declared.Sector.{Sector}
 use Rattle.units.specs.declared.Region.{Region}
 use Rattle.layout_name.specs.inner.Order.{opposite}
 use Rattle.name_role.proofs.Roles.{stored_opposite}
-use Rattle.read_entry.specs.Entry.{Placed, read_at}
+use Rattle.read_entry.specs.declared.Placed.{Placed}
+use Rattle.read_entry.specs.Entry.{read_at}
 use Rattle.read_entry.specs.Links.{is_in, walk_absent}
 use Rattle.read_walk.specs.Walk.{walk_of}
 use Rattle.strict_rule.specs.Strict.{Visit, root, visit_left, visit_right, push, entered, end_of, end_by, name_in, clear, apart, placed, every, ordered, strict_of}

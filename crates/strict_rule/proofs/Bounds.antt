@@ -12,16 +12,16 @@ use mathlib.Core.List.{List, [], ◌∷◌}
 use mathlib.Core.Option.{Option, some}
 use native.Mathlib.Omega.{arith}
 use Rattle.units.specs.Told.{Told, gives}
-use Rattle.layout_name.specs.declared.Order.{Order}
-use Rattle.layout_name.specs.declared.Order.TheVariants.{Less, Equal, Greater}
+use Rattle.std.specs.declared.cmp.Ordering.{Ordering}
+use Rattle.std.specs.declared.cmp.Ordering.TheVariants.{Less, Equal, Greater}
 use Rattle.name_role.specs.Roles.{stored_order}
-use Rattle.read_entry.specs.Entry.{Placed}
+use Rattle.read_entry.specs.declared.Placed.{Placed}
 use Rattle.strict_rule.specs.Strict.{Visit, visit_left, visit_right, name_in, name_by, is_less, is_under, is_over, every, ordered}
 use Rattle.strict_rule.specs.Accepts.{Reach}
 use Rattle.strict_rule.proofs.Clear.{both_first, both_second}
 
 -- an order that is less
-pub is_less_says : (o : Order) → is_less o ≡ true → o ≡ Less
+pub is_less_says : (o : Ordering) → is_less o ≡ true → o ≡ Less
 is_less_says Less e = refl
 is_less_says Equal e = let z : ◌≡◌ {A = ℕ} 0 1 = cc in absurd (omega arith)
 is_less_says Greater e = let z : ◌≡◌ {A = ℕ} 0 1 = cc in absurd (omega arith)

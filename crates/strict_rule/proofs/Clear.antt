@@ -10,7 +10,7 @@ use native.Mathlib.Omega.{arith}
 use borrow.Author.Tests.{eq-eqb, ne_eqb, le-leb, lt-leb, leb-true}
 use lib.Dec.{leb, eqb}
 use Rattle.units.specs.Told.{Told, pick}
-use Rattle.read_entry.specs.Entry.{Placed}
+use Rattle.read_entry.specs.declared.Placed.{Placed}
 use Rattle.read_entry.specs.Links.{is_in}
 use Rattle.strict_rule.specs.Strict.{end_by, clear}
 

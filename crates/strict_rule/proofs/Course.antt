@@ -8,7 +8,7 @@ use mathlib.Core.Option.{Option, some, none}
 use native.Mathlib.Omega.{arith}
 use lib.ListN.{length}
 use Rattle.units.specs.Told.{Told, gives, refuses, pick}
-use Rattle.read_entry.specs.Entry.{Placed}
+use Rattle.read_entry.specs.declared.Placed.{Placed}
 use Rattle.read_entry.specs.Links.{is_in, walk_absent}
 use Rattle.read_walk.specs.Walk.{before}
 use Rattle.read_walk.specs.Walk as walk

@@ -12,7 +12,7 @@ use lib.ListN.{take}
 use lib.Seq.{take-take}
 use Rattle.units.specs.Told.{Told, gives, refuses, pick}
 use Rattle.name_role.proofs.Roles.{stored_trans}
-use Rattle.read_entry.specs.Entry.{Placed}
+use Rattle.read_entry.specs.declared.Placed.{Placed}
 use Rattle.read_entry.specs.Links.{is_in, walk_absent}
 use Rattle.read_walk.specs.Walk.{before}
 use Rattle.strict_rule.specs.Strict.{Visit, visit_left, visit_right, root, push, entered, end_of, name_in, name_by, placed, is_less, is_under, is_over, every, ordered, judged, if_good, by_read, to_entry, verdict_at, strict_from}

@@ -8,7 +8,7 @@ use mathlib.Core.Option.{Option, some, none}
 use native.Mathlib.Omega.{arith}
 use lib.Dec.{eqb, eqb-suc-zero}
 use Rattle.units.specs.Told.{Told, gives, refuses}
-use Rattle.read_entry.specs.Entry.{Placed}
+use Rattle.read_entry.specs.declared.Placed.{Placed}
 use Rattle.read_entry.specs.Links.{is_in}
 use Rattle.read_walk.specs.Walk.{before}
 use Rattle.strict_rule.specs.Strict.{Visit, end_of, name_in, placed, ordered, judged, if_good, to_entry, verdict_at, strict_from}

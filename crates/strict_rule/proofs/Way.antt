@@ -6,7 +6,7 @@ use mathlib.Core.Option.{Option, some, none}
 use native.Mathlib.Omega.{arith}
 use lib.ListN.{length}
 use Rattle.units.specs.Told.{Told, gives, refuses}
-use Rattle.read_entry.specs.Entry.{Placed}
+use Rattle.read_entry.specs.declared.Placed.{Placed}
 use Rattle.read_entry.specs.Links.{walk_absent}
 use Rattle.read_walk.specs.Walk.{before, push, walk_from}
 use Rattle.read_walk.proofs.Steps.{walk_none, walk_nothing, walk_refused, walk_full, walk_entry}

@@ -7,9 +7,10 @@ use Rattle.std.proofs.Math.Option.{Option, some}
 use Rattle.units.specs.Told.{Told, gives}
 use Rattle.units.specs.declared.Sector.{Sector}
 use Rattle.units.specs.declared.Region.{Region}
-use Rattle.layout_name.specs.declared.Order.TheVariants.{Less, Greater}
+use Rattle.std.specs.declared.cmp.Ordering.TheVariants.{Less, Greater}
 use Rattle.name_role.specs.Roles.{stored_order}
-use Rattle.read_entry.specs.Entry.{Placed, read_at}
+use Rattle.read_entry.specs.declared.Placed.{Placed}
+use Rattle.read_entry.specs.Entry.{read_at}
 use Rattle.read_entry.specs.Links.{is_in, walk_absent}
 use Rattle.read_walk.specs.Walk.{walk_of}
 use Rattle.strict_rule.specs.Strict.{end_of, name_in}

@@ -1,6 +1,6 @@
 -- What the strict check answers: a walk that stops at the first fault, in walk order. Assumes nothing.
 use Rattle.std.specs.Prelude.{ℕ, zero, suc, ◌+◌, ◌-◌, ◌*◌, ◌/◌, Bool, true, false, ◌&&◌, List, [], ◌∷◌, ◌++◌, leb, eqb}
-use Rattle.std.specs.Prelude.{length}
+use Rattle.std.specs.Prelude.{length, Result, Ok, Err}
 use Rattle.std.proofs.Math.Option.{Option, some, none}
 use Rattle.units.specs.Told.{Told, gives, refuses, pick}
 use Rattle.units.specs.declared.Sector.{Sector}
@@ -9,12 +9,13 @@ pub use Rattle.layout_name.specs.Order.{is_less}
 use Rattle.name_role.specs.Roles.{stored_order}
 use Rattle.layout_node.specs.declared.Header.{Header}
 use Rattle.layout_node.specs.Header.{entry_length}
-use Rattle.read_entry.specs.Entry.{Placed, read_at, name_of}
+use Rattle.read_entry.specs.declared.Placed.{Placed}
+use Rattle.read_entry.specs.Entry.{read_at, name_of, refused}
 use Rattle.read_entry.specs.Links.{is_in, walk_absent}
 use Rattle.read_walk.specs.Walk.{before, counted, listed}
 unfoldable pub use Rattle.read_walk.specs.Walk.{scratch_after}
-use Rattle.strict_rule.specs.declared.Checked.{Checked}
-use Rattle.strict_rule.specs.declared.Checked.TheVariants as checked
+use Rattle.strict_rule.specs.declared.CheckError.{CheckError}
+use Rattle.strict_rule.specs.declared.CheckError.TheVariants as check_error
 
 -- where the entry at an offset ends: its header and name, rounded up to a multiple of 4
 abbrev pub end_of : Header → ℕ → ℕ
@@ -150,12 +151,11 @@ unfoldable pub list_after : List ℕ → Sector → Region → List ℕ → ℕ 
 list_after w first t list m = pick (leb m (length list)) list (listed (strict_of w first t (length list)) (length list))
 
 -- what each answer of the code stands for
-abbrev pub told : Checked → Told ℕ
-told (checked.Done n) = gives n
-told checked.Room = refuses 6 []
-told (checked.OutOfBounds o) = refuses 23 (o.0 ∷ [])
-told (checked.Truncated o) = refuses 24 (o.0 ∷ [])
-told checked.WalkFull = refuses 26 []
-told (checked.Shared o) = refuses 30 (o.0 ∷ [])
-told (checked.OutOfOrder o) = refuses 31 (o.0 ∷ [])
-told (checked.BadPlace o) = refuses 32 (o.0 ∷ [])
+abbrev pub told : Result ℕ CheckError → Told ℕ
+told (Ok n) = gives n
+told (Err check_error.Room) = refuses 6 []
+told (Err (check_error.Read e)) = refused e
+told (Err check_error.WalkFull) = refuses 26 []
+told (Err (check_error.Shared o)) = refuses 30 (o.0 ∷ [])
+told (Err (check_error.OutOfOrder o)) = refuses 31 (o.0 ∷ [])
+told (Err (check_error.BadPlace o)) = refuses 32 (o.0 ∷ [])

@@ -1,8 +1,5 @@
 -- A table of three entries, by computing. Assumes nothing.
-use Prim.Native.Nat.{ℕ, zero, suc}
-use mathlib.Core.Path.{◌≡◌, refl}
-use mathlib.Core.List.{[], ◌∷◌, ◌++◌}
-use lib.ListN.{replicate}
+use Rattle.std.proofs.Common.{ℕ, zero, suc, ◌≡◌, refl, [], ◌∷◌, ◌++◌, replicate}
 use Rattle.units.specs.Told.{gives}
 use Rattle.layout_node.specs.Header.{header_bytes}
 use Rattle.layout_sector.specs.Counter.{sectors_for}

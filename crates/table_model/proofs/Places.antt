@@ -1,9 +1,5 @@
 -- Where entries start and end: no sector line is crossed, starts are multiples of 4 and come after what went before, sectors too. Assumes nothing.
-use Prim.Native.Nat.{ℕ, ◌+◌, ◌-◌, ◌/◌, ◌%◌, ◌≤◌, ◌<◌}
-use mathlib.Core.Path.{◌≡◌, refl, ap, ◌∙◌}
-use mathlib.Core.Bool.{Bool, true, false}
-use native.Mathlib.Omega.{arith}
-use borrow.Author.Tests.{le-leb, leb-true, leb-false}
+use Rattle.std.proofs.Common.{ℕ, ◌+◌, ◌-◌, ◌/◌, ◌%◌, ◌≤◌, ◌<◌, ◌≡◌, refl, ap, ◌∙◌, Bool, true, false, arith, le-leb, leb-true, leb-false}
 use Rattle.units.specs.Told.{pick}
 use Rattle.layout_sector.specs.Counter.{sectors_for, aligned_up}
 use Rattle.layout_sector.proofs.Laws.{aligned_one, aligned_above}

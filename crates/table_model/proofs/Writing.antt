@@ -2,12 +2,9 @@
 --     next_entry                       one turn of the writing loop, in the buffer
 --     written_none, written_next       THE LOOP'S START AND TURN, as `written_over` says them
 --     written_table                    the loop's end: a buffer with a table's items written is the table's bytes and the rest of the buffer
-use Prim.Native.Nat.{ℕ, ◌+◌, ◌-◌, ◌≤◌}
-use mathlib.Core.Path.{◌≡◌, refl, sym, ap, ap₂, ◌∙◌}
-use mathlib.Core.List.{List, [], ◌∷◌, ◌++◌, append_assoc, append-nil}
-use native.Mathlib.Omega.{arith}
+use Rattle.std.proofs.Common.{ℕ, ◌+◌, ◌-◌, ◌≤◌, ◌≡◌, refl, sym, ap, ap₂, ◌∙◌, List, [], ◌∷◌, ◌++◌, append_assoc, append-nil, arith, length, drop, replicate, length-append}
 use native.Mathlib.Nat.{sub-zero}
-use lib.ListN.{length, drop, replicate, length-append, length-replicate, replicate-append-replicate}
+use Rattle.std.proofs.Math.ListN.{length-replicate, replicate-append-replicate}
 use Rattle.layout_bytes.specs.inner.Bytes.{put_at}
 use Rattle.layout_bytes.proofs.Put.{put_seam}
 use Rattle.layout_node.specs.Header.{header_bytes}

@@ -10,7 +10,8 @@ use Rattle.layout_bytes.specs.Bytes.{all}
 use Rattle.layout_name.specs.Order.{raised, number_order, list_order}
 use Rattle.name_role.specs.Roles.{stored_keys, sought_keys, stored_order, sought_order, bad_sought}
 use Rattle.layout_node.specs.Header.{header_of, is_blank}
-use Rattle.read_entry.specs.Entry.{Placed, read_here, read_at, name_of}
+use Rattle.read_entry.specs.declared.Placed.{Placed}
+use Rattle.read_entry.specs.Entry.{read_here, read_at, name_of}
 use Rattle.read_entry.specs.Links.{is_in, absent_under}
 use Rattle.read_lookup.specs.Lookup.{by_link, step_at, chain_from, lookup_by, lookup_of}
 use Rattle.read_lookup.proofs.Cases.{file, filed, first, of_size, look_under}

@@ -23,7 +23,8 @@ use Rattle.units.specs.declared.Sector.{Sector}
 use Rattle.units.specs.declared.Region.{Region}
 use Rattle.name_role.specs.Roles.{bad_sought}
 use Rattle.name_role.proofs.Roles.{sought_equal→}
-use Rattle.read_entry.specs.Entry.{Placed, read_at}
+use Rattle.read_entry.specs.declared.Placed.{Placed}
+use Rattle.read_entry.specs.Entry.{read_at}
 use Rattle.read_entry.specs.Links.{walk_absent}
 use Rattle.read_entry.proofs.Fit.{Bytes}
 use Rattle.read_lookup.specs.Lookup.{Finding, lookup_of}

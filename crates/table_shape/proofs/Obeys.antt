@@ -8,7 +8,8 @@ use mathlib.Core.Option.{Option, some, none}
 use Rattle.units.specs.Told.{Told, gives}
 use Rattle.units.specs.declared.Sector.{Sector}
 use Rattle.units.specs.declared.Region.{Region}
-use Rattle.read_entry.specs.Entry.{Placed, read_at}
+use Rattle.read_entry.specs.declared.Placed.{Placed}
+use Rattle.read_entry.specs.Entry.{read_at}
 use Rattle.lookup_way.specs.Along.{Along, there, left, right, Real}
 use Rattle.lookup_way.proofs.Along.{one_read}
 use Rattle.lookup_way.proofs.Sets.{followed, real_cons}

@@ -10,11 +10,12 @@ use native.Mathlib.Omega.{arith}
 use Rattle.units.specs.Told.{Told, gives, refuses, pick}
 use Rattle.units.specs.declared.Sector.{Sector}
 use Rattle.units.specs.declared.Region.{Region}
-use Rattle.layout_name.specs.declared.Order.{Order}
-use Rattle.layout_name.specs.declared.Order.TheVariants.{Less, Equal, Greater}
+use Rattle.std.specs.declared.cmp.Ordering.{Ordering}
+use Rattle.std.specs.declared.cmp.Ordering.TheVariants.{Less, Equal, Greater}
 use Rattle.name_role.specs.Roles.{stored_order, sought_order, bad_sought}
 use Rattle.name_role.proofs.Roles.{sought_equal, sought_then}
-use Rattle.read_entry.specs.Entry.{Placed, read_at}
+use Rattle.read_entry.specs.declared.Placed.{Placed}
+use Rattle.read_entry.specs.Entry.{read_at}
 use Rattle.read_entry.specs.Links.{is_in, walk_absent}
 use Rattle.read_lookup.specs.Lookup.{by_link, by_order, Finding, ending, most, lookup_by}
 use Rattle.lookup_way.specs.Along.{Along, there, left, right, Real, answer_along}
@@ -61,7 +62,7 @@ module _ (w : List ℕ) (first : Sector) (t : Region) where
         answer absent name (suc m) n l q = chain_entry absent w first t name o m n x Equal read (sought_equal name (name_in w x) q)
 
     -- through the link k, which is the one that a name in order c to the entry's is looked for at
-    module _ (k : ℕ) (c : Order) (side : (absent : List ℕ) → by_order absent x c ≡ by_link absent k) (step : (p : ℕ) (ks : List ℕ) → Along f (4 * k) p ks → Along f o p (k ∷ ks)) where
+    module _ (k : ℕ) (c : Ordering) (side : (absent : List ℕ) → by_order absent x c ≡ by_link absent k) (step : (p : ℕ) (ks : List ℕ) → Along f (4 * k) p ks → Along f o p (k ∷ ks)) where
       to_down : (d e p : ℕ) (y : Placed) → d ≤ e → stored_order (name_in w y) (name_in w x) ≡ c → ToFrom d (place_by k) p y → To (suc e) o p y
       to_down d e p y h q g = by (is_in k walk_absent) refl g
         where
@@ -138,7 +139,7 @@ module _ (absent w : List ℕ) (first : Sector) (t : Region) (name : List ℕ) w
 
   at_entry : (o : ℕ) (x : Placed) (l r : Shape) (d e : ℕ) → read_at w first t o ≡ gives (some x) → Stops absent x.header.left.0 × Stops absent x.header.right.0
       → LandsFrom d (place_by x.header.left.0) l → LandsFrom e (place_by x.header.right.0) r
-      → (c : Order) → sought_order name (name_in w x) ≡ c → (m n : ℕ) → max d e ≤ m → Lands (node l o x r) (n + suc (max d e)) (answer (suc m) n o)
+      → (c : Ordering) → sought_order name (name_in w x) ≡ c → (m n : ℕ) → max d e ≤ m → Lands (node l o x r) (n + suc (max d e)) (answer (suc m) n o)
   unfolding preorder
   at_entry o x l r d e read stops a b Less q m n h =
       rw (chain_entry absent w first t name o m n x Less read q)

@@ -12,7 +12,8 @@ use lib.ListN.{length, length-append}
 use Rattle.units.specs.Told.{Told, gives, refuses, pick}
 use Rattle.units.specs.declared.Sector.{Sector}
 use Rattle.units.specs.declared.Region.{Region}
-use Rattle.read_entry.specs.Entry.{Placed, read_at}
+use Rattle.read_entry.specs.declared.Placed.{Placed}
+use Rattle.read_entry.specs.Entry.{read_at}
 use Rattle.read_entry.specs.Links.{is_in, walk_absent}
 use Rattle.read_entry.proofs.Located.{read_by_tests}
 use Rattle.strict_rule.specs.Accepts.{Reach, here, by_left, by_right}

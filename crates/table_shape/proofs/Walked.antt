@@ -10,7 +10,8 @@ use lib.ListN.{length}
 use Rattle.units.specs.Told.{Told, gives, pick}
 use Rattle.units.specs.declared.Sector.{Sector}
 use Rattle.units.specs.declared.Region.{Region}
-use Rattle.read_entry.specs.Entry.{Placed, read_at}
+use Rattle.read_entry.specs.declared.Placed.{Placed}
+use Rattle.read_entry.specs.Entry.{read_at}
 use Rattle.read_entry.specs.Links.{is_in, walk_absent}
 use Rattle.read_walk.specs.Walk.{push, walk_of}
 use Rattle.strict_rule.specs.Accepts.{InOrder}

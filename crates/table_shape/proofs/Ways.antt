@@ -9,7 +9,7 @@ use mathlib.Core.Option.{Option, some, none}
 use native.Mathlib.Omega.{arith}
 use lib.ListN.{length, get_or}
 use Rattle.units.specs.Told.{Told, gives}
-use Rattle.read_entry.specs.Entry.{Placed}
+use Rattle.read_entry.specs.declared.Placed.{Placed}
 use Rattle.lookup_way.specs.Along.{Along, Real}
 use Rattle.lookup_way.proofs.Along.{one_read, First, ended, leftward, rightward, first_step, no_step}
 use Rattle.lookup_way.proofs.Sets.{in_walk, real_head, real_tail}

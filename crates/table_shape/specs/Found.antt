@@ -5,7 +5,7 @@ use Rattle.units.specs.Told.{Told, gives, refuses}
 use Rattle.units.specs.declared.Sector.{Sector}
 use Rattle.units.specs.declared.Region.{Region}
 use Rattle.name_role.specs.Roles.{sought_keys, stored_keys}
-use Rattle.read_entry.specs.Entry.{Placed}
+use Rattle.read_entry.specs.declared.Placed.{Placed}
 use Rattle.read_lookup.specs.Lookup.{Finding}
 use Rattle.strict_rule.specs.Strict.{name_in}
 use Rattle.strict_rule.specs.Accepts.{EntryAt}

@@ -5,9 +5,10 @@ use Rattle.std.proofs.Math.Option.{Option, some, none}
 use Rattle.units.specs.Told.{Told, gives, pick}
 use Rattle.units.specs.declared.Sector.{Sector}
 use Rattle.units.specs.declared.Region.{Region}
-use Rattle.layout_name.specs.declared.Order.TheVariants.{Less, Greater}
+use Rattle.std.specs.declared.cmp.Ordering.TheVariants.{Less, Greater}
 use Rattle.name_role.specs.Roles.{stored_order}
-use Rattle.read_entry.specs.Entry.{Placed, read_at}
+use Rattle.read_entry.specs.declared.Placed.{Placed}
+use Rattle.read_entry.specs.Entry.{read_at}
 use Rattle.read_entry.specs.Links.{is_in, walk_absent}
 use Rattle.strict_rule.specs.Strict.{name_in}
 

@@ -1,7 +1,5 @@
 -- Where the parts of a slice stand in memory. Assumes nothing.
-use Prim.Native.Nat.{ℕ, ◌+◌}
-use mathlib.Core.Path.{◌≡◌, sym}
-use native.Mathlib.Nat.{zero-add}
+use Rattle.std.proofs.Common.{ℕ, ◌+◌, ◌≡◌, sym, zero-add}
 
 -- the place k bytes on from a place of memory, a block and an offset
 abbrev pub onward : ℕ × ℕ → ℕ → ℕ × ℕ

@@ -1,21 +1,23 @@
 // The three kinds of count, each a tuple struct with a private field: code that takes one refuses to compile with
 // another, and no other crate can rewrap one as another. They are changed into each other only by the conversions
 // below: times 2,048 and times 4.
+// (Each has its own `new` and `number`: the front door exports them, and a trait over the three would have the same
+// functions three times; a From beside them would say the same again.)
 #![tactic(auto)]
 
 ghost use Rattle.std.specs.Prelude.{◌≡◌, ◌*◌, ◌/◌, ◌≤◌};
 ghost use Rattle.units.specs.Region.{told, locate_of};
 
 // The number of a sector of 2,048 bytes.
-#[derive(Clone, Copy)]
+#[derive(Clone, Copy, Debug, PartialEq, Eq)]
 pub struct Sector(u32);
 
 // A byte offset in a directory table.
-#[derive(Clone, Copy)]
+#[derive(Clone, Copy, Debug, PartialEq, Eq)]
 pub struct Offset(u32);
 
 // A link: an offset in units of four bytes.
-#[derive(Clone, Copy)]
+#[derive(Clone, Copy, Debug, PartialEq, Eq)]
 pub struct Link(u16);
 
 impl Sector {
@@ -90,26 +92,21 @@ pub struct Region {
     pub size: u32,
 }
 
-// Where an offset of a region stands.
-#[derive(Clone, Copy)]
-pub enum Located {
-    // The byte of the image.
-    Byte(u64),
-    // 23: the offset is not below the region's size.
-    OutOfBounds(Offset),
-}
+// 23: the offset is not below the region's size.
+#[derive(Clone, Copy, Debug, PartialEq, Eq)]
+pub struct OutOfBounds(pub Offset);
 
 impl Region {
     // The byte of the image at which an offset of the region stands.
     #[tactic(auto, unfolding(crate::specs::Region::locate_of))]
-    pub fn locate(self, offset: Offset) -> Located
+    pub fn locate(self, offset: Offset) -> Result<u64, OutOfBounds>
         ensures { told result ≡ locate_of self offset }
     {
         let size = self.size;
         let sector = self.sector;
         if size <= offset.0 {
-            return Located::OutOfBounds(offset);
+            return Err(OutOfBounds(offset));
         }
-        Located::Byte(sector.start() + (offset.0 as u64))
+        Ok(sector.start() + (offset.0 as u64))
     }
 }

@@ -2,20 +2,23 @@
 // all bytes and numbers are accepted, every call ends and stays in bounds, and bad input gets one of the numbers of
 // docs/SCOPE.md.
 //
-// A contract `told r ≡ D` says that the answer r stands for what the definition D gives: `gives X`, or `refuses
-// NUMBER VALUES`. The definitions are in the specs/ of the crate that is named in each `ghost use`.
+// A contract `told r ≡ D` says that the answer r, a `Result`, stands for what the definition D gives: `gives X`, or
+// `refuses NUMBER VALUES`. The definitions are in the specs/ of the crate that is named in each `ghost use`.
 //
 // `x.now` is what a `&` lends. Of a `&mut`, `x.old` is what it holds at the call, `x.new` what it holds at the return.
-// Where many columns are lent, a contract names them as one value: `before` is all of it at the call, `after` at the
-// return.
+// Columns that belong together are lent as one struct. A clause `memory` is one equation for all that a struct lends,
+// and a clause `same` says that its fields still lend the same memory.
 #![tactic(auto)]
 
 ghost use Rattle.std.specs.Prelude.{◌≡◌, length};
 ghost use Rattle.units.specs.Lent.{IsPart};
 ghost use Rattle.dirtab.specs.Serialise as serialising;
 ghost use Rattle.dirtab_add.specs.Add as adding;
-ghost use Rattle.dirtab_arena.specs.Arena.{arena_in, columns};
+ghost use Rattle.dirtab_arena.specs.Lent.{columns_of, arena_of, arena_with, IsSame as SameColumns};
+ghost use Rattle.dirtab_grow.specs.Listing.{listing_of};
+ghost use Rattle.dirtab_list.specs.Scratch as listing;
 ghost use Rattle.dirtab_list.specs.Whole as whole;
+ghost use Rattle.img_model.specs.Columns.{asked_in, lent_in, IsSameOut, IsSameScratch};
 ghost use Rattle.img_model.specs.Image as image;
 ghost use Rattle.img_model.specs.Plan as planning;
 ghost use Rattle.layout_volume.specs.Descriptor as volume;
@@ -25,27 +28,29 @@ ghost use Rattle.read_path.specs.Path as following;
 ghost use Rattle.read_walk.specs.Walk as walking;
 ghost use Rattle.strict_rule.specs.Strict as checking;
 
-pub use dirtab::Serialised;
-pub use dirtab_add::Added;
-pub use dirtab_arena::Held;
-pub use dirtab_entry::{Cause, Entry, Kind, kind_of};
-pub use dirtab_list::ListWritten;
-pub use img_model::Planned;
+pub use avl_model::Names;
+pub use dirtab::{Scratch, SerialiseError, WriteError, Written};
+pub use dirtab_add::AddError;
+pub use dirtab_arena::{Arena, Columns, ColumnsMut, Held};
+pub use dirtab_entry::{Cause, Entries, Entry, Kind, kind_of};
+pub use dirtab_list::{ListError, ListScratch};
+pub use img_model::{PlanError, PlanOut, PlanScratch, Request};
 pub use layout_node::Header;
-pub use layout_sector::{SectorCounter, Taken, required_sectors};
-pub use layout_volume::{Date, Descriptor, DescriptorRead, DescriptorWritten};
-pub use read_entry::Read;
-pub use read_lookup::Looked;
-pub use read_path::PathFound;
-pub use read_walk::Walked;
-pub use strict_rule::Checked;
-pub use units::{Link, Located, Offset, Region, Sector};
+pub use layout_sector::{SectorCounter, SectorOverflow, required_sectors};
+pub use layout_volume::{BufferTooSmall, Descriptor, NoVolume};
+pub use read_entry::{Placed, ReadError, Table};
+pub use read_lookup::{BadRule, Found, LookupError};
+pub use read_path::PathError;
+pub use read_walk::WalkError;
+pub use strict_rule::CheckError;
+pub use units::{Link, Offset, OutOfBounds, Region, Sector};
 
-// READING. A window is a slice of image bytes and the number of the sector that it starts with; a table is its
-// region, first sector and size.
+// READING. A `Table` is a directory table by its region, first sector and size, in a window: a slice of image bytes and
+// the number of the sector that it starts with.
 //
 // A lookup and a path take the number of a rule, which says what links are absent: 1 is rule one, with 0 and 255, as
-// the Rust has it; 2 is rule two, with 0 and 65,535, as for the walk; any other number is 29.
+// the Rust has it; 2 is rule two, with 0 and 65,535, as for the walk; any other number is 29. (A number, since C gives
+// one and every number is accepted; a `Rule` would ask more of callers.)
 //
 // A name that the walk lists may not be found. Under rule one an entry at offset 1,020, which a link of 255 names, and
 // every entry below it, is listed and answered 22; rule two finds it. Under either rule an entry that stands on the
@@ -53,7 +58,7 @@ pub use units::{Link, Located, Offset, Region, Sector};
 
 // Reads the volume descriptor that the bytes start with: where the root table stands, and the stamp, of which
 // `Descriptor::read_date` says whether it is a date. 20 where a mark differs or is cut.
-pub fn read_descriptor(s: &[u8]) -> DescriptorRead
+pub fn read_descriptor(s: &[u8]) -> Result<Descriptor, NoVolume>
     ensures answer { volume.read_told result ≡ volume.read_of s.now }
 {
     layout_volume::read_descriptor(s)
@@ -61,10 +66,11 @@ pub fn read_descriptor(s: &[u8]) -> DescriptorRead
 
 // Reads the entry at an offset of a table: its header and place in the window, or that there is none. 23, 24 with
 // the offset.
-pub fn read_entry(w: &[u8], first: Sector, table: Region, offset: Offset) -> Read
-    ensures answer { entry.told result ≡ entry.read_at w.now first table offset.0 }
+pub fn read_entry(table: Table<'_>, offset: Offset) -> Result<Option<Placed>, ReadError>
+    ensures answer { let t = table.entry in
+        entry.told result ≡ entry.read_at t.window.now t.first t.region offset.0 }
 {
-    read_entry::read_at(w, first, table, offset)
+    table.read_at(offset)
 }
 
 // The name of an entry whose first byte stands at a place of the window: that part of the window itself. Where it
@@ -78,31 +84,35 @@ pub fn entry_name(w: &[u8], place: usize, n: u8) -> &[u8]
 // Looks a name up in a table, under a rule. 29, 2, 21, then 22 with the number of headers read, 23, 24, 25. 22 is that
 // the chain came to a link that is absent under the rule, or to no entry: where rule one came to a link of 255, an
 // entry may have the name, and the walk lists it.
-pub fn look_up(w: &[u8], first: Sector, table: Region, name: &[u8], rule: u32) -> Looked
-    ensures answer { lookup.told result ≡ lookup.lookup_of rule w.now first table name.now }
+pub fn look_up(table: Table<'_>, name: &[u8], rule: u32) -> Result<Found, LookupError>
+    ensures answer { let t = table.entry in
+        lookup.told result ≡ lookup.lookup_of rule t.window.now t.first t.region name.now }
 {
-    read_lookup::look_up(w, first, table, name, rule)
+    read_lookup::look_up(table, name, rule)
 }
 
 // Follows a path from a table, under one rule for all its parts. 29, 2, 28, then for each part what its lookup gives,
 // and 27 where a part but the last is no directory. 22 is as for lookup: under rule one a part below a link of 255 is
 // not found, though the walk lists it.
-pub fn find_path(w: &[u8], first: Sector, table: Region, path: &[u8], rule: u32) -> PathFound
-    ensures answer { following.told result ≡ following.path_of rule w.now first table path.now }
+pub fn find_path(table: Table<'_>, path: &[u8], rule: u32) -> Result<Placed, PathError>
+    ensures answer { let t = table.entry in
+        following.told result ≡ following.path_of rule t.window.now t.first t.region path.now }
 {
-    read_path::find_path(w, first, table, path, rule)
+    read_path::find_path(table, path, rule)
 }
 
 // Lists the offsets of a table's entries in preorder. 6, then 23, 24, 26 as they are met. 26 is that an entry is read
 // when the list is full: the table has more entries, or its links lead round in a ring, which fills any list. Absent
 // are the links 0 and 65,535; what stands below one of 255 is listed here, and found by lookup under rule two alone.
-pub fn walk(w: &[u8], first: Sector, table: Region, list: &mut [u32], scratch: &mut [u32]) -> Walked
-    ensures answer { walking.told result ≡ walking.walk_answer w.now first table (length list.old) (length
-        scratch.old) }
-    ensures list { list.new ≡ walking.list_after w.now first table list.old (length scratch.old) }
+pub fn walk(table: Table<'_>, list: &mut [u32], scratch: &mut [u32]) -> Result<usize, WalkError>
+    ensures answer { let t = table.entry in
+        walking.told result
+        ≡ walking.walk_answer t.window.now t.first t.region (length list.old) (length scratch.old) }
+    ensures list { let t = table.entry in
+        list.new ≡ walking.list_after t.window.now t.first t.region list.old (length scratch.old) }
     ensures scratch { scratch.new ≡ walking.scratch_after (length list.old) scratch.old }
 {
-    read_walk::walk(w, first, table, list, scratch)
+    read_walk::walk(table, list, scratch)
 }
 
 // Checks a table by a strict rule, and lists it: the walk ends, no entry is reached twice, none overlaps another,
@@ -111,29 +121,29 @@ pub fn walk(w: &[u8], first: Sector, table: Region, list: &mut [u32], scratch: &
 // that is accepted each listed entry is found by its name under rule two, and under rule one unless a link of 255
 // stands on the way; but a name with a byte above 127 cannot be sought (2).
 pub fn check_table(
-    w: &[u8],
-    first: Sector,
-    table: Region,
+    table: Table<'_>,
     list: &mut [u32],
     scratch: &mut [u64],
-) -> Checked
-    ensures answer { checking.told result ≡ checking.strict_answer w.now first table (length list.old) (length
-        scratch.old) }
-    ensures list { list.new ≡ checking.list_after w.now first table list.old (length scratch.old) }
+) -> Result<usize, CheckError>
+    ensures answer { let t = table.entry in
+        checking.told result
+        ≡ checking.strict_answer t.window.now t.first t.region (length list.old) (length scratch.old) }
+    ensures list { let t = table.entry in
+        list.new ≡ checking.list_after t.window.now t.first t.region list.old (length scratch.old) }
     ensures scratch { scratch.new ≡ checking.scratch_after (length list.old) scratch.old }
 {
-    strict::check_table(w, first, table, list, scratch)
+    strict::check_table(table, list, scratch)
 }
 
 // WRITING
 //
 // Sectors are handed out by a counter: `SectorCounter::new()` stands at the first, 33 (`SectorCounter::FIRST`),
 // `SectorCounter::starting_at` at a given one. `take` gives the first of the sectors that a length takes
-// (`required_sectors`) and the counter past the last of them, or 8 (`Taken`); `next_free` is where it stands. Their
-// contracts are in `layout_sector`.
+// (`required_sectors`) and the counter past the last of them, or 8 (`SectorOverflow`); `next_free` is where it stands.
+// Their contracts are in `layout_sector`.
 
 // Writes a volume descriptor, with its stamp, into the first 2,048 bytes of the output. 9 where it is shorter.
-pub fn write_descriptor(out: &mut [u8], d: Descriptor) -> DescriptorWritten
+pub fn write_descriptor(out: &mut [u8], d: Descriptor) -> Result<(), BufferTooSmall>
     ensures answer { volume.write_told result ≡ volume.write_of out.old }
     ensures output { out.new ≡ volume.bytes_after out.old d }
 {
@@ -145,56 +155,34 @@ pub fn write_descriptor(out: &mut [u8], d: Descriptor) -> DescriptorWritten
 // length of the name, size, kind: 1 is a directory). 12, then 1, 2, 3, 5, 4, 6; all unchanged on a refusal.
 pub fn add(
     tree: Held,
-    left: &mut [u16],
-    right: &mut [u16],
-    parent: &mut [u16],
-    height: &mut [u8],
-    start: &mut [u32],
-    len: &mut [u32],
-    size: &mut [u32],
-    kind: &mut [u8],
+    columns: &mut ColumnsMut<'_>,
     names: &[u8],
     entry: Entry,
-) -> Added
-    ensures answer_and_memory { let A = arena_in tree.root tree.count left.old right.old parent.old height.old
-        start.old len.old size.old kind.old names.now in
-        let after = columns left.new right.new parent.new height.new start.new len.new size.new kind.new in
-        (adding.told result ≡ adding.add_of A entry) × (after ≡ adding.columns_after A entry) }
+) -> Result<Held, AddError>
+    ensures answer { adding.told result ≡ adding.add_of (arena_with tree columns.old names.now) entry }
+    ensures memory { columns_of columns.new
+        ≡ adding.columns_after (arena_with tree columns.old names.now) entry }
+    ensures same { SameColumns columns.old columns.new }
 {
-    dirtab_add::add(
-        tree, left, right, parent, height, start, len, size, kind, names, entry,
-    )
+    dirtab_add::add(tree, columns, names, entry)
 }
 
 // Writes the table that an arena holds, with sectors from `first` on: the reported size and the next free sector.
 // `order` and `place` are scratch, zero afterwards. 12, then 6, 7, 8, 9, all before any write; the output past the
 // rounded size is unchanged.
 pub fn serialise(
-    tree: Held,
-    left: &[u16],
-    right: &[u16],
-    parent: &[u16],
-    height: &[u8],
-    start: &[u32],
-    len: &[u32],
-    size: &[u32],
-    kind: &[u8],
-    names: &[u8],
+    arena: Arena<'_>,
     first: Sector,
-    order: &mut [u16],
-    place: &mut [u16],
+    scratch: &mut Scratch<'_>,
     out: &mut [u8],
-) -> Serialised
-    ensures answer_and_memory { let A = arena_in tree.root tree.count left.now right.now parent.now height.now
-        start.now len.now size.now kind.now names.now in
-        let before = serialising.lent order.old place.old out.old in
-        let after = serialising.lent order.new place.new out.new in
-        (serialising.told result ≡ serialising.answer_in A first.0 before) × (after
-        ≡ serialising.lent_after A first.0 before) }
+) -> Result<Written, SerialiseError>
+    ensures answer { serialising.told result
+        ≡ serialising.answer_in (arena_of arena.entry) first.0 (serialising.lent_of scratch.old out.old) }
+    ensures memory { serialising.lent_of scratch.new out.new
+        ≡ serialising.lent_after (arena_of arena.entry) first.0 (serialising.lent_of scratch.old out.old) }
+    ensures same { serialising.IsSame scratch.old scratch.new }
 {
-    dirtab::serialise(
-        tree, left, right, parent, height, start, len, size, kind, names, first, order, place, out,
-    )
+    dirtab::serialise(arena, first, scratch, out)
 }
 
 // Writes the table of the first `count` entries of a list in one call, with sectors from `first` on: the bytes and
@@ -204,30 +192,18 @@ pub fn serialise(
 // refuses 1, 2, 3, 5, 4, 6 with its number; then 7, 8, 9.
 pub fn write_list(
     count: u32,
-    start: &[u32],
-    len: &[u32],
-    size: &[u32],
-    kind: &[u8],
-    names: &[u8],
+    entries: Entries<'_>,
     first: Sector,
-    left: &mut [u16],
-    right: &mut [u16],
-    parent: &mut [u16],
-    height: &mut [u8],
-    key: &mut [u32],
-    order: &mut [u16],
-    place: &mut [u16],
+    scratch: &mut ListScratch<'_>,
     out: &mut [u8],
-) -> ListWritten
-    ensures answer_and_memory { let list = whole.listing count start.now len.now size.now kind.now names.now in
-        let before = whole.lent left.old right.old parent.old height.old key.old order.old place.old out.old in
-        let after = whole.lent left.new right.new parent.new height.new key.new order.new place.new out.new in
-        (whole.told result ≡ whole.answer_in list first.0 before) × (after ≡ whole.lent_after list first.0 before) }
+) -> Result<Written, ListError>
+    ensures answer { let list = listing_of count entries.entry in
+        whole.told result ≡ whole.answer_in list first.0 (listing.lent_by scratch.old out.old) }
+    ensures memory { let list = listing_of count entries.entry in
+        listing.lent_by scratch.new out.new ≡ whole.lent_after list first.0 (listing.lent_by scratch.old out.old) }
+    ensures same { listing.IsSame scratch.old scratch.new }
 {
-    dirtab_list::write_list(
-        count, start, len, size, kind, names, first, left, right, parent, height, key, order,
-        place, out,
-    )
+    dirtab_list::write_list(count, entries, first, scratch, out)
 }
 
 // Plans an image: the reported size and the sector of each directory's table, and the sector of each entry; the
@@ -243,53 +219,15 @@ pub fn write_list(
 pub fn plan(
     directories: u32,
     entries: u32,
-    from: &[u32],
-    share: &[u32],
-    start: &[u32],
-    len: &[u32],
-    kind: &[u8],
-    value: &[u64],
-    names: &[u8],
-    sizes: &mut [u32],
-    tables: &mut [u32],
-    sectors: &mut [u32],
-    sized: &mut [u32],
-    left: &mut [u16],
-    right: &mut [u16],
-    parent: &mut [u16],
-    height: &mut [u8],
-    key: &mut [u32],
-    size: &mut [u32],
-    order: &mut [u16],
-) -> Planned
-    ensures answer_and_memory { let a = image.asked directories entries from.now share.now start.now len.now
-        kind.now value.now names.now in
-        let before = image.lent sizes.old tables.old sectors.old sized.old left.old right.old parent.old height.old
-        key.old size.old order.old in
-        let after = image.lent sizes.new tables.new sectors.new sized.new left.new right.new parent.new height.new
-        key.new size.new order.new in
-        (planning.told result ≡ image.answer_in a before) × (after ≡ image.lent_after a before) }
+    request: Request<'_>,
+    out: &mut PlanOut<'_>,
+    scratch: &mut PlanScratch<'_>,
+) -> Result<Sector, PlanError>
+    ensures answer { let asked = asked_in directories entries request.entry in
+        planning.told result ≡ image.answer_in asked (lent_in out.old scratch.old) }
+    ensures memory { let asked = asked_in directories entries request.entry in
+        lent_in out.new scratch.new ≡ image.lent_after asked (lent_in out.old scratch.old) }
+    ensures same { IsSameOut out.old out.new × IsSameScratch scratch.old scratch.new }
 {
-    img::plan(
-        directories,
-        entries,
-        from,
-        share,
-        start,
-        len,
-        kind,
-        value,
-        names,
-        sizes,
-        tables,
-        sectors,
-        sized,
-        left,
-        right,
-        parent,
-        height,
-        key,
-        size,
-        order,
-    )
+    img::plan(directories, entries, request, out, scratch)
 }

@@ -1,13 +1,10 @@
--- `avl_arena::are_inside` meets its contract. The invariant: each name before i is inside. The measure is what is left of the nodes.
-use Rattle.avl_arena.proofs.Tested.{not_inside, one_more, all_inside}
-use native.Mathlib.Omega.{arith}
+-- `avl_arena::are_inside` meets its contract: a name outside, or one more inside.
+use Rattle.avl_model.specs.Lent.{names_of}
+use Rattle.avl_arena.proofs.Tested.{not_inside, one_more}
 use Rattle.avl_arena.proofs.are_inside.Goals as goal
 
+pub returns-then-names-start : goal.returns-then-names-start
+returns-then-names-start c = not_inside (names_of c.args.names) _ c.loop-i.i c.loop-i-test.true c.if-names-start.true
+
 pub loop-i-preserved : goal.loop-i-preserved
-loop-i-preserved c = (omega arith, search one_more)
-
-pub returns-then-names-u32_as_usize : goal.returns-then-names-u32_as_usize
-returns-then-names-u32_as_usize c = search not_inside
-
-pub returns : goal.returns
-returns c = search all_inside
+loop-i-preserved c = one_more (names_of c.args.names) c.loop-i.i c.loop-i.invariant c.if-names-start.false

@@ -1,15 +1,19 @@
 -- `seek` meets its contract. The invariant is a function of the tree (`w`), since the `ensures` speaks of every tree that the links hold: what is found below
 -- `at`, which hangs below `above`, is what is found in the whole. The measure is the height of the tree below `at`.
 use Rattle.avl_model.specs.declared.Place.TheVariants.{Root}
-use Rattle.avl_model.specs.Names.{names_in, to_name}
+use Rattle.avl_model.specs.Lent.{names_of}
+use Rattle.avl_model.specs.Names.{Names, to_name}
 use Rattle.avl_model.specs.Seek.{spot_in}
 use Rattle.avl_model.proofs.Seeking.{Seeking, depth}
 use Rattle.avl_keyed.specs.inner.Key.{Keyed, KeySought, place_from}
 use Rattle.avl_keyed.proofs.seek.Given as goal
 
 abbrev pub invariant-loop-at : goal.invariant-loop-at
-invariant-loop-at l = (w : KeySought l.left l.right l.key l.root (names_in l.names l.start l.len))
-    → Seeking l.left l.right (to_name (names_in l.names l.start l.len) l.name) (Keyed l.key (names_in l.names l.start l.len)) l.at (place_from l.above l.less) (spot_in (to_name (names_in l.names l.start l.len) l.name) w.linked.t Root)
+invariant-loop-at l =
+    let b = l.branches in
+    let N : Names = names_of l.names in
+    (w : KeySought b.left.now b.right.now l.key b.root N)
+    → Seeking b.left.now b.right.now (to_name N l.name) (Keyed l.key N) l.at (place_from l.above l.less) (spot_in (to_name N l.name) w.linked.t Root)
 
 abbrev pub decreases-loop-at : goal.decreases-loop-at
-decreases-loop-at l = depth l.left l.right l.at
+decreases-loop-at l = depth l.branches.left.now l.branches.right.now l.at

@@ -1,8 +1,6 @@
 -- What an insertion takes and leaves.
 use Rattle.std.specs.Prelude.{ℕ, ◌≡◌, Bool, length}
-use Rattle.layout_name.specs.declared.Order.{Order}
-use Rattle.avl_model.specs.declared.Inserted.{Inserted}
-use Rattle.avl_model.specs.declared.Inserted.TheVariants.{Done, Duplicate}
+use Rattle.std.specs.declared.cmp.Ordering.{Ordering}
 use Rattle.avl_model.specs.declared.Spot.{Spot}
 use Rattle.avl_model.specs.declared.Spot.TheVariants.{Same, Free}
 use Rattle.avl_model.specs.declared.Place.{Place}
@@ -15,6 +13,11 @@ use Rattle.avl_model.specs.Names.{Names, is_less}
 use Rattle.avl_model.specs.inner.Names.{Inside}
 use Rattle.avl_model.specs.Seek.{spot_in}
 
+-- what putting a node in answers: it is in, or its name is that of a node that was there
+pub data Inserted : Type 0 where
+  Done : Inserted
+  Duplicate : ℕ → Inserted
+
 -- an arena, and the name of each node of its tree in lent bytes; nothing is asked of the place of `new`
 pub record Filled (S : Lists) (N : Names) (new : ℕ) : Type 0 where
   pub arena : Arena S new
@@ -24,7 +27,7 @@ pub record Filled (S : Lists) (N : Names) (new : ℕ) : Type 0 where
 -- of node i
 pub record Placed (S : Lists) (q : Place) (new : ℕ) : Type 0 where
   pub arena : Arena S new
-  pub by : ℕ → Order
+  pub by : ℕ → Ordering
   pub free : spot_in by arena.t Root ≡ Free q
 
 -- a name that is there leaves all as it was, and the answer says which node has it; any other is put in
@@ -33,5 +36,5 @@ OutBy (Same i) S T less new t r = (r ≡ Duplicate i) × (T ≡ S)
 OutBy (Free q) S T less new t r = (r ≡ Done) × Whole T (length S.L) (ins less new t)
 
 -- `by i` is the order of the name of `new` to that of node i
-abbrev pub Out : Lists → Lists → (ℕ → Order) → ℕ → Tree → Inserted → Type 0
+abbrev pub Out : Lists → Lists → (ℕ → Ordering) → ℕ → Tree → Inserted → Type 0
 Out S T by new t r = OutBy (spot_in by t Root) S T (λ i. is_less (by i)) new t r

@@ -84,6 +84,10 @@ rl_rotated_at q S a b c =
 unfoldable pub rl_rotated : Lists → ℕ → ℕ → ℕ → Lists
 rl_rotated S a b c = rl_rotated_at (place_of S.L S.P a) S a b c
 
+-- each height is below m
+abbrev pub Low : ℕ → List ℕ → Type 0
+Low m h = (j : ℕ) → get_or h j 0 < m
+
 -- three nodes of lists that are equally long
 pub record Three (n r h i j k : ℕ) : Type 0 where
   pub ri : r ≡ n
@@ -103,3 +107,7 @@ abbrev pub attached : Lists → Place → ℕ → Lists
 attached S q new =
     lists (put_root q new S.root) (set (put_left q new S.L) new 65535) (set (put_right q new S.R) new 65535)
     (set S.P new (above_of q)) (set S.H new 0)
+
+-- left and right exchanged
+abbrev pub mirrored : Lists → Lists
+mirrored S = lists S.root S.R S.L S.P S.H

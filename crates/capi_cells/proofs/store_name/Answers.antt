@@ -8,4 +8,4 @@ use Rattle.capi_cells.proofs.store_name.Goals as goal
 
 pub returns : goal.returns
 returns c =
-    let a = c.args in record { start_value = c.name_start.ensures; len_value = ap (λ (r : List ℕ). length r) c.name_part-name.ensures.1; w_value = name_is a.w.now a.place a.n _ _ c.name_part-name.ensures.1 c.name_start.ensures }
+    let a = c.args in record { start = c.name_start.ensures; len = ap (λ (r : List ℕ). length r) c.name_part-name.ensures.1; part = name_is a.w.now a.place a.n _ _ c.name_part-name.ensures.1 c.name_start.ensures }

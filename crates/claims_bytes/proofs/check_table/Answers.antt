@@ -6,13 +6,14 @@ use lib.ListN.{length, get_or, take}
 use Rattle.units.specs.Told.{gives}
 use Rattle.units.specs.declared.Sector.{Sector}
 use Rattle.units.specs.declared.Region.{Region}
-use Rattle.strict_rule.specs.declared.Checked.{Checked}
+use Rattle.std.specs.Prelude.{Result}
+use Rattle.strict_rule.specs.declared.CheckError.{CheckError}
 use Rattle.strict_rule.specs.Strict.{told, strict_answer, list_after}
 use Rattle.claims.specs.Accepted.{Readable}
 use Rattle.claims.proofs.Accepted.{accepted_readable}
 use Rattle.claims_bytes.proofs.check_table.Goals as goal
 
-checked : (w : List ℕ) → ((i : ℕ) → get_or w i 0 < 256) → (first : Sector) (t : Region) (list scratch : List ℕ) (r : Checked) (l : List ℕ)
+checked : (w : List ℕ) → ((i : ℕ) → get_or w i 0 < 256) → (first : Sector) (t : Region) (list scratch : List ℕ) (r : Result ℕ CheckError) (l : List ℕ)
     → told r ≡ strict_answer w first t (length list) (length scratch) → l ≡ list_after w first t list (length scratch)
     → (k : ℕ) → told r ≡ gives k → Readable w first t (take k l)
 checked w bytes first t list scratch r l answer left k e =

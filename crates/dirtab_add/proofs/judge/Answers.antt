@@ -1,25 +1,16 @@
--- `judge` meets its contract: at each return the checks that led there say which case holds.
-use mathlib.Core.Path.{sym, ◌∙◌}
-use Rattle.dirtab_arena.specs.Arena.{columns, arena}
-use Rattle.dirtab_add.proofs.Ways.{bad_arena, bad_entry, good_entry}
+-- `judge` meets its contract: at each refusal the check that led there says which (`bad_arena`, `bad_entry`).
+use Rattle.std.proofs.Common.{sym, ◌∙◌}
+use Rattle.dirtab_arena.specs.Arena.{arena}
+use Rattle.dirtab_arena.specs.Lent.{columns_in}
+use Rattle.dirtab_add.proofs.Ways.{bad_arena, bad_entry, passed_err}
 use Rattle.dirtab_add.proofs.judge.Goals as goal
 
-pub judge_name-requires : goal.judge_name-requires
-judge_name-requires c = let a = c.args in
-    good_entry (arena a.tree.root a.tree.count
-    (columns a.left.now a.right.now a.parent.now a.height.now a.start.now a.len.now a.size.now a.kind.now) a.names.now)
-    a.entry (sym c.is_arena.ensures ∙ c.if-is_arena.true)
-    c.check_entry.ensures c.in-Good.is
+pub returns-then-not-is_arena : goal.returns-then-not-is_arena
+returns-then-not-is_arena c = let a = c.args in
+    bad_arena (arena a.tree.root a.tree.count (columns_in a.columns) a.names.now) a.entry c.is_arena.ensures c.if-not-is_arena.true
 
-pub returns-in-Refused : goal.returns-in-Refused
-returns-in-Refused c = let a = c.args in
-    bad_entry (arena a.tree.root a.tree.count
-    (columns a.left.now a.right.now a.parent.now a.height.now a.start.now a.len.now a.size.now a.kind.now) a.names.now)
-    a.entry (sym c.is_arena.ensures ∙ c.if-is_arena.true)
-    c.check_entry.ensures c.in-Refused.is
-
-pub returns : goal.returns
-returns c = let a = c.args in
-    bad_arena (arena a.tree.root a.tree.count
-    (columns a.left.now a.right.now a.parent.now a.height.now a.start.now a.len.now a.size.now a.kind.now) a.names.now)
-    a.entry c.is_arena.ensures c.if-is_arena.false
+pub returns-in_err-check_entry : goal.returns-in_err-check_entry
+returns-in_err-check_entry c = let a = c.args in
+    let A = arena a.tree.root a.tree.count (columns_in a.columns) a.names.now in
+    let passes = sym c.is_arena.ensures ∙ c.if-not-is_arena.false in
+    passed_err (bad_entry A a.entry passes c.check_entry.ensures c.in_err-check_entry.was) _ c.from_residual.ensures.1

@@ -1,32 +1,22 @@
--- `is_arena` meets its contract: at each return the tests that led there say which case holds.
-use Rattle.dirtab_arena.proofs.Ways.{short_size, short_kind, no_tree, lengths, by_entries}
+-- `is_arena` meets its contract: where the tree is held, each entry has its places (`places_of`).
+use Rattle.std.proofs.Common.{◌∙◌, ap, sym, arith, length, List, ℕ}
+use Rattle.std.proofs.lemmas.Grind.{common_steps}
+use Rattle.avl_model.specs.Names.{Names}
+use Rattle.dirtab_arena.proofs.Ways.{places_of}
 use Rattle.dirtab_arena.proofs.is_arena.Goals as goal
-
-pub returns-then-size-n : goal.returns-then-size-n
-returns-then-size-n c = let a = c.args in
-    short_size a.tree.root a.tree.count a.left.now a.right.now a.parent.now a.height.now a.start.now a.len.now a.size.now
-    a.kind.now a.names.now c.u16_as_usize-n.result c.u16_as_usize-n.ensures c.if-size-n.true
-
-pub returns-then-kind-n : goal.returns-then-kind-n
-returns-then-kind-n c = let a = c.args in
-    short_kind a.tree.root a.tree.count a.left.now a.right.now a.parent.now a.height.now a.start.now a.len.now a.size.now
-    a.kind.now a.names.now c.u16_as_usize-n.result c.u16_as_usize-n.ensures c.if-size-n.false c.if-kind-n.true
+use Rattle.dirtab_arena.proofs.is_arena.Goals.{then-n-arena, else-n-arena, then-n-arena-2, else-n-arena-2}
 
 pub are_taken-requires : goal.are_taken-requires
-are_taken-requires c = let a = c.args in
-    lengths a.tree.root a.tree.count a.left.now a.right.now a.parent.now a.height.now a.start.now a.len.now a.size.now
-    a.kind.now a.names.now c.u16_as_usize-n.result c.u16_as_usize-n.ensures
-    c.if-size-n.false c.if-kind-n.false c.is_tree.ensures c.if-is_tree.true
-
-pub returns-then-is_tree : goal.returns-then-is_tree
-returns-then-is_tree c = let a = c.args in
-    by_entries a.tree.root a.tree.count a.left.now a.right.now a.parent.now a.height.now a.start.now a.len.now a.size.now
-    a.kind.now a.names.now c.u16_as_usize-n.result c.u16_as_usize-n.ensures
-    c.if-size-n.false c.if-kind-n.false c.is_tree.ensures c.if-is_tree.true
-    c.are_taken.ensures
-
-pub returns : goal.returns
-returns c = let a = c.args in
-    no_tree a.tree.root a.tree.count a.left.now a.right.now a.parent.now a.height.now a.start.now a.len.now a.size.now
-    a.kind.now a.names.now c.u16_as_usize-n.result c.u16_as_usize-n.ensures
-    c.if-size-n.false c.if-kind-n.false c.is_tree.ensures c.if-is_tree.false
+are_taken-requires c = λ i h.
+    elim c.if-n-arena-2.branch [
+      | then-n-arena-2 w ↦
+          let p = places_of _ _ _ _ w.is_tree.ensures (sym w.value-is ∙ c.if-is_tree.true) in
+          let q = w.names.ensures ∙ sym c.entries.ensures.names in
+          record {
+            start = omega (arith, p.start, ap (λ (N : Names). length N.start) q);
+            len = omega (arith, p.len, ap (λ (N : Names). length N.len) q);
+            size = grind (arith, common_steps, w.if-n-arena-2.true, ap (λ (x : List ℕ). length x) c.entries.ensures.size);
+            kind = grind (arith, common_steps, w.if-n-arena-2.true, ap (λ (x : List ℕ). length x) c.entries.ensures.kind);
+          }
+      | else-n-arena-2 w ↦ absurd (cc)
+    ]

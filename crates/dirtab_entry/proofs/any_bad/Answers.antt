@@ -1,15 +1,9 @@
--- `dirtab_entry::any_bad` meets its contract. The invariant: some byte is bad exactly if the flag says so of the first i, or one of those from i on is. Assumes nothing.
-use mathlib.Core.Path.{refl}
-use native.Mathlib.Omega.{arith}
-use borrow.Author.Rules.{rules}
-use Rattle.dirtab_entry.proofs.Bad.{byte_more, bytes_end}
+-- `any_bad` meets its contract: what is told of the bytes looked at, and of one byte more (`bad_so_far`).
+use Rattle.std.proofs.Common.{rules}
+use Rattle.std.proofs.lemmas.Iterator.{YieldsList-from_slice}
+use Rattle.std.proofs.lemmas.Iterator.Consumers.{fold_from_yields_List}
+use Rattle.dirtab_entry.proofs.Bad.{either, is_any_bad}
 use Rattle.dirtab_entry.proofs.any_bad.Goals as goal
 
-pub loop-i-init : goal.loop-i-init
-loop-i-init c = (omega arith, refl)
-
-pub loop-i-preserved : goal.loop-i-preserved
-loop-i-preserved c = (search rules, search byte_more)
-
 pub returns : goal.returns
-returns c = search bytes_end
+returns c = is_any_bad _ _ (fold_from_yields_List _ either _ _ c.fold.ensures.ran (YieldsList-from_slice c.args.s.now (search rules)) (λ a x b q k. search rules))

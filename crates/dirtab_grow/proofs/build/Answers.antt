@@ -1,107 +1,54 @@
--- `build` meets its contract. The loop's invariant: the columns keep their lengths, their first i places hold the tree of the first i entries, and that tree
--- with the entries that are left makes the whole (`Building`). The measure is the number of entries left.
-use native.Mathlib.Omega.{arith}
-use mathlib.Core.Path.{refl, sym, ◌∙◌}
-use Rattle.avl_model.specs.Lists.{lists}
-use Rattle.dirtab_grow.specs.Listing.{listing}
-use Rattle.dirtab_grow.proofs.Turn.{none_yet, growing_after, low_number, one_more_up, stops, all_in, lent_at, wide_at}
-use Rattle.avl_keyed.proofs.Turn.{never_both}
+-- `build` meets its contract.
+use Rattle.std.proofs.Common.{rules, ◌≡◌, ◌∙◌, ℕ, refl, sym, ap, true, true≢false, Result, Ok, Err, is_ok, IsErrAnd, MatchResult}
+use Rattle.std.proofs.lemmas.Result.{err_from_is_err_and}
+use Rattle.dirtab_entry.specs.declared.Cause.{Cause}
+use Rattle.avl_model.specs.Lent.{lists_of}
+use Rattle.dirtab_grow.specs.declared.RefusedEntry.{RefusedEntry}
+use Rattle.dirtab_grow.specs.Listing.{listing_of}
+use Rattle.dirtab_grow.proofs.Turn.{growing_after, one_more_up, stops, all_in}
 use Rattle.dirtab_grow.proofs.build.Goals as goal
 
-pub loop-i-init : goal.loop-i-init
-loop-i-init c =
-    let a = c.args in (
-      refl,
-      (
-        refl,
-        (
-          refl,
-          (
-            refl,
-            (
-              refl,
-              (
-                none_yet (listing a.count a.start.now a.len.now a.size.now a.kind.now a.names.now) a.left.now a.right.now
-                    a.parent.now a.height.now a.key.now,
-                λ e. never_both (sym e),
-              ),
-            ),
-          ),
-        ),
-      ),
-    )
+was_taken : (r : Result (Unit {0}) Cause) → is_ok r ≡ true → r ≡ Ok tt
+was_taken (Ok u) e = refl
+was_taken (Err x) e = absurd (true≢false (sym e))
 
-pub narrow-at-requires : goal.narrow-at-requires
-narrow-at-requires c = let a = c.args in let l = c.loop-i in
-    low_number (listing a.count a.start.now a.len.now a.size.now a.kind.now a.names.now)
-    (lists l.root l.left l.right l.parent l.height) l.key l.i {at = l.i} refl l.invariant.1.1.1.1.1.0
-
-pub goes_up-after-requires : goal.goes_up-after-requires
-goes_up-after-requires c = let s = c in let a = s.args in let l = c.loop-i in
-    let L = listing a.count a.start.now a.len.now a.size.now a.kind.now a.names.now in
-    let S = lists a.root.now a.left.now a.right.now a.parent.now a.height.now in
-    let r = lent_at L S a.key.now a.count l.i s.requires c.loop-i-test.true c.narrow-at.ensures in
-    (r.in_start, r.in_len, λ e. omega (arith, (l.invariant.1.1.1.1.1.1 e).some, c.narrow-at.ensures))
-
-pub add_entry-requires : goal.add_entry-requires
-add_entry-requires c =
-    let s = c in
-    let a = s.args in
-    let l = c.loop-i in
-    let L = listing a.count a.start.now a.len.now a.size.now a.kind.now a.names.now in
-    let S = lists a.root.now a.left.now a.right.now a.parent.now a.height.now in
-    let T = lists l.root l.left l.right l.parent l.height in record {
-      lent = lent_at L S a.key.now a.count l.i s.requires c.loop-i-test.true
-          c.narrow-at.ensures;
-      wide = wide_at L S a.key.now a.count l.i s.requires c.loop-i-test.true
-          c.narrow-at.ensures T l.key l.invariant.0 l.invariant.1.0 l.invariant.1.1.0
-          l.invariant.1.1.1.0 l.invariant.1.1.1.1.0;
-      fact = growing_after L T l.key l.i c.narrow-at.ensures l.invariant.1.1.1.1.1.0
-          l.invariant.1.1.1.1.1.1 c.goes_up-after.ensures;
-    }
+pub add_entry-requires-clause-growing : goal.add_entry-requires-clause-growing
+add_entry-requires-clause-growing c = let l = c.loop-i in
+    growing_after (listing_of c.args.count c.args.entries) (lists_of l.links) l.key l.i-counter refl l.invariant.built.0
+    l.invariant.built.1 c.goes_up-after.ensures
 
 pub loop-i-preserved : goal.loop-i-preserved
-loop-i-preserved c =
-    let a = c.args in
-    let l = c.loop-i in
-    let L = listing a.count a.start.now a.len.now a.size.now a.kind.now a.names.now in
-    let T = lists l.root l.left l.right l.parent l.height in
-    let k = c.add_entry in (
-      k.auto.left ∙ l.invariant.0,
-      (
-        k.auto.right ∙ l.invariant.1.0,
-        (
-          k.auto.parent ∙ l.invariant.1.1.0,
-          (
-            k.auto.height ∙ l.invariant.1.1.1.0,
-            (
-              k.auto.key ∙ l.invariant.1.1.1.1.0,
-              one_more_up L T l.key l.i
-                  c.narrow-at.ensures l.invariant.1.1.1.1.1.0
-                  c.loop-i-test.true k.ensures l.invariant.1.1.1.1.1.1
-                  c.goes_up-after.ensures c.in-Taken.is,
-            ),
-          ),
-        ),
-      ),
-    )
+loop-i-preserved c = let l = c.loop-i in let k = c.add_entry in record {
+  same = l.invariant.same;
+  lengths = record {
+    l = k.auto.left ∙ l.invariant.lengths.l;
+    r = k.auto.right ∙ l.invariant.lengths.r;
+    p = k.auto.parent ∙ l.invariant.lengths.p;
+    h = k.auto.height ∙ l.invariant.lengths.h;
+  };
+  key_length = k.auto.key ∙ l.invariant.key_length;
+  built = one_more_up (listing_of c.args.count c.args.entries) (lists_of l.links) l.key l.i-counter refl
+      l.invariant.built.0 c.loop-i-test.true k.ensures l.invariant.built.1 c.goes_up-after.ensures
+      (was_taken k.result (sym c.map_err.ensures.variant ∙ ap is_ok c.in_ok-map_err.was));
+}
 
-pub returns-in-Refused : goal.returns-in-Refused
-returns-in-Refused c =
-    let a = c.args in
-    let l = c.loop-i in
-    let L = listing a.count a.start.now a.len.now a.size.now a.kind.now a.names.now in
-    let T = lists l.root l.left l.right l.parent l.height in
-    stops L T l.key l.i
-    c.narrow-at.ensures l.invariant.1.1.1.1.1.0
-    c.loop-i-test.true
-    c.add_entry.ensures
-    c.in-Refused.is
+-- what `map_err` and `?` make of a refusal
+was_refused : (r : Result (Unit {0}) Cause) {m v : Result (Unit {0}) RefusedEntry} {i : ℕ} {x : RefusedEntry}
+    → MatchResult r (λ u. m ≡ Ok u) (λ c. IsErrAnd m (λ e. e ≡ record { cause = c; entry = i })) → m ≡ Err x → IsErrAnd v (λ e. e ≡ x)
+    → (c : Cause) × (r ≡ Err c) × (v ≡ Err (record { cause = c; entry = i }))
+was_refused (Ok u) {m} {v} h e f = absurd (true≢false (ap is_ok (sym h ∙ e)))
+was_refused (Err c) {m} {v} {i} {x} h e f =
+    let k : x ≡ record { cause = c; entry = i } = rw e at h in
+    let w = err_from_is_err_and v f in (c, refl, w.1 ∙ ap Err (w.2 ∙ k))
 
-pub returns : goal.returns
-returns c = let a = c.args in let l = c.loop-i in
-    all_in (listing a.count a.start.now a.len.now a.size.now a.kind.now a.names.now)
-    (lists l.root l.left l.right l.parent l.height) l.key l.i l.invariant.1.1.1.1.1.0 c.loop-i-test.false
+pub returns-in_err-map_err-clause-built : goal.returns-in_err-map_err-clause-built
+returns-in_err-map_err-clause-built c = let l = c.loop-i in let k = c.add_entry in
+    let g : MatchResult k.result (λ u. c.map_err.result ≡ Ok u) (λ x. IsErrAnd c.map_err.result (λ e. e ≡ record { cause = x; entry = l.i-counter })) = search rules in
+    let h = was_refused k.result {i = l.i-counter} g c.in_err-map_err.was c.from_residual.ensures.1 in
+    rw h.2 (stops (listing_of c.args.count c.args.entries) (lists_of l.links) l.key l.i-counter refl l.invariant.built.0
+    c.loop-i-test.true k.ensures h.1)
 
-pub loop-i-smaller : goal.loop-i-smaller
-loop-i-smaller c = omega arith
+pub returns-clause-built : goal.returns-clause-built
+returns-clause-built c = let l = c.loop-i in
+    all_in (listing_of c.args.count c.args.entries) (lists_of l.links) l.key l.i-counter l.invariant.built.0
+    c.loop-i-test.false

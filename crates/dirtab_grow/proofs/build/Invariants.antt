@@ -1,21 +1,17 @@
--- `build` meets its contract. The loop's invariant: the columns keep their lengths, their first i places hold the tree of the first i entries, and that tree
--- with the entries that are left makes the whole (`Building`). The measure is the number of entries left.
-use Prim.Native.Nat.{◌-◌}
-use mathlib.Core.Path.{◌≡◌}
-use mathlib.Core.Bool.{true}
-use lib.ListN.{length}
-use Rattle.avl_model.specs.Lists.{lists}
-use Rattle.dirtab_grow.specs.Listing.{listing}
+-- `build`'s loop: the columns keep their lengths, their first i places hold the tree of the first i entries, and that tree
+-- with the entries that are left makes the whole (`Building`).
+use Rattle.std.proofs.Common.{◌≡◌, true, length}
+use Rattle.avl_model.specs.Lent.{names_of, lists_of, IsSame}
+use Rattle.dirtab_grow.specs.Listing.{listing_of}
+use Rattle.dirtab_grow.specs.inner.Growing.{KeepsLengths}
 use Rattle.dirtab_grow.proofs.Turn.{Building}
 use Rattle.dirtab_grow.proofs.Rightmost.{Rightmost}
-use Rattle.avl_model.specs.Names.{names_in}
 use Rattle.dirtab_grow.proofs.build.Given as goal
 
 abbrev pub invariant-loop-i : goal.invariant-loop-i
-invariant-loop-i l =
-    (length l.left ≡ length l.initial.left) × ((length l.right ≡ length l.initial.right) × ((length l.parent ≡ length l.initial.parent) × ((length l.height ≡ length l.initial.height) × ((length l.key ≡ length l.initial.key)
-    × ((b : Building (listing l.count l.start l.len l.size l.kind l.names) (lists l.root l.left l.right l.parent l.height) l.key l.i) × (l.up ≡ true → Rightmost (names_in l.names l.start l.len) b.t l.i))))))
-
-abbrev pub decreases-loop-i : goal.decreases-loop-i
-decreases-loop-i l =
-    l.count - l.i
+invariant-loop-i l = record {
+  same : IsSame l.fn.links l.links;
+  lengths : KeepsLengths (lists_of l.fn.links) (lists_of l.links);
+  key_length : length l.key ≡ length l.fn.key;
+  built : (b : Building (listing_of l.count l.entries) (lists_of l.links) l.key l.i-counter) × (l.up ≡ true → Rightmost (names_of l.entries.names) b.t l.i-counter);
+}

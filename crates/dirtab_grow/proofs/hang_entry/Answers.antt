@@ -1,41 +1,26 @@
 -- `hang_entry` meets its contract: the columns are such as the search (`sought_in`) and the insertion (`placed`) ask for, and hold one number more after it.
 use Rattle.avl_model.specs.Lists.{lists}
-use Rattle.avl_model.specs.Names.{names_in}
+use Rattle.avl_model.specs.Lent.{names_of}
 use Rattle.dirtab_grow.proofs.Columns.{sought_in}
 use Rattle.dirtab_grow.proofs.Hung.{out_refused, placed, out_taken}
 use Rattle.dirtab_grow.proofs.hang_entry.Goals as goal
 
-pub choose_seat-requires : goal.choose_seat-requires
-choose_seat-requires c = let s = c in let a = s.args in record {
-  key_sought = sought_in (lists a.root.now a.left.now a.right.now a.parent.now a.height.now) a.key.now
-      (names_in a.names.now a.start.now a.len.now) a.new s.requires.hangable.long s.requires.hangable.growing;
-  inside = (s.requires.hangable.inside, s.requires.hangable.short);
-  after = s.requires.after;
-}
+pub choose_seat-requires-clause-key_sought : goal.choose_seat-requires-clause-key_sought
+choose_seat-requires-clause-key_sought c = let a = c.args in let h = c.requires.hangable in
+    sought_in (lists a.root.now a.left.now a.right.now a.parent.now a.height.now) a.key.now (names_of a.names) a.new h.long
+    h.growing
 
 pub put_in-requires : goal.put_in-requires
-put_in-requires c =
-    let s = c in
-    let a = s.args in
-    placed (lists a.root.now a.left.now a.right.now a.parent.now a.height.now) a.key.now
-    (names_in a.names.now a.start.now a.len.now) a.new s.requires.hangable.long
-    c.choose_seat.result
-    c.choose_seat.ensures
-    c.in-At.is s.requires.hangable.growing
+put_in-requires c = let a = c.args in let h = c.requires.hangable in
+    placed (lists a.root.now a.left.now a.right.now a.parent.now a.height.now) a.key.now (names_of a.names) a.new h.long
+    c.choose_seat.result c.choose_seat.ensures c.in_ok-seat.was h.growing
 
-pub returns-in-Refused : goal.returns-in-Refused
-returns-in-Refused c = λ w. let s = c in let a = s.args in
-    out_refused (lists a.root.now a.left.now a.right.now a.parent.now a.height.now) a.key.now
-    (names_in a.names.now a.start.now a.len.now) a.new s.requires.hangable.long c.choose_seat.result
-    c.choose_seat.ensures c.in-Refused.is w
+pub returns-in_err-seat : goal.returns-in_err-seat
+returns-in_err-seat c = λ w. let a = c.args in let h = c.requires.hangable in
+    out_refused (lists a.root.now a.left.now a.right.now a.parent.now a.height.now) a.key.now (names_of a.names) a.new
+    h.long c.choose_seat.result c.choose_seat.ensures c.in_err-seat.was c.from_residual.ensures.1 w
 
-pub returns-in-At : goal.returns-in-At
-returns-in-At c = λ w. let s = c in
-    let a = s.args in
-    out_taken (lists a.root.now a.left.now a.right.now a.parent.now a.height.now) a.key.now
-    (names_in a.names.now a.start.now a.len.now) a.new s.requires.hangable.long
-    c.choose_seat.result
-    c.choose_seat.ensures
-    c.in-At.is w
-    c.u16_as_usize-i.ensures.0
-    s.requires.hangable.inside s.requires.hangable.has c.put_in.ensures
+pub returns : goal.returns
+returns c = λ w. let a = c.args in let h = c.requires.hangable in
+    out_taken (lists a.root.now a.left.now a.right.now a.parent.now a.height.now) a.key.now (names_of a.names) a.new h.long
+    c.choose_seat.result c.choose_seat.ensures c.in_ok-seat.was w h.inside h.has c.put_in.ensures

@@ -1,15 +1,15 @@
 -- Places along an order of numbers, over columns: proofs/Along.antt says that in preorder they are a table's.
 -- Assumes nothing.
 use Rattle.std.specs.Prelude.{ℕ, ◌+◌, ◌/◌, ◌≤◌, ◌<◌, ◌≡◌, Bool, true, List, [], ◌∷◌, ltb, length, get_or, set}
+use Rattle.std.specs.Prelude.{Result, Ok, Err}
 use Rattle.units.specs.Told.{Told, gives, refuses, pick}
+use Rattle.units.specs.declared.Sector.{Sector}
 use Rattle.layout_node.specs.Header.{entry_length}
 use Rattle.layout_sector.specs.Counter.{sectors_for, aligned_up}
+use Rattle.layout_sector.specs.declared.SectorOverflow.{SectorOverflow}
 use Rattle.dirtab_entry.specs.Entry.{kind_for, is_directory, stored_size}
 use Rattle.table_model.specs.Place.{start_after}
-use Rattle.dirtab_place.specs.declared.Ends.{Ends}
-use Rattle.dirtab_place.specs.declared.Ends.TheVariants as ends
-use Rattle.dirtab_place.specs.declared.Counted.{Counted}
-use Rattle.dirtab_place.specs.declared.Counted.TheVariants as counted
+use Rattle.dirtab_place.specs.declared.TooManyDirectoryEntries.{TooManyDirectoryEntries}
 
 -- where the entry i starts and ends after what ends at e; `len` has the lengths of the names
 abbrev pub start_in : List ℕ → ℕ → ℕ → ℕ
@@ -80,10 +80,10 @@ abbrev pub Countable : List ℕ → List ℕ → List ℕ → Type 0
 Countable order size kind = (k : ℕ) → k < length order → Sized size kind (get_or order k 0)
 
 -- what each answer stands for
-abbrev pub told_end : Ends → Told ℕ
-told_end (ends.At e) = gives e
-told_end ends.TooManyDirectoryEntries = refuses 7 []
+abbrev pub told_end : Result ℕ TooManyDirectoryEntries → Told ℕ
+told_end (Ok e) = gives e
+told_end (Err e) = refuses 7 []
 
-abbrev pub told_free : Counted → Told ℕ
-told_free (counted.Free s) = gives s.0
-told_free counted.SectorOverflow = refuses 8 []
+abbrev pub told_free : Result Sector SectorOverflow → Told ℕ
+told_free (Ok s) = gives s.0
+told_free (Err e) = refuses 8 []

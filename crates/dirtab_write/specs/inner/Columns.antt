@@ -13,6 +13,7 @@ use Rattle.avl_model.specs.inner.Names.{Inside}
 use Rattle.table_model.specs.Entry.{Entry, Item, attributes, entry_for}
 use Rattle.table_model.specs.inner.Writing.{stored, Spaced}
 use Rattle.dirtab_place.specs.inner.Places.{size_in, free_in, free_over, Sized}
+use Rattle.dirtab_write.specs.declared.Layout.{Layout}
 
 -- the columns: the children, the offsets over 4, where each name starts and how long it is, the sizes and the
 -- kinds; and the bytes lent for names
@@ -28,6 +29,11 @@ pub record Cols : Type 0 where
 
 abbrev pub cols : List ℕ → List ℕ → List ℕ → List ℕ → List ℕ → List ℕ → List ℕ → List ℕ → Cols
 cols l r p a n z k b = record { left = l; right = r; place = p; start = a; len = n; size = z; kind = k; bytes = b }
+
+-- the columns that are lent
+abbrev pub cols_of : Layout → Cols
+cols_of t = cols t.branches.left.now t.branches.right.now t.place.now t.entries.names.start.now
+    t.entries.names.len.now t.entries.size.now t.entries.kind.now t.entries.names.bytes.now
 
 -- entry i as it is given, and as a table has it
 abbrev pub given_by : Cols → ℕ → given.Entry
@@ -50,13 +56,13 @@ abbrev pub LinkIn : List ℕ → ℕ → Type 0
 LinkIn p j = (j ≡ none → ⊥) → j < length p
 
 -- the header of entry i, with the sector s and a name of n bytes
-abbrev pub header_by : List ℕ → List ℕ → List ℕ → List ℕ → List ℕ → ℕ → ℕ → ℕ → Header
-header_by left right place size kind i s n = record {
-  left = record { 0 = link_by place (get_or left i 0) };
-  right = record { 0 = link_by place (get_or right i 0) };
+abbrev pub header_by : Cols → ℕ → ℕ → ℕ → Header
+header_by c i s n = record {
+  left = record { 0 = link_by c.place (get_or c.left i 0) };
+  right = record { 0 = link_by c.place (get_or c.right i 0) };
   sector = record { 0 = s };
-  size = size_in size kind i;
-  attributes = attributes (kind_for (get_or kind i 0));
+  size = size_in c.size c.kind i;
+  attributes = attributes (kind_for (get_or c.kind i 0));
   name_len = n;
 }
 
@@ -81,16 +87,16 @@ put_all [] d = d
 put_all (x ∷ xs) d = put_all xs (put_at d x.offset (stored x))
 
 -- what a header asks of a number
-pub record Headed (left right place size kind : List ℕ) (i : ℕ) : Type 0 where
-  pub in_left : i < length left
-  pub in_right : i < length right
-  pub to_left : LinkIn place (get_or left i 0)
-  pub to_right : LinkIn place (get_or right i 0)
-  pub sized : Sized size kind i
+pub record Headed (c : Cols) (i : ℕ) : Type 0 where
+  pub in_left : i < length c.left
+  pub in_right : i < length c.right
+  pub to_left : LinkIn c.place (get_or c.left i 0)
+  pub to_right : LinkIn c.place (get_or c.right i 0)
+  pub sized : Sized c.size c.kind i
 
 -- what an entry asks of a number, in a buffer of m bytes
 pub record Numbered (c : Cols) (m i : ℕ) : Type 0 where
-  pub headed : Headed c.left c.right c.place c.size c.kind i
+  pub headed : Headed c i
   pub in_place : i < length c.place
   pub inside : Inside (names_in c.bytes c.start c.len) i
   pub short : get_or c.len i 0 ≤ 255

@@ -1,15 +1,12 @@
--- `fit_shares` meets its contract. The invariant: the first d shares have their places. The measure is what is left.
-use Rattle.img_room.proofs.Adding.{none_fitted, one_fitted, one_too_long, all_fitted}
+-- `fit_shares` meets its contract.
+use Rattle.std.proofs.Common.{rules, tests, leb, min, ◌∙◌}
+use Rattle.std.proofs.lemmas.Iterator.{YieldsList-from_slice}
+use Rattle.std.proofs.lemmas.Iterator.Search.{all_from_yields_List}
+use Rattle.img_room.proofs.Adding.{all_fit}
 use Rattle.img_room.proofs.fit_shares.Goals as goal
 
-pub loop-d-init : goal.loop-d-init
-loop-d-init c = none_fitted _ _ _
-
-pub returns-then-n-least : goal.returns-then-n-least
-returns-then-n-least c = search one_too_long
-
-pub loop-d-preserved : goal.loop-d-preserved
-loop-d-preserved c = search one_fitted
-
 pub returns : goal.returns
-returns c = search all_fitted
+returns c =
+    let a = c.args in
+    all_from_yields_List (λ count. leb (min count a.entries) a.n) _ _ c.all.result c.all.ensures.ran
+    (YieldsList-from_slice a.share.now cc) (λ x b q k. search (rules, tests)) ∙ all_fit a.n a.entries a.share.now

@@ -1,105 +1,57 @@
--- `arrange` meets its contract: the sizes are filled up to the first that is too large; what building answers of the entries before it is what is told of all
--- (`out_refused`, `out_large`), or the columns hold the tree of all, and its preorder is listed (`out_whole`).
-use mathlib.Core.Path.{refl}
-use native.Mathlib.Omega.{arith}
-use lib.ListN.{length}
-use Rattle.avl_model.specs.Lists.{lists}
+-- `arrange` meets its contract: the sizes are filled up to the first that is too large; what building answers of the
+-- entries before it is what is told of all, or the columns hold the tree of all, and its preorder is listed.
+use Rattle.std.proofs.Common.{refl, length, arith}
+use Rattle.avl_model.specs.Lent.{lists_of}
 use Rattle.img_model.specs.Plan.{table_in}
-use Rattle.img_table.specs.inner.Arranging.{share_by}
-use Rattle.img_table.proofs.Treed.{to_count}
-use Rattle.img_table.proofs.Outcomes.{roomy, out_refused, out_large, out_left, out_right, out_asks, out_whole}
+use Rattle.img_model.specs.Columns.{share_in}
+use Rattle.img_table.proofs.Treed.{to_count, tree_refused}
+use Rattle.img_table.proofs.Outcomes.{passed_on, roomy, out_large, out_asks, out_whole}
 use Rattle.img_table.proofs.arrange.Goals as goal
 
 pub build-requires : goal.build-requires
 build-requires c =
-    let a = c.args in
     let f = c.fill_sizes-count in
-    roomy (share_by a.start.now a.len.now a.kind.now a.value.now a.names.now) (table_in a.sized.now) f.new.size f.result
-    f.ensures.answer f.ensures.sizes
-    c.requires refl (lists 65535 a.left.now a.right.now a.parent.now a.height.now) a.key.now refl refl refl refl refl f.auto.size
+    roomy (share_in c.args.share) (table_in c.args.sized.now) f.new.size f.result f.ensures.answer f.ensures.sizes
+    (lists_of c.args.links.now) c.args.key.now c.requires refl f.auto.size
 
-pub returns-then-n-kind : goal.returns-then-n-kind
-returns-then-n-kind c =
-    let a = c.args in
+pub returns-in_err-build-clause-arranged : goal.returns-in_err-build-clause-arranged
+returns-in_err-build-clause-arranged c =
     let f = c.fill_sizes-count in
-    let k = c.build in
-    let S = share_by a.start.now a.len.now a.kind.now a.value.now a.names.now in
-    let tab = table_in a.sized.now in
-    let T = lists k.new.root k.new.left k.new.right k.new.parent k.new.height in
-    out_large S tab f.new.size f.result f.ensures.answer f.ensures.sizes T k.ensures c.in-Done.is c.if-n-kind.true
+    let e = c.in_err-build.field-0.0 in
+    passed_on c.from_residual.result e.cause e.entry _ c.args.order.now c.from_residual.ensures.1
+    (tree_refused (share_in c.args.share) (table_in c.args.sized.now) f.new.size f.result f.ensures.answer f.ensures.sizes
+    c.in_err-build.ensures.built)
 
-pub slice_bounds-preorder-end : goal.slice_bounds-preorder-end
-slice_bounds-preorder-end c =
-    let a = c.args in
+pub returns-then-n-share-clause-arranged : goal.returns-then-n-share-clause-arranged
+returns-then-n-share-clause-arranged c =
     let f = c.fill_sizes-count in
-    let k = c.build in
-    let S = share_by a.start.now a.len.now a.kind.now a.value.now a.names.now in
-    let tab = table_in a.sized.now in
-    let T = lists k.new.root k.new.left k.new.right k.new.parent k.new.height in
-    let low = to_count S tab f.new.size f.result f.ensures.answer f.ensures.sizes in
-    omega (arith, low, c.requires.l, k.auto.left)
+    out_large (share_in c.args.share) (table_in c.args.sized.now) f.new.size f.result f.ensures.answer f.ensures.sizes
+    (lists_of c.build.new.links) c.in_ok-build.ensures.built c.if-n-share.true
 
-pub slice_bounds-preorder-end-in-Done : goal.slice_bounds-preorder-end-in-Done
-slice_bounds-preorder-end-in-Done c =
-    let a = c.args in
+pub list_nodes-requires-clause-fits : goal.list_nodes-requires-clause-fits
+list_nodes-requires-clause-fits c =
     let f = c.fill_sizes-count in
-    let k = c.build in
-    let S = share_by a.start.now a.len.now a.kind.now a.value.now a.names.now in
-    let tab = table_in a.sized.now in
-    let T = lists k.new.root k.new.left k.new.right k.new.parent k.new.height in
-    let low = to_count S tab f.new.size f.result f.ensures.answer f.ensures.sizes in
-    out_left S tab f.new.size f.result f.ensures.answer f.ensures.sizes T k.ensures c.in-Done.is (omega (arith, low, c.requires.l, k.auto.left)) (omega (arith, low, c.requires.r, k.auto.right))
+    let low = to_count (share_in c.args.share) (table_in c.args.sized.now) f.new.size f.result f.ensures.answer
+    f.ensures.sizes in
+    let long = c.build.ensures.lengths in
+    (omega (arith, low, c.requires.l, long.l), omega (arith, low, c.requires.r, long.r))
 
-pub slice_bounds-preorder-end-in-Done-2 : goal.slice_bounds-preorder-end-in-Done-2
-slice_bounds-preorder-end-in-Done-2 c =
-    let a = c.args in
+pub list_nodes-requires-clause-listed : goal.list_nodes-requires-clause-listed
+list_nodes-requires-clause-listed c =
     let f = c.fill_sizes-count in
-    let k = c.build in
-    let S = share_by a.start.now a.len.now a.kind.now a.value.now a.names.now in
-    let tab = table_in a.sized.now in
-    let T = lists k.new.root k.new.left k.new.right k.new.parent k.new.height in
-    let low = to_count S tab f.new.size f.result f.ensures.answer f.ensures.sizes in
-    omega (arith, low, c.requires.r, k.auto.right)
+    let low = to_count (share_in c.args.share) (table_in c.args.sized.now) f.new.size f.result f.ensures.answer
+    f.ensures.sizes in
+    let long = c.build.ensures.lengths in
+    out_asks (share_in c.args.share) (table_in c.args.sized.now) f.new.size f.result f.ensures.answer f.ensures.sizes
+    (lists_of c.build.new.links) c.in_ok-build.ensures.built (omega (arith, low, c.requires.l, long.l))
+    (omega (arith, low, c.requires.r, long.r)) (length c.args.order.now) (omega (arith, low, c.requires.o))
 
-pub slice_bounds-preorder-end-in-Done-3 : goal.slice_bounds-preorder-end-in-Done-3
-slice_bounds-preorder-end-in-Done-3 c =
-    let a = c.args in
+pub returns-clause-arranged : goal.returns-clause-arranged
+returns-clause-arranged c =
     let f = c.fill_sizes-count in
-    let k = c.build in
-    let S = share_by a.start.now a.len.now a.kind.now a.value.now a.names.now in
-    let tab = table_in a.sized.now in
-    let T = lists k.new.root k.new.left k.new.right k.new.parent k.new.height in
-    let low = to_count S tab f.new.size f.result f.ensures.answer f.ensures.sizes in
-    out_right S tab f.new.size f.result f.ensures.answer f.ensures.sizes T k.ensures c.in-Done.is (omega (arith, low, c.requires.l, k.auto.left)) (omega (arith, low, c.requires.r, k.auto.right))
-
-pub preorder-requires : goal.preorder-requires
-preorder-requires c =
-    let a = c.args in
-    let f = c.fill_sizes-count in
-    let k = c.build in
-    let S = share_by a.start.now a.len.now a.kind.now a.value.now a.names.now in
-    let tab = table_in a.sized.now in
-    let T = lists k.new.root k.new.left k.new.right k.new.parent k.new.height in
-    let low = to_count S tab f.new.size f.result f.ensures.answer f.ensures.sizes in
-    out_asks S tab f.new.size f.result f.ensures.answer f.ensures.sizes T k.ensures c.in-Done.is (omega (arith, low, c.requires.l, k.auto.left)) (omega (arith, low, c.requires.r, k.auto.right)) (length a.order.now) (omega (arith, low, c.requires.o))
-
-pub returns-in-Refused : goal.returns-in-Refused
-returns-in-Refused c =
-    let a = c.args in
-    let f = c.fill_sizes-count in
-    let k = c.build in
-    let S = share_by a.start.now a.len.now a.kind.now a.value.now a.names.now in
-    let tab = table_in a.sized.now in
-    let T = lists k.new.root k.new.left k.new.right k.new.parent k.new.height in
-    out_refused S tab f.new.size f.result f.ensures.answer f.ensures.sizes T k.ensures c.in-Refused.is
-
-pub returns-else-n-kind : goal.returns-else-n-kind
-returns-else-n-kind c =
-    let a = c.args in
-    let f = c.fill_sizes-count in
-    let k = c.build in
-    let S = share_by a.start.now a.len.now a.kind.now a.value.now a.names.now in
-    let tab = table_in a.sized.now in
-    let T = lists k.new.root k.new.left k.new.right k.new.parent k.new.height in
-    let low = to_count S tab f.new.size f.result f.ensures.answer f.ensures.sizes in
-    out_whole S tab f.new.size f.result f.ensures.answer f.ensures.sizes T k.ensures c.in-Done.is (omega (arith, low, c.requires.l, k.auto.left)) (omega (arith, low, c.requires.r, k.auto.right)) a.order.now _ c.requires.o c.if-n-kind.false c.preorder.ensures
+    let low = to_count (share_in c.args.share) (table_in c.args.sized.now) f.new.size f.result f.ensures.answer
+    f.ensures.sizes in
+    let long = c.build.ensures.lengths in
+    out_whole (share_in c.args.share) (table_in c.args.sized.now) f.new.size f.result f.ensures.answer f.ensures.sizes
+    (lists_of c.build.new.links) c.in_ok-build.ensures.built (omega (arith, low, c.requires.l, long.l))
+    (omega (arith, low, c.requires.r, long.r)) c.args.order.now _ c.requires.o c.if-n-share.false c.list_nodes.ensures

@@ -1,16 +1,16 @@
 -- `size_for` meets its contract: the two kinds of entry.
-use Rattle.img_table.proofs.Sizes.{in_sized, table_size_lem, file_size}
-use borrow.Author.Rules.{rules}
+use Rattle.std.proofs.Common.{◌∙◌}
+use Rattle.img_model.proofs.ByKind.{is_one, is_other}
+use Rattle.img_table.proofs.Sizes.{directory_size, file_size}
 use Rattle.img_table.proofs.size_for.Goals as goal
 
-pub offset_bounds-sized-u64_as_usize : goal.offset_bounds-sized-u64_as_usize
-offset_bounds-sized-u64_as_usize c = search (rules, in_sized)
+pub bounds-sized-value : goal.bounds-sized-value
+bounds-sized-value c = c.requires (is_one _ _ c.from.ensures c.in-Directory.is)
 
-pub bounds-sized-u64_as_usize : goal.bounds-sized-u64_as_usize
-bounds-sized-u64_as_usize c = search in_sized
+pub returns-in-Directory : goal.returns-in-Directory
+returns-in-Directory c =
+    let one = is_one _ _ c.from.ensures c.in-Directory.is in
+    c.from-in-Directory.ensures ∙ directory_size c.args.kind _ c.args.value one
 
-pub returns-then-kind-eq1 : goal.returns-then-kind-eq1
-returns-then-kind-eq1 c = search table_size_lem
-
-pub returns : goal.returns
-returns c = search file_size
+pub returns-in-File : goal.returns-in-File
+returns-in-File c = file_size _ _ _ (is_other _ _ c.from.ensures c.in-File.is)

@@ -1,18 +1,40 @@
 -- What going forward over an image's directories answers and leaves. Assumes nothing.
-use Rattle.std.specs.Prelude.{ℕ, ◌+◌, ◌≤◌, ◌<◌, ◌≡◌, true, List, [], ◌∷◌, ltb, eqb, length, get_or, set, drop}
+use Rattle.std.specs.Prelude.{
+  ℕ,
+  ◌+◌,
+  ◌≤◌,
+  ◌<◌,
+  ◌≡◌,
+  true,
+  List,
+  [],
+  ◌∷◌,
+  ltb,
+  eqb,
+  length,
+  get_or,
+  set,
+  drop,
+  Result,
+  Ok,
+  Err,
+}
+use Rattle.units.specs.declared.Sector.{Sector}
 use Rattle.units.specs.Told.{Told, gives, refuses, pick}
 use Rattle.layout_sector.specs.Counter.{aligned_up}
 use Rattle.avl_model.specs.Tree.{Tree}
 use Rattle.avl_model.specs.Order as preorder
-use Rattle.table_model.specs.Entry.{Entry}
 use Rattle.dirtab_place.specs.inner.Places.{free_in}
 use Rattle.dirtab_place.specs.inner.Places as places
-use Rattle.img_model.specs.Shares.{Request, columns}
-use Rattle.img_model.specs.Plan.{Taking, total, table_in, entry_in, tree_in}
-use Rattle.img_table.specs.inner.Arranging.{share_by, Fillable}
+use Rattle.img_model.specs.declared.PlanError.{PlanError}
+use Rattle.img_model.specs.declared.PlanError.TheVariants as plan
+use Rattle.avl_model.specs.Names.{Names, names_in}
+use Rattle.img_model.specs.Shares.{Request, Share, columns}
+use Rattle.img_model.specs.Plan.{Taking, total, table_in, tree_in}
+use Rattle.img_table.specs.inner.Arranging.{Fillable}
 use Rattle.img_model.specs.inner.Tables.{Sizeable, TablesIn}
-use Rattle.img_take.specs.declared.Fitting.{Fitting}
-use Rattle.img_take.specs.declared.Fitting.TheVariants as fitting
+use Rattle.img_take.specs.declared.PlacingError.{PlacingError}
+use Rattle.img_take.specs.declared.PlacingError.TheVariants as error
 
 -- what entries take, of its columns and the next free sector
 abbrev pub taking : List ℕ → List ℕ → ℕ → Taking
@@ -24,52 +46,56 @@ free_told (gives p) = gives p.free
 free_told (refuses k vs) = refuses k vs
 
 -- what an answer stands for: the next free sector after all, or the first directory whose table cannot be placed
-abbrev pub told_fitting : Fitting → Told ℕ
-told_fitting (fitting.Free s) = gives s.0
-told_fitting (fitting.TooManyDirectoryEntries d) = refuses 7 (d ∷ [])
-told_fitting (fitting.SectorOverflow d) = refuses 8 (d ∷ [])
+abbrev pub told_placed : Result Sector PlacingError → Told ℕ
+told_placed (Ok s) = gives s.0
+told_placed (Err (error.TooManyDirectoryEntries d)) = refuses 7 (d ∷ [])
+told_placed (Err (error.SectorOverflow d)) = refuses 8 (d ∷ [])
 
--- columns of an image whose tables are sized, with a column that has a place for each of a share's sizes; start,
--- len and bytes are what the code does not look at here
-pub record Sized (from share kind value sizes orders : List ℕ) (places : ℕ) : Type 0 where
-  pub start : List ℕ
-  pub len : List ℕ
-  pub bytes : List ℕ
-  pub sizeable : Sizeable (columns from share start len kind value bytes)
-  pub some : 0 < length from
-  pub sized : length sizes ≡ length from
-  pub tables : TablesIn (columns from share start len kind value bytes) sizes orders
-  pub long : total share ≤ length orders
-  pub wide : (d : ℕ) → d < length from → get_or share d 0 ≤ places
+-- the same refusal of a plan
+abbrev pub plan_error : PlacingError → PlanError
+plan_error (error.TooManyDirectoryEntries d) = plan.TooManyDirectoryEntries d
+plan_error (error.SectorOverflow d) = plan.SectorOverflow d
 
--- the request that these columns are of
-abbrev pub request_of : {from share kind value sizes orders : List ℕ} {places : ℕ}
-    → Sized from share kind value sizes orders places → Request
-request_of {from = from} {share = share} {kind = kind} {value = value} w =
-    columns from share w.start w.len kind value w.bytes
+-- a request, and a directory's entries, with names N. (The code does not look at the names here, so that they may be
+-- any with which the tables are sized.)
+abbrev pub with_names : Request → Names → Request
+with_names R N = columns R.from R.share N.start N.len R.kind R.value N.bytes
+
+abbrev pub share_with : Share → Names → Share
+share_with S N = record {
+  count = S.count;
+  start = N.start;
+  len = N.len;
+  kind = S.kind;
+  value = S.value;
+  bytes = N.bytes;
+}
+
+-- no names
+abbrev pub nameless : Names
+nameless = names_in [] [] []
+
+-- an image whose tables are sized, with a column that has a place for each of a share's sizes
+pub record Sized (R : Request) (sizes orders : List ℕ) (places : ℕ) : Type 0 where
+  pub sizeable : Sizeable R
+  pub some : 0 < length R.from
+  pub sized : length sizes ≡ length R.from
+  pub tables : TablesIn R sizes orders
+  pub long : total R.share ≤ length orders
+  pub wide : (d : ℕ) → d < length R.from → get_or R.share d 0 ≤ places
 
 -- a directory d whose order ends at `to`
-pub record Turn (from share kind value sizes orders : List ℕ) (places d to : ℕ) : Type 0 where
-  pub sized : Sized from share kind value sizes orders places
-  pub is_one : d < length from
-  pub to_is : to ≡ total (drop d share)
+pub record Turn (R : Request) (sizes orders : List ℕ) (places d to : ℕ) : Type 0 where
+  pub sized : Sized R sizes orders places
+  pub is_one : d < length R.from
+  pub to_is : to ≡ total (drop d R.share)
 
--- one directory's entries in slices of the columns, with a column that has a place for each size: their tree, and
--- `listed` is its preorder
-pub record Treed (listed kind value sizes : List ℕ) (places : ℕ) : Type 0 where
-  pub start : List ℕ
-  pub len : List ℕ
-  pub bytes : List ℕ
+-- one directory's entries, with a column that has a place for each size: their tree, and `listed` is its preorder
+pub record Treed (listed : List ℕ) (S : Share) (sizes : List ℕ) (places : ℕ) : Type 0 where
   pub t : Tree
-  pub fillable : Fillable (share_by start len kind value bytes) (length sizes) places
-  pub told : tree_in (share_by start len kind value bytes) (table_in sizes) ≡ gives t
+  pub fillable : Fillable S (length sizes) places
+  pub told : tree_in S (table_in sizes) ≡ gives t
   pub listed_is : listed ≡ preorder.order t
-
--- its entries
-abbrev pub entries_of : {listed kind value sizes : List ℕ} {places : ℕ} → Treed listed kind value sizes places → ℕ
-    → Entry
-entries_of {kind = kind} {value = value} {sizes = sizes} w =
-    entry_in (share_by w.start w.len kind value w.bytes) (table_in sizes)
 
 -- the next free sector, or 8 where it exceeds 4,294,967,295
 abbrev pub limited : ℕ → Told ℕ

@@ -1,11 +1,10 @@
--- `img_tree::mark_directory` meets its contract.
-use native.Mathlib.Omega.{arith}
-use Rattle.img_tree.proofs.Reach.{past_list, in_list, marked_in_list}
-use Rattle.img_tree.proofs.Turn.{never}
+-- `mark_directory` meets its contract.
+use Rattle.std.proofs.Common.{arith}
+use Rattle.img_tree.proofs.Reach.{past_list, in_list}
 use Rattle.img_tree.proofs.mark_directory.Goals as goal
 
-pub returns-then-kind-to : goal.returns-then-kind-to
-returns-then-kind-to c = (past_list _ _ _ _ _ _ (omega arith), never)
+pub returns-then-request-to-clause-answer : goal.returns-then-request-to-clause-answer
+returns-then-request-to-clause-answer c = past_list _ _ _ _ _ _ (omega arith)
 
-pub returns : goal.returns
-returns c = (search in_list, search marked_in_list)
+pub returns-clause-answer : goal.returns-clause-answer
+returns-clause-answer c = search in_list

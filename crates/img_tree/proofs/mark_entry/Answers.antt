@@ -1,10 +1,11 @@
--- `img_tree::mark_entry` meets its contract.
+-- `mark_entry` meets its contract.
+use Rattle.img_model.proofs.ByKind.{is_one, is_other}
 use Rattle.img_tree.proofs.OneMark.{of_directory_lem, of_file}
-use borrow.Author.Rules.{rules}
 use Rattle.img_tree.proofs.mark_entry.Goals as goal
 
-pub returns-then-kind-eq1 : goal.returns-then-kind-eq1
-returns-then-kind-eq1 c = of_directory_lem _ _ _ _ _ _ (search rules) (search rules) (search rules)
+pub returns-in-Directory : goal.returns-in-Directory
+returns-in-Directory c =
+    of_directory_lem _ _ _ _ _ _ (is_one _ _ c.from.ensures c.in-Directory.is) c.mark.ensures.0 c.mark.ensures.1
 
-pub returns : goal.returns
-returns c = of_file _ _ _ _ (search rules)
+pub returns-in-File : goal.returns-in-File
+returns-in-File c = of_file _ _ _ _ (is_other _ _ c.from.ensures c.in-File.is)

@@ -1,17 +1,13 @@
--- `img_tree::mark_share` meets its contract. The loop's invariant is `Part` of proofs/Turn.antt: the first i entries are marked.
-use native.Mathlib.Omega.{arith}
-use Rattle.img_tree.proofs.Turn.{begun, past, stop, done, all_marked_lem, never}
-use borrow.Author.Rules.{rules}
+-- `mark_share` meets its contract. The loop's invariant is `Part` of proofs/Turn.antt: the first i entries are marked.
+use Rattle.std.proofs.Common.{rules}
+use Rattle.img_tree.proofs.Turn.{past, stop, done}
 use Rattle.img_tree.proofs.mark_share.Goals as goal
 
-pub loop-i-init : goal.loop-i-init
-loop-i-init c = (omega arith, search rules, search begun)
-
-pub returns-then-not-mark_entry : goal.returns-then-not-mark_entry
-returns-then-not-mark_entry c = (search stop, never)
+pub returns-then-not-mark_entry-clause-answer : goal.returns-then-not-mark_entry-clause-answer
+returns-then-not-mark_entry-clause-answer c = search stop
 
 pub loop-i-preserved : goal.loop-i-preserved
-loop-i-preserved c = (omega arith, search rules, search past)
+loop-i-preserved c = (search rules, search past)
 
-pub returns : goal.returns
-returns c = (search done, λ t. search all_marked_lem)
+pub returns-clause-answer : goal.returns-clause-answer
+returns-clause-answer c = search (rules, done)

@@ -5,11 +5,6 @@ use Rattle.units.specs.Told.{pick}
 use Rattle.avl_arena.specs.Test.{every}
 use Rattle.img_model.specs.Shares.{Request, Share, part, tally, names, names_later}
 
--- the columns, as far as a tree's rule speaks of them
-abbrev pub shares : List ℕ → List ℕ → List ℕ → List ℕ → Request
-shares from share kind value =
-    record { from = from; share = share; start = []; len = []; kind = kind; value = value; bytes = [] }
-
 -- a column for each directory is as long as another, and so is one for each entry; there is a mark for each directory
 pub record Even (R : Request) (marks : ℕ) : Type 0 where
   pub shared : length R.share ≡ length R.from

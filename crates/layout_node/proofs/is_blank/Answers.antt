@@ -2,11 +2,11 @@
 use Rattle.layout_node.proofs.Blank.{ones, zeros, neither}
 use Rattle.layout_node.proofs.is_blank.Goals as goal
 
-pub returns-then-last : goal.returns-then-last
-returns-then-last c = search ones
+pub returns-in-0 : goal.returns-in-0
+returns-in-0 c = search zeros
 
-pub returns-then-last-eq0 : goal.returns-then-last-eq0
-returns-then-last-eq0 c = search zeros
+pub returns-in-255 : goal.returns-in-255
+returns-in-255 c = search ones
 
-pub returns : goal.returns
-returns c = search neither
+pub returns-in_default : goal.returns-in_default
+returns-in_default c = search neither

@@ -1,10 +1,6 @@
 -- `layout_node::put_header` meets its contract: five puts, one behind the other, are one. Assumes nothing.
-use Prim.Native.Nat.{ℕ, ◌+◌, ◌≤◌}
-use mathlib.Core.Path.{◌≡◌, refl, ap, ◌∙◌}
-use mathlib.Core.List.{List, [], ◌∷◌}
-use lib.ListN.{length}
+use Rattle.std.proofs.Common.{ℕ, ◌+◌, ◌≤◌, ◌≡◌, refl, ap, ◌∙◌, List, [], ◌∷◌, length, arith}
 use Rattle.layout_node.specs.declared.Header.{Header}
-use native.Mathlib.Omega.{arith}
 use Rattle.layout_bytes.specs.Bytes.{le16, le32}
 use Rattle.layout_bytes.specs.inner.Bytes.{put_at}
 use Rattle.layout_bytes.proofs.Put.{put_then}
@@ -27,11 +23,5 @@ module _ (at : ℕ) (h : Header) (l₀ l₁ l₂ l₃ l₄ l₅ : List ℕ) (a b
 
 pub returns : goal.returns
 returns c =
-    let k₅ = c in
-    let k₄ = k₅ in
-    let k₃ = k₄ in
-    let k₂ = k₃ in
-    let k₁ = k₂ in
-    let s = k₁ in
-    five s.args.at s.args.header _ _ _ _ _ _ _ _ _ s.requires k₁.number.ensures k₁.put16.ensures k₂.number-2.ensures k₂.put16-2.ensures
-    k₃.number-3.ensures k₃.put32.ensures k₄.put32-2.ensures k₅.put_two.ensures
+    five c.args.at c.args.header _ _ _ _ _ _ _ _ _ c.requires c.number.ensures c.put16.ensures c.number-2.ensures c.put16-2.ensures c.number-3.ensures c.put32.ensures
+    c.put32-2.ensures c.put_two.ensures

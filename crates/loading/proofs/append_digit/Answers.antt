@@ -1,16 +1,13 @@
 -- `loading::append_digit` meets its contract. Assumes nothing.
-use native.Mathlib.Omega.{arith}
-use Rattle.loading.proofs.Digits.{below_0, past_9, too_large, one_more}
+use borrow.Author.Rules.{rules}
+use Rattle.loading.proofs.Digits.{no_digit, mul_none, added}
 use Rattle.loading.proofs.append_digit.Goals as goal
 
 pub returns-then-b-lt48 : goal.returns-then-b-lt48
-returns-then-b-lt48 c = below_0 _ _ (omega arith)
+returns-then-b-lt48 c = no_digit _ _ c.then-b-lt48.either
 
-pub returns-then-b-gt57 : goal.returns-then-b-gt57
-returns-then-b-gt57 c = past_9 _ _ (omega arith)
-
-pub returns-then-digit-n : goal.returns-then-digit-n
-returns-then-digit-n c = too_large _ _ (omega arith) (omega arith) (omega arith)
+pub returns-in_err-checked_mul : goal.returns-in_err-checked_mul
+returns-in_err-checked_mul c = mul_none _ _ (search rules) (search rules) c.in_err-checked_mul.ensures _ c.from_residual.ensures
 
 pub returns : goal.returns
-returns c = one_more _ _ (omega arith) (omega arith) (omega arith)
+returns c = added _ _ _ _ (search rules) (search rules) c.in_ok-checked_mul.ensures.1 c.from.ensures _ c.checked_add.ensures

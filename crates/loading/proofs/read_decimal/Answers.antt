@@ -1,20 +1,20 @@
--- `loading::read_decimal` meets its contract. The invariant: the number read is one of 64 bits, and it and the bytes that are left say what all of them say. The measure is
--- what is left. Assumes nothing.
+-- `loading::read_decimal` meets its contract. Assumes nothing.
+use mathlib.Core.Path.{refl}
 use borrow.Author.Rules.{rules}
 use Rattle.loading.proofs.Digits.{empty, begins, goes_on, ends_here, all_read}
 use Rattle.loading.proofs.read_decimal.Goals as goal
 
-pub loop-i-preserved : goal.loop-i-preserved
-loop-i-preserved c = (search rules, search rules, search goes_on)
+pub returns-then-is_empty : goal.returns-then-is_empty
+returns-then-is_empty c = empty _ c.if-is_empty.ensures
 
-pub returns-then-s-eq0 : goal.returns-then-s-eq0
-returns-then-s-eq0 c = search empty
+pub loop-b-init : goal.loop-b-init
+loop-b-init c = (search rules, begins _ c.if-is_empty.ensures)
 
-pub loop-i-init : goal.loop-i-init
-loop-i-init c = (search rules, search rules, search begins)
+pub loop-b-preserved : goal.loop-b-preserved
+loop-b-preserved c = (search rules, goes_on _ _ _ c.loop-b.invariant.1 _ _ (search rules) c.in_ok-n.ensures refl)
 
-pub returns-in-NoNumber : goal.returns-in-NoNumber
-returns-in-NoNumber c = search ends_here
+pub returns-in_err-n : goal.returns-in_err-n
+returns-in_err-n c = ends_here _ _ _ c.loop-b.invariant.1 (search rules) c.in_err-n.ensures _ c.from_residual.ensures
 
 pub returns : goal.returns
 returns c = search all_read

@@ -1,21 +1,16 @@
--- What each answer of a step of a lookup stands for, and what the number of a rule names.
-use Rattle.std.specs.Prelude.{ℕ, List, [], ◌∷◌}
+-- What the number of a rule names.
+use Rattle.std.specs.Prelude.{ℕ, List, [], ◌∷◌, Result, Ok, Err}
 use Rattle.std.proofs.Math.Option.{Option, some, none}
-use Rattle.read_lookup.specs.declared.Ruled.{Ruled}
-use Rattle.read_lookup.specs.declared.Ruled.TheVariants as ruled
-use Rattle.read_lookup.specs.declared.Step.{Step}
-use Rattle.read_lookup.specs.declared.Step.TheVariants as step
-use Rattle.read_lookup.specs.Lookup.{Leads, found, missing, refused, onward}
+use Rattle.read_lookup.specs.declared.Rule.{Rule}
+use Rattle.read_lookup.specs.declared.Rule.TheVariants.{One, Two}
+use Rattle.read_lookup.specs.declared.BadRule.{BadRule}
 
--- what each answer of a step stands for
-abbrev pub leading : Step → Leads
-leading (step.Found h p) = found (record { header = h; place = p })
-leading step.Absent = missing
-leading (step.OutOfBounds o) = refused 23 (o.0 ∷ [])
-leading (step.Truncated o) = refused 24 (o.0 ∷ [])
-leading (step.Next o) = onward o.0
+-- the link that is absent under a rule, beside 0
+abbrev pub absent_link : Rule → ℕ
+absent_link One = 255
+absent_link Two = 65535
 
 -- what each answer for the number of a rule stands for: its absent links, 0 and another
-abbrev pub ruling : Ruled → Option (List ℕ)
-ruling (ruled.Absent n) = some (0 ∷ n ∷ [])
-ruling ruled.BadRule = none
+abbrev pub ruling : Result Rule BadRule → Option (List ℕ)
+ruling (Ok rule) = some (0 ∷ absent_link rule ∷ [])
+ruling (Err e) = none

@@ -1,14 +1,14 @@
--- `read_path::find_path_by` meets its contract. The loop's invariant: what is to be answered is the answer of the parts from i on, in the table t.
--- Assumes nothing.
-use Prim.Native.Nat.{◌-◌, ◌≤◌}
-use mathlib.Core.Path.{◌≡◌}
-use mathlib.Core.List.{[], ◌∷◌}
-use lib.ListN.{length, drop}
+-- `read_path::find_path_by` meets its contract. The loop's invariant: what is to be answered is the answer of the parts of what is left of the path,
+-- in the table that the loop stands in. Assumes nothing.
+use Rattle.std.proofs.Common.{◌≡◌, length, [], ◌∷◌}
 use Rattle.read_path.specs.Path.{split, unended, parts_from, path_by}
 use Rattle.read_path.proofs.find_path_by.Given as goal
 
-abbrev pub invariant-loop-i : goal.invariant-loop-i
-invariant-loop-i l = (l.i ≤ length l.path) × (path_by (0 ∷ l.absent ∷ []) l.w l.first l.initial.t l.path ≡ parts_from (0 ∷ l.absent ∷ []) l.w l.first l.t (unended (split (drop l.i l.path))))
+abbrev pub invariant-loop-table : goal.invariant-loop-table
+invariant-loop-table l =
+    let t = l.initial.table in
+    path_by (0 ∷ l.absent ∷ []) t.window.now t.first t.region l.path
+    ≡ parts_from (0 ∷ l.absent ∷ []) l.table.window.now l.table.first l.table.region (unended (split l.rest))
 
-abbrev pub decreases-loop-i : goal.decreases-loop-i
-decreases-loop-i l = length l.path - l.i
+abbrev pub decreases-loop-table : goal.decreases-loop-table
+decreases-loop-table l = length l.rest

@@ -2,6 +2,7 @@
 use Prim.Native.Nat.{ℕ, ◌+◌, ◌*◌, ◌<◌}
 use mathlib.Core.Path.{◌≡◌, refl, sym, ap, ◌∙◌}
 use mathlib.Core.List.{List}
+use mathlib.Core.Logic.{◌⊎◌, inl, inr}
 use native.Mathlib.Omega.{arith}
 use borrow.Author.Tests.{eq-eqb, ne_eqb}
 use lib.ListN.{length, set, length-set}
@@ -31,11 +32,12 @@ module _ (s : List ℕ) (top k : ℕ) (l : Link) (k-is : k ≡ l.0) where
       kept = length-set s top o;
     }
 
-pub returns-then-n-eq0 : goal.returns-then-n-eq0
-returns-then-n-eq0 c = search zero_link
+  pub absent_link : (k ≡ 0) ⊎ ((k ≡ 0 → ⊥) × (k ≡ 65535)) → Pushed walk_absent l.0 s top s top
+  absent_link (inl e) = zero_link e
+  absent_link (inr e) = ones_link e.0 e.1
 
-pub returns-then-n : goal.returns-then-n
-returns-then-n c = search ones_link
+pub returns-then-n-eq0 : goal.returns-then-n-eq0
+returns-then-n-eq0 c = absent_link _ _ _ _ c.number-n.ensures c.then-n-eq0.either
 
 pub returns : goal.returns
 returns c = search link

@@ -8,7 +8,10 @@ use Rattle.read_walk.proofs.Turn.{walk_on, State}
 use Rattle.read_walk.proofs.run.Given as goal
 
 abbrev pub invariant-loop-top : goal.invariant-loop-top
-invariant-loop-top l = State l.w l.first l.table (walk_on l.w l.first l.table (length l.initial.list) (0 ∷ [])) (length l.initial.list) (length l.initial.scratch) l.list l.scratch l.top l.n
+invariant-loop-top l =
+    let t = l.table in
+    let w = t.window.now in
+    State w t.first t.region (walk_on w t.first t.region (length l.initial.list) (0 ∷ [])) (length l.initial.list) (length l.initial.scratch) l.list l.scratch l.top l.n
 
 abbrev pub decreases-loop-top : goal.decreases-loop-top
 decreases-loop-top l = 2 * (length l.initial.list - l.n) + l.top

@@ -1,8 +1,9 @@
 -- What the loop of a walk leaves, for the contracts inside the crate. Assumes nothing.
 use Rattle.std.specs.Prelude.{ℕ, zero, suc, ◌+◌, ◌≤◌, ◌≡◌, List, [], ◌∷◌, length, get_or, take}
+use Rattle.std.specs.Prelude.{Result}
+use Rattle.std.specs.Result.{result_unwrap_or}
 use Rattle.units.specs.Told.{Told, gives, refuses}
-use Rattle.read_walk.specs.declared.Walked.{Walked}
-use Rattle.read_walk.specs.declared.Walked.TheVariants as walked
+use Rattle.read_walk.specs.declared.WalkError.{WalkError}
 use Rattle.read_walk.specs.Walk.{push, counted, told}
 
 -- the stack that the first places of the scratch hold, the last of them on top
@@ -16,13 +17,9 @@ pub record Pushed (absent : List ℕ) (k : ℕ) (s : List ℕ) (top : ℕ) (afte
   pub height : height-after ≤ top + 1
   pub kept : length after ≡ length s
 
--- the places that an answer keeps of the list
-abbrev pub kept_of : Walked → ℕ
-kept_of (walked.Done n) = n
-kept_of walked.Room = 0
-kept_of (walked.OutOfBounds o) = 0
-kept_of (walked.Truncated o) = 0
-kept_of walked.WalkFull = 0
+-- the places that an answer keeps of the list: those of the offsets listed; none after a refusal
+abbrev pub kept_of : {E : Type 0} → Result ℕ E → ℕ
+kept_of answer = result_unwrap_or answer 0
 
 -- what a walk lists; nothing after a refusal
 abbrev pub listed_of : Told (List ℕ) → List ℕ
@@ -30,7 +27,7 @@ listed_of (gives xs) = xs
 listed_of (refuses k vs) = []
 
 -- the answer is the walk's, and the places that it keeps hold what the walk lists
-pub record Runs (walk : Told (List ℕ)) (answer : Walked) (list : List ℕ) : Type 0 where
+pub record Runs (walk : Told (List ℕ)) (answer : Result ℕ WalkError) (list : List ℕ) : Type 0 where
   pub is : told answer ≡ counted walk
   pub listed : take (kept_of answer) list ≡ listed_of walk
   pub within : kept_of answer ≤ length list

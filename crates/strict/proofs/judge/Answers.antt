@@ -8,11 +8,11 @@ returns-then-is_start c = search shared
 pub returns-then-left-eq0 : goal.returns-then-left-eq0
 returns-then-left-eq0 c = search no_place
 
-pub returns-then-is_ordered : goal.returns-then-is_ordered
-returns-then-is_ordered c = search good
+pub returns-then-not-is_placed : goal.returns-then-not-is_placed
+returns-then-not-is_placed c = search bad_place
 
-pub returns-then-is_placed : goal.returns-then-is_placed
-returns-then-is_placed c = search out_of_order
+pub returns-then-not-is_ordered : goal.returns-then-not-is_ordered
+returns-then-not-is_ordered c = search out_of_order
 
 pub returns : goal.returns
-returns c = search bad_place
+returns c = search good

@@ -2,8 +2,8 @@
 use Rattle.strict.proofs.Here.{name_outside, name_inside}
 use Rattle.strict.proofs.name_at.Goals as goal
 
-pub returns-then-size-o : goal.returns-then-size-o
-returns-then-size-o c = search name_outside
+pub returns-then-table-o : goal.returns-then-table-o
+returns-then-table-o c = search name_outside
 
 pub returns : goal.returns
 returns c = search name_inside

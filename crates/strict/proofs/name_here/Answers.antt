@@ -11,22 +11,18 @@ returns-then-is_blank c = no_entry _ _ (omega arith) _ c.is_blank.ensures (searc
 -- where two ways have met: the last byte is not 255, or the fourteen are no blank
 pub returns-then-w-to : goal.returns-then-w-to
 returns-then-w-to c =
-    let n = c.u8_as_usize.ensures.0 in
-    let a = c.args in
-    name_cut a.w.now a.p (omega arith) _ n
+    name_cut c.args.w.now c.args.p (omega arith) _ c.from.ensures
     (elim c.if-n.branch [
-      | then-n+else-is_blank w ↦ is_entry_lem a.w.now a.p (omega arith) _ n _ w.is_blank.ensures w.if-is_blank.false
-      | else-n w ↦ is_told a.w.now a.p (omega arith) _ n w.if-n.false
+      | then-n+else-is_blank w ↦ is_entry_lem c.args.w.now c.args.p (omega arith) _ c.from.ensures _ w.is_blank.ensures w.if-is_blank.false
+      | else-n w ↦ is_told c.args.w.now c.args.p (omega arith) _ c.from.ensures w.if-n.false
     ]) (omega arith)
 
 pub returns : goal.returns
 returns c =
-    let n = c.u8_as_usize.ensures.0 in
-    let a = c.args in
-    name_whole a.w.now a.p (omega arith) _ n
+    name_whole c.args.w.now c.args.p (omega arith) _ c.from.ensures
     (elim c.if-n.branch [
-      | then-n+else-is_blank w ↦ is_entry_lem a.w.now a.p (omega arith) _ n _ w.is_blank.ensures w.if-is_blank.false
-      | else-n w ↦ is_told a.w.now a.p (omega arith) _ n w.if-n.false
+      | then-n+else-is_blank w ↦ is_entry_lem c.args.w.now c.args.p (omega arith) _ c.from.ensures _ w.is_blank.ensures w.if-is_blank.false
+      | else-n w ↦ is_told c.args.w.now c.args.p (omega arith) _ c.from.ensures w.if-n.false
     ]) (omega arith)
 
 pub returns-then-w-p : goal.returns-then-w-p

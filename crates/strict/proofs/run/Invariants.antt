@@ -9,7 +9,10 @@ use Rattle.strict.proofs.Turn.{State}
 use Rattle.strict.proofs.run.Given as goal
 
 abbrev pub invariant-loop-top : goal.invariant-loop-top
-invariant-loop-top l = State l.w l.first l.table (run_of l.w l.first l.table (length l.initial.list)) (length l.initial.list) (length l.initial.scratch) l.list l.scratch l.map l.top l.n
+invariant-loop-top l =
+    let t = l.table in
+    let w = t.window.now in
+    State w t.first t.region (run_of w t.first t.region (length l.initial.list)) (length l.initial.list) (length l.initial.scratch) l.list l.scratch l.map l.top l.n
     × (length l.map ≡ length l.initial.map)
 
 abbrev pub decreases-loop-top : goal.decreases-loop-top

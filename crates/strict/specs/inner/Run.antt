@@ -1,27 +1,25 @@
 -- What the loop of the check keeps and leaves, for the contracts inside the crate. Assumes nothing.
 use Rattle.std.specs.Prelude.{ℕ, ◌+◌, ◌*◌, ◌/◌, ◌%◌, ◌≤◌, ◌<◌, ◌≡◌, eqb, length, get_or, take}
+use Rattle.std.specs.Prelude.{Result, Ok, Err}
 use mathlib.Core.List.{List, [], ◌∷◌, map, Memᴰ}
 use Rattle.std.proofs.Math.Option.{Option}
 use Rattle.units.specs.Told.{Told, gives, refuses, pick}
 use Rattle.units.specs.declared.Sector.{Sector}
 use Rattle.units.specs.declared.Region.{Region}
 use Rattle.layout_node.specs.declared.Header.{Header}
-use Rattle.read_entry.specs.Entry.{Placed, read_at}
+use Rattle.read_entry.specs.declared.Placed.{Placed}
+use Rattle.read_entry.specs.Entry.{read_at}
 use Rattle.read_entry.specs.Links.{is_in}
 use Rattle.read_walk.specs.Walk.{counted}
-use Rattle.read_walk.specs.inner.Run.{stack_of, listed_of}
-use Rattle.strict_rule.specs.declared.Checked.{Checked}
-use Rattle.strict_rule.specs.declared.Checked.TheVariants as checked
-use Rattle.strict.specs.declared.Verdict.{Verdict}
-use Rattle.strict.specs.declared.Verdict.TheVariants as verdict
+use Rattle.read_walk.specs.inner.Run.{stack_of, kept_of, listed_of}
+use Rattle.strict_rule.specs.declared.CheckError.{CheckError}
 use Rattle.strict_rule.specs.Strict.{Visit, root, visit_left, visit_right, push, apart, end_by, strict_from, told}
 use Rattle.strict_rule.specs.inner.Nearest.{nearest, entered_nearest}
 
--- a table of that size, which starts where the window does: both at sector 0
-pub record Begins (first : Sector) (t : Region) (size : ℕ) : Type 0 where
+-- a table that starts where the window does: both at sector 0
+pub record Begins (first : Sector) (t : Region) : Type 0 where
   pub window : first.0 ≡ 0
   pub table : t.sector.0 ≡ 0
-  pub sized : t.size ≡ size
 
 -- the check of a table that has some size, by the nearest bounds
 abbrev pub run_of : List ℕ → Sector → Region → ℕ → Told (List ℕ)
@@ -79,23 +77,12 @@ pub record Covers (size n : ℕ) : Type 0 where
   pub end : (e : ℕ) → e ≤ 262416 → e ≤ size → e / 4 ≤ n
 
 -- a verdict of the code is one of the definition
-abbrev pub Judged : Verdict → Told (Unit {0}) → Type 0
-Judged verdict.Good x = x ≡ gives tt
-Judged (verdict.Bad a) x = ((k : ℕ) × (vs : List ℕ) × (x ≡ refuses k vs) × (told a ≡ refuses k vs))
-
--- the places that an answer keeps of the list
-abbrev pub kept_of : Checked → ℕ
-kept_of (checked.Done n) = n
-kept_of checked.Room = 0
-kept_of (checked.OutOfBounds o) = 0
-kept_of (checked.Truncated o) = 0
-kept_of checked.WalkFull = 0
-kept_of (checked.Shared o) = 0
-kept_of (checked.OutOfOrder o) = 0
-kept_of (checked.BadPlace o) = 0
+abbrev pub Judged : Result (Unit {0}) CheckError → Told (Unit {0}) → Type 0
+Judged (Ok u) x = x ≡ gives tt
+Judged (Err e) x = ((k : ℕ) × (vs : List ℕ) × (x ≡ refuses k vs) × (told (Err e) ≡ refuses k vs))
 
 -- the answer is the check's, and the places that it keeps hold what the check lists
-pub record Runs (check : Told (List ℕ)) (answer : Checked) (list : List ℕ) : Type 0 where
+pub record Runs (check : Told (List ℕ)) (answer : Result ℕ CheckError) (list : List ℕ) : Type 0 where
   pub is : told answer ≡ counted check
   pub listed : take (kept_of answer) list ≡ listed_of check
   pub within : kept_of answer ≤ length list

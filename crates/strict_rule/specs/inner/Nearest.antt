@@ -2,7 +2,7 @@
 -- nearest in whose left subtree it stands, and the nearest in whose right. The check answers the same by them
 -- (proofs/Nearest.antt). Assumes nothing.
 use Rattle.std.specs.Prelude.{List, take}
-use Rattle.read_entry.specs.Entry.{Placed}
+use Rattle.read_entry.specs.declared.Placed.{Placed}
 use Rattle.strict_rule.specs.Strict.{Visit, visit_left, visit_right, push}
 
 -- of the bounds on each side the nearest alone

@@ -1,2 +1,0 @@
--- Laws that several functions of this crate cite.
-mod Hanging

@@ -1,0 +1,2 @@
+-- What the steps of measuring and clearing what is lent say.
+pub mod inner

@@ -1,9 +1,0 @@
--- `replay::run_block` stays in bounds and ends: each record takes two bytes at least. Assumes nothing.
-use Rattle.std.specs.Prelude.{◌-◌, length}
-use Rattle.replay.proofs.run_block.Given as goal
-
-abbrev pub invariant-loop-at : goal.invariant-loop-at
-invariant-loop-at l = Unit {0}
-
-abbrev pub decreases-loop-at : goal.decreases-loop-at
-decreases-loop-at l = length l.s - l.at

@@ -1,3 +1,0 @@
--- A list on its way to zeros, and to another list.
-pub mod Zeros
-pub mod Copying
