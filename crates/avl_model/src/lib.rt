@@ -11,12 +11,12 @@ ghost use Rattle.avl_model.specs.inner.Names.{Inside};
 // (In the columns that C lends: they hold numbers of nodes, and no Option.)
 pub const NONE: u16 = 65535;
 
-// Which way a node leans by more than one: to the left, to neither side, or to the right.
+// Which way a node leans by more than one: left is -1, neither side is 0, right is 1.
 #[derive(Clone, Copy, Debug, PartialEq, Eq)]
 pub enum Direction {
-    Left,
-    Leaf,
-    Right,
+    Left = -1,
+    Leaf = 0,
+    Right = 1,
 }
 
 // Where a subtree hangs: at the root, or left or right of a node.

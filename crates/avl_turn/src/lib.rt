@@ -58,14 +58,15 @@ fn update_heights(links: &mut LinksMut<'_>, i: u16, j: u16, k: u16)
     update_height(links, k);
 }
 
-// To which side a node leans by more than one, whose children have these heights.
+// To which side a node leans by more than one, whose children have these heights. Its balance is left height minus
+// right height.
 fn tilt(l: u8, r: u8) -> Direction
     ensures { result ≡ tilt_of l r }
 {
-    let (left, right) = (u32::from(l), u32::from(r));
-    if right + 1 < left {
+    let balance = i32::from(l) - i32::from(r);
+    if balance > 1 {
         Direction::Left
-    } else if left + 1 < right {
+    } else if balance < -1 {
         Direction::Right
     } else {
         Direction::Leaf
