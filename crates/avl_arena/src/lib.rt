@@ -8,7 +8,7 @@ ghost use Rattle.avl_model.specs.Seek.{tree_at};
 ghost use Rattle.avl_arena.specs.Test.{places, every, inside, between, cell_ok, ok_tree, whole_tree, holds_tree};
 ghost use Rattle.avl_arena.specs.inner.Seeing.{NamedAt, Lent, Judged};
 
-use avl_model::{Links, NONE, Names};
+use avl_model::{Links, NONE, Names, node_name};
 use layout_name::compare;
 
 // What looking through a subtree finds: its root, its height and its number of nodes.
@@ -35,7 +35,7 @@ fn is_less(names: Names<'_>, i: u16, j: u16) -> bool
     requires { NamedAt (names_of names) i × (j < length names.start.now) }
     ensures { result ≡ is_less (by_name (names_of names.entry) i j) }
 {
-    compare(names.at(i), names.at(j)).is_lt()
+    compare(node_name(names, i), node_name(names, j)).is_lt()
 }
 
 // i comes after lo by name, if that is a node.

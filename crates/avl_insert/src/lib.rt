@@ -16,7 +16,7 @@ ghost use Rattle.avl_model.specs.Seek.{spot_in};
 ghost use Rattle.avl_model.specs.inner.Seek.{Sought};
 ghost use Rattle.avl_model.specs.inner.Insert.{Placed};
 
-use avl_model::{Branches, LinksMut, NONE, Names, Place, Spot};
+use avl_model::{Branches, LinksMut, NONE, Names, Place, Spot, node_name};
 use avl_turn::{put, settle};
 use layout_name::{compare_raised, raise_name};
 use std::cmp::Ordering;
@@ -36,7 +36,7 @@ fn descend(branches: Branches<'_>, names: Names<'_>, copy: &[u8; 255], name: &[u
     // A walk along links, and no count.
     while at < NONE {
         let i = at as usize;
-        match compare_raised(copy, name, names.at(at)) {
+        match compare_raised(copy, name, node_name(names, at)) {
             Ordering::Equal => return Spot::Same(at),
             Ordering::Less => {
                 place = Place::Left(at);

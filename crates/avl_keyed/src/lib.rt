@@ -11,7 +11,7 @@ ghost use Rattle.avl_model.specs.Names.{to_name};
 ghost use Rattle.avl_model.specs.Seek.{spot_in};
 ghost use Rattle.avl_keyed.specs.inner.Key.{key_for, KeySought, place_from};
 
-use avl_model::{Branches, NONE, Names, Place, Spot};
+use avl_model::{Branches, NONE, Names, Place, Spot, node_name};
 use layout_name::{compare, raise};
 use std::cmp::Ordering;
 
@@ -100,7 +100,7 @@ pub fn seek(branches: Branches<'_>, key: &[u32], names: Names<'_>, name: &[u8], 
         let r = branches.right[i];
         above = at;
         if k == q {
-            match compare(name, names.at(at)) {
+            match compare(name, node_name(names, at)) {
                 Ordering::Equal => return Spot::Same(at),
                 Ordering::Less => {
                     less = true;
@@ -112,8 +112,8 @@ pub fn seek(branches: Branches<'_>, key: &[u32], names: Names<'_>, name: &[u8], 
                 }
             }
         } else {
-            // For the proof alone: `at` ensures that a name is bytes, by which the keys tell the order.
-            let _other = names.at(at);
+            // For the proof alone: `node_name` ensures that a name is bytes, by which the keys tell the order.
+            let _other = node_name(names, at);
             less = k < q;
             at = choose(less, l, r);
         }

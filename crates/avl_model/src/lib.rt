@@ -44,16 +44,15 @@ pub struct Names<'a> {
     pub len: &'a [u32],
 }
 
-impl<'a> Names<'a> {
-    // The name of a node.
-    pub fn at(self, node: u16) -> &'a [u8]
-        requires { Inside (names_of self) node }
-        ensures named { result.now ≡ name_at (names_of self.entry) node }
-        ensures in_range { (i : ℕ) → get_or result.now i 0 < 256 }
-    {
-        let i = node as usize;
-        part(self.bytes, self.start[i], self.len[i])
-    }
+// The name of a node.
+// (No method: `Names` is exported by the front door, where nothing asks anything of its caller.)
+pub fn node_name<'a>(names: Names<'a>, node: u16) -> &'a [u8]
+    requires { Inside (names_of names) node }
+    ensures named { result.now ≡ name_at (names_of names.entry) node }
+    ensures in_range { (i : ℕ) → get_or result.now i 0 < 256 }
+{
+    let i = node as usize;
+    part(names.bytes, names.start[i], names.len[i])
 }
 
 // The part of `bytes` that starts at a place and has a length.

@@ -11,7 +11,7 @@ ghost use Rattle.dirtab_arena.specs.Lent.{columns_in, columns_of, arena_of};
 
 use avl_arena::is_tree;
 use avl_model::{Branches, Links, NONE, Names};
-use dirtab_entry::{Entries, check_entry};
+use dirtab_entry::{Entries, check_entry, nth_entry};
 
 // The tree that the columns hold: its root, 65,535 for none, as C has it, and how many nodes it has. They are the
 // numbers below count.
@@ -144,7 +144,7 @@ fn are_taken(entries: Entries, n: usize) -> bool
     requires { (i : ℕ) → i < n → HasPlace entries i }
     ensures { result ≡ every (λ i. is_given (check_of entries.entry.names.bytes.now (given_by entries.entry i))) n }
 {
-    (0..n).all(|i| check_entry(entries.names.bytes, entries.get(i)).is_ok())
+    (0..n).all(|i| check_entry(entries.names.bytes, nth_entry(entries, i)).is_ok())
 }
 
 // The arena check (else 12): the columns hold one ordered, balanced tree, parents and heights true, of entries that

@@ -65,18 +65,17 @@ pub struct Entries<'a> {
     pub kind: &'a [u8],
 }
 
-impl Entries<'_> {
-    // Entry i.
-    pub fn get(self, i: usize) -> Entry
-        requires { HasPlace self i }
-        ensures { result ≡ given_by self.entry i }
-    {
-        Entry {
-            start: self.names.start[i],
-            len: self.names.len[i],
-            kind: Kind::from(self.kind[i]),
-            size: self.size[i],
-        }
+// Entry i.
+// (No method: `Entries` is exported by the front door, where nothing asks anything of its caller.)
+pub fn nth_entry(entries: Entries<'_>, i: usize) -> Entry
+    requires { HasPlace entries i }
+    ensures { result ≡ given_by entries.entry i }
+{
+    Entry {
+        start: entries.names.start[i],
+        len: entries.names.len[i],
+        kind: Kind::from(entries.kind[i]),
+        size: entries.size[i],
     }
 }
 

@@ -22,8 +22,8 @@ ghost use Rattle.dirtab_grow.specs.inner.Growing.{Found, Seated, Stepped, Outcom
 
 use avl_insert::put_in;
 use avl_keyed::{key_of, seek};
-use avl_model::{Branches, LinksMut, NONE, Names, Place, Spot};
-use dirtab_entry::{Cause, Entries, check_entry};
+use avl_model::{Branches, LinksMut, NONE, Names, Place, Spot, node_name};
+use dirtab_entry::{Cause, Entries, check_entry, nth_entry};
 use layout_name::compare;
 
 // Where an entry goes, and the key of its name.
@@ -82,7 +82,7 @@ fn choose_seat(
         ((w : KeySought b.left.now b.right.now key.now b.root n) →
         Seated result n (spot_in (by_name n new) w.linked.t Root) new) }
 {
-    let name = names.at(new);
+    let name = node_name(names, new);
     let k = key_of(name);
     let place = if after {
         Place::Right(new - 1)
@@ -157,7 +157,7 @@ fn add_entry(
         after key.new n (ins (λ j. is_less (by_name n i j)) i w.t)) }
 {
     let at = i as usize;
-    check_entry(entries.names.bytes, entries.get(at))?;
+    check_entry(entries.names.bytes, nth_entry(entries, at))?;
     let end = at + 1;
     hang_entry(
         root,
@@ -191,7 +191,7 @@ fn comes_after(names: Names<'_>, at: u16) -> bool
 {
     let before = at - 1;
     if has_name(names, at) && has_name(names, before) {
-        return compare(names.at(at), names.at(before)).is_gt();
+        return compare(node_name(names, at), node_name(names, before)).is_gt();
     }
     false
 }

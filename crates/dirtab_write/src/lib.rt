@@ -12,7 +12,7 @@ ghost use Rattle.table_model.specs.inner.Writing.{stored, written_over};
 ghost use Rattle.dirtab_write.specs.inner.Columns.{cols_of, LinkIn, link_by, Headed, header_by, item_by, items_by};
 ghost use Rattle.dirtab_write.specs.inner.Columns.{Numbered, Writes, Spaces, put_all};
 
-use avl_model::{Branches, NONE};
+use avl_model::{Branches, NONE, node_name};
 use dirtab_entry::{Entries, Kind};
 use dirtab_place::stored_at;
 use layout_bytes::{fill, put_bytes};
@@ -85,7 +85,7 @@ impl<'a> Layout<'a> {
             out.new ≡ put_at out.old (4 * get_or c.place number 0) (stored (item_by c sector.0 number)) }
     {
         let i = number as usize;
-        let name = self.entries.names.at(number);
+        let name = node_name(self.entries.names, number);
         let header = self.header(i, sector, name.len() as u8);
         put_entry(out, 4 * (self.place[i] as usize), header, name);
     }

@@ -12,7 +12,7 @@ ghost use Rattle.img_take.specs.inner.Forward.{Sized};
 ghost use Rattle.img.specs.inner.Steps.{given, given_by, IsAsLong, lent_with, Exact, Wide};
 ghost use Rattle.img.specs.inner.Steps.{HandedOut, PlannedBy, Cut, PlannedIn};
 
-use img_model::{PlanError, PlanOut, PlanScratch, Request};
+use img_model::{PlanError, PlanOut, PlanScratch, Request, cut_request};
 use img_room::{add_shares, clear_scratch, has_room};
 use img_size::size_tables;
 use img_table::TableScratch;
@@ -124,7 +124,7 @@ fn plan_cut(
     ensures same { table.IsSameScratch scratch.old scratch.new }
 {
     plan_counted(
-        request.cut(directories, entries),
+        cut_request(request, directories, entries),
         &mut sized[..directories],
         scratch,
         order,

@@ -63,43 +63,43 @@ pub struct Share<'a> {
     pub value: &'a [u64],
 }
 
-impl<'a> Request<'a> {
-    // The columns as far as the two counts go.
-    pub fn cut(self, directories: usize, entries: usize) -> Request<'a>
-        requires directories { (directories ≤ length self.from.now) × (directories ≤ length self.share.now) }
-        requires names { (entries ≤ length self.names.start.now) × (entries ≤ length self.names.len.now) }
-        requires entries { (entries ≤ length self.kind.now) × (entries ≤ length self.value.now) }
-        ensures { columns_in result ≡ request_in (asked_in directories entries self.entry) }
-    {
-        Request {
-            from: &self.from[..directories],
-            share: &self.share[..directories],
-            names: Names {
-                bytes: self.names.bytes,
-                start: &self.names.start[..entries],
-                len: &self.names.len[..entries],
-            },
-            kind: &self.kind[..entries],
-            value: &self.value[..entries],
-        }
+// The columns as far as the two counts go.
+// (This and the next are no methods: `Request` is exported by the front door, where nothing asks anything of its
+// caller.)
+pub fn cut_request<'a>(request: Request<'a>, directories: usize, entries: usize) -> Request<'a>
+    requires directories { (directories ≤ length request.from.now) × (directories ≤ length request.share.now) }
+    requires names { (entries ≤ length request.names.start.now) × (entries ≤ length request.names.len.now) }
+    requires entries { (entries ≤ length request.kind.now) × (entries ≤ length request.value.now) }
+    ensures { columns_in result ≡ request_in (asked_in directories entries request.entry) }
+{
+    Request {
+        from: &request.from[..directories],
+        share: &request.share[..directories],
+        names: Names {
+            bytes: request.names.bytes,
+            start: &request.names.start[..entries],
+            len: &request.names.len[..entries],
+        },
+        kind: &request.kind[..entries],
+        value: &request.value[..entries],
     }
+}
 
-    // The entries of directory d.
-    pub fn share_of(self, d: usize) -> Share<'a>
-        requires { Sizeable (columns_in self) × (d < length self.from.now) }
-        ensures { IsShareOf self.entry d result }
-    {
-        let from = self.from[d] as usize;
-        let to = from + self.share[d] as usize;
-        Share {
-            names: Names {
-                bytes: self.names.bytes,
-                start: &self.names.start[from..to],
-                len: &self.names.len[from..to],
-            },
-            kind: &self.kind[from..to],
-            value: &self.value[from..to],
-        }
+// The entries of directory d.
+pub fn directory_share<'a>(request: Request<'a>, d: usize) -> Share<'a>
+    requires { Sizeable (columns_in request) × (d < length request.from.now) }
+    ensures { IsShareOf request.entry d result }
+{
+    let from = request.from[d] as usize;
+    let to = from + request.share[d] as usize;
+    Share {
+        names: Names {
+            bytes: request.names.bytes,
+            start: &request.names.start[from..to],
+            len: &request.names.len[from..to],
+        },
+        kind: &request.kind[from..to],
+        value: &request.value[from..to],
     }
 }
 

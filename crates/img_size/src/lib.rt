@@ -10,7 +10,7 @@ ghost use Rattle.img_table.specs.inner.Arranging.{Sizing};
 ghost use Rattle.img_table.specs.inner.Scratch.{places_in, IsSameScratch};
 ghost use Rattle.img_size.specs.inner.Sizing.{Roomy, number_in, listed_at, told_sizes};
 
-use img_model::Request;
+use img_model::{Request, directory_share};
 use img_table::{EntryError, TableScratch, size_table};
 
 // The size of directory d's table, and its preorder into its places of `order`, which are those from `at` on.
@@ -32,7 +32,7 @@ fn size_directory(
     ensures places { places_in scratch.new ≡ places_in scratch.old }
     ensures same { IsSameScratch scratch.old scratch.new }
 {
-    let share = request.share_of(d);
+    let share = directory_share(request, d);
     let end = at + share.kind.len();
     size_table(share, sized, scratch, &mut order[at..end])
 }

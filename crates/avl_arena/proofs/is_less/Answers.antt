@@ -5,5 +5,5 @@ use Rattle.avl_arena.proofs.is_less.Goals as goal
 
 pub returns : goal.returns
 returns c =
-    by_names (names_of c.args.names) c.args.i c.args.j c.at.ensures.named c.at-2.ensures.named c.compare.ensures
+    by_names (names_of c.args.names) c.args.i c.args.j c.node_name.ensures.named c.node_name-2.ensures.named c.compare.ensures
     c.is_lt.ensures

@@ -9,7 +9,7 @@ use Rattle.dirtab_grow.proofs.add_entry.Goals as goal
 pub hang_entry-requires-clause-hangable : goal.hang_entry-requires-clause-hangable
 hang_entry-requires-clause-hangable c = let a = c.args in let h = c.requires in
     hangable (lists a.root.now a.left.now a.right.now a.parent.now a.height.now) a.key.now (listing_of 0 a.entries) a.i
-    (a.i + 1) refl h.wide h.has_place.start h.has_place.len (passes a.entries.names.bytes.now c.check_entry.ensures c.get.ensures c.in_ok-check_entry.was) h.growing.0
+    (a.i + 1) refl h.wide h.has_place.start h.has_place.len (passes a.entries.names.bytes.now c.check_entry.ensures c.nth_entry.ensures c.in_ok-check_entry.was) h.growing.0
 
 pub hang_entry-requires-clause-after : goal.hang_entry-requires-clause-after
 hang_entry-requires-clause-after c = let a = c.args in let h = c.requires in
@@ -19,4 +19,4 @@ hang_entry-requires-clause-after c = let a = c.args in let h = c.requires in
 pub returns : goal.returns
 returns c = let a = c.args in let h = c.hang_entry in
     out_hung (lists a.root.now a.left.now a.right.now a.parent.now a.height.now) a.key.now (listing_of 0 a.entries) a.i
-    (a.i + 1) refl c.requires.wide h.auto.left h.auto.right h.auto.parent h.auto.height (passes a.entries.names.bytes.now c.check_entry.ensures c.get.ensures c.in_ok-check_entry.was) h.ensures
+    (a.i + 1) refl c.requires.wide h.auto.left h.auto.right h.auto.parent h.auto.height (passes a.entries.names.bytes.now c.check_entry.ensures c.nth_entry.ensures c.in_ok-check_entry.was) h.ensures

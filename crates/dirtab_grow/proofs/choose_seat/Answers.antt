@@ -18,5 +18,5 @@ returns c = λ w. (
     | then-after v ↦ rw v.place-is (spot_there c.requires.after v.if-after.true w)
     | else-after+in_ok-place v ↦ rw v.place-is (v.in_ok-place.ensures w)
   ],
-  (c.if-new-ge16384.false, key_of_name (names_of c.args.names) c.args.new c.at-name.ensures.named c.key_of-k.ensures),
+  (c.if-new-ge16384.false, key_of_name (names_of c.args.names) c.args.new c.node_name-name.ensures.named c.key_of-k.ensures),
 )

@@ -12,5 +12,5 @@ greater Equal e = absurd (true≢false (sym e))
 greater Greater e = refl
 
 pub returns-then-has_name-2 : goal.returns-then-has_name-2
-returns-then-has_name-2 c = λ e. compared (names_of c.args.names) c.args.at (c.args.at - 1) c.at.ensures.named
-    c.at-then-has_name-2.ensures.named c.compare.ensures (greater c.compare.result (sym c.is_gt.ensures ∙ e))
+returns-then-has_name-2 c = λ e. compared (names_of c.args.names) c.args.at (c.args.at - 1) c.node_name.ensures.named
+    c.node_name-then-has_name-2.ensures.named c.compare.ensures (greater c.compare.result (sym c.is_gt.ensures ∙ e))

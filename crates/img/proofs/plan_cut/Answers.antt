@@ -4,14 +4,14 @@ use Rattle.std.proofs.Math.Seq.{length-take-le}
 use Rattle.img.proofs.Cutting.{in_first, in_share, in_sizes, in_tables, in_sized, in_start, in_len, in_kind, in_value, in_sectors, exact_cut, wide_cut, planned_in}
 use Rattle.img.proofs.plan_cut.Goals as goal
 
-pub cut-requires-clause-directories : goal.cut-requires-clause-directories
-cut-requires-clause-directories c = (in_first _ _ c.requires, in_share _ _ c.requires)
+pub cut_request-requires-clause-directories : goal.cut_request-requires-clause-directories
+cut_request-requires-clause-directories c = (in_first _ _ c.requires, in_share _ _ c.requires)
 
-pub cut-requires-clause-names : goal.cut-requires-clause-names
-cut-requires-clause-names c = (in_start _ _ c.requires, in_len _ _ c.requires)
+pub cut_request-requires-clause-names : goal.cut_request-requires-clause-names
+cut_request-requires-clause-names c = (in_start _ _ c.requires, in_len _ _ c.requires)
 
-pub cut-requires-clause-entries : goal.cut-requires-clause-entries
-cut-requires-clause-entries c = (in_kind _ _ c.requires, in_value _ _ c.requires)
+pub cut_request-requires-clause-entries : goal.cut_request-requires-clause-entries
+cut_request-requires-clause-entries c = (in_kind _ _ c.requires, in_value _ _ c.requires)
 
 pub slice_bounds-plan_counted-end : goal.slice_bounds-plan_counted-end
 slice_bounds-plan_counted-end c = in_sized _ _ c.requires
@@ -38,10 +38,10 @@ pub slice_bounds-plan_counted-end-8 : goal.slice_bounds-plan_counted-end-8
 slice_bounds-plan_counted-end-8 c = sym (length-take-le c.args.entries c.args.sectors.now (in_sectors _ _ c.requires))
 
 pub plan_counted-requires-clause-exact : goal.plan_counted-requires-clause-exact
-plan_counted-requires-clause-exact c = rw c.cut.ensures (exact_cut _ _ c.requires)
+plan_counted-requires-clause-exact c = rw c.cut_request.ensures (exact_cut _ _ c.requires)
 
 pub plan_counted-requires-clause-wide : goal.plan_counted-requires-clause-wide
-plan_counted-requires-clause-wide c = rw c.cut.ensures (wide_cut _ _ c.requires)
+plan_counted-requires-clause-wide c = rw c.cut_request.ensures (wide_cut _ _ c.requires)
 
 pub returns-clause-planned : goal.returns-clause-planned
-returns-clause-planned c = planned_in _ _ _ _ (rw c.cut.ensures at c.plan_counted.ensures.planned)
+returns-clause-planned c = planned_in _ _ _ _ (rw c.cut_request.ensures at c.plan_counted.ensures.planned)
