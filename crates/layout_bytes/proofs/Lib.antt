@@ -1,4 +1,5 @@
--- How puts compose, numbers written and read back, and what every byte is.
+-- How puts compose, one byte more put, numbers written and read back, and what every byte is.
 pub mod Put
+pub mod Turns
 pub mod Every
 pub mod Numbers

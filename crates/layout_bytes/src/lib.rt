@@ -87,7 +87,9 @@ pub fn put_bytes(out: &mut [u8], at: usize, s: &[u8])
     requires { at + length s.now ≤ length out.old }
     ensures { out.new ≡ put_at out.old at s.now }
 {
-    out[at..at + s.len()].copy_from_slice(s);
+    for i in 0..s.len() {
+        out[at + i] = s[i];
+    }
 }
 
 // The byte b in the first n places.

@@ -75,5 +75,7 @@ pub fn copy<T: Copy>(from: &[T], to: &mut [T])
     requires { length to.old ≡ length from.now }
     ensures { to.new ≡ from.now }
 {
-    to.copy_from_slice(from);
+    for i in 0..from.len() {
+        to[i] = from[i];
+    }
 }
