@@ -106,16 +106,17 @@ fn see_none() -> Seen
 }
 
 // Looks through the subtree of `at`, which hangs in the gap g, to a depth: None where something is wrong.
-fn look(links: Links<'_>, names: Names<'_>, g: Gap, at: u16, d: usize) -> Option<Seen>
-    requires { Lent (lists_in links) (names_of names) (length links.left.now) × (d ≤ 22) }
-    ensures { let held = links.entry in let tree = tree_at d held.left.now held.right.now at in
-        Judged result (ok_tree (lists_in held) (names_of names.entry) (length held.left.now) g.lo g.hi g.up tree) tree }
+// (Columns and names by reference: as values they would be copied at each node.)
+fn look(links: &Links<'_>, names: &Names<'_>, g: Gap, at: u16, d: usize) -> Option<Seen>
+    requires { Lent (lists_in links.now) (names_of names.now) (length links.now.left.now) × (d ≤ 22) }
+    ensures { let held = links.now in let tree = tree_at d held.left.now held.right.now at in
+        Judged result (ok_tree (lists_in held) (names_of names.now) (length held.left.now) g.lo g.hi g.up tree) tree }
 {
     let i = at as usize;
     if d == 0 || links.left.len() <= i {
         return Some(see_none());
     }
-    if !is_between(names, g, at) {
+    if !is_between(*names, g, at) {
         return None;
     }
     let below = Gap {
@@ -130,7 +131,7 @@ fn look(links: Links<'_>, names: Names<'_>, g: Gap, at: u16, d: usize) -> Option
         up: at,
     };
     let r = look(links, names, above, links.right[i], d - 1)?;
-    if is_cell(links, at, g.up, l, r) {
+    if is_cell(*links, at, g.up, l, r) {
         Some(join(at, l, r))
     } else {
         None
@@ -149,7 +150,7 @@ fn is_whole(links: Links<'_>, names: Names<'_>) -> bool
         hi: NONE,
         up: NONE,
     };
-    match look(links, names, everything, links.root, 22) {
+    match look(&links, &names, everything, links.root, 22) {
         Some(seen) => seen.top == links.root && seen.size == links.left.len(),
         None => false,
     }
