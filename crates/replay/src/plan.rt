@@ -1,9 +1,21 @@
 // Recorded plans: the front door plans the same directories, and the answer's number and all that is lent are
 // compared. crates/replay/src/main.rt describes the records.
-ghost use Rattle.std.specs.Prelude.{◌<◌, ◌≤◌, length};
+ghost use Rattle.std.specs.Prelude.{◌≡◌, ◌<◌, ◌≤◌, length};
+ghost use Rattle.units.specs.Told.{number_of};
+ghost use Rattle.img_model.specs.Plan as planning;
 
 use crate::record::Record;
-use xdvdfs::{Names, PlanOut, PlanScratch, Request};
+use xdvdfs::{Names, PlanError, PlanOut, PlanScratch, Request, Sector};
+
+// The number of a refused plan (docs/SCOPE.md); 0 where it is planned.
+fn number_of(r: Result<Sector, PlanError>) -> u32
+    ensures { result ≡ number_of (planning.told r) }
+{
+    match r {
+        Ok(_) => 0,
+        Err(e) => e.number(),
+    }
+}
 
 // Whether each place holds 0.
 fn are_zero(s: &[u16]) -> bool {
@@ -50,11 +62,8 @@ fn plan_recorded(r: Record<'_>, request: Request<'_>, out: &mut PlanOut<'_>) -> 
     };
     let directories = r.short_at(5) as u32;
     let entries = r.short_at(7) as u32;
-    let number = match xdvdfs::plan(directories, entries, request, out, &mut scratch) {
-        Ok(_) => 0,
-        Err(e) => e.number(),
-    };
-    r.is(1, number) && is_clear(&scratch)
+    let planned = xdvdfs::plan(directories, entries, request, out, &mut scratch);
+    r.is(1, number_of(planned)) && is_clear(&scratch)
 }
 
 // Whether d directories and n entries were planned as recorded from a place on, and nothing else was written.

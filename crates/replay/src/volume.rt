@@ -1,8 +1,11 @@
 // Recorded descriptors: the front door writes and reads the same, and the whole answer is compared.
 // crates/replay/src/main.rt describes the records.
+ghost use Rattle.std.specs.Prelude.{◌≡◌};
+ghost use Rattle.units.specs.Told.{number_of};
+ghost use Rattle.layout_volume.specs.Descriptor as volume;
 
 use crate::record::Record;
-use xdvdfs::{Descriptor, Region, Sector};
+use xdvdfs::{BufferTooSmall, Descriptor, Region, Sector};
 
 // Whether the output holds these bytes, and what it held before, 7, after them.
 // (is_table of table.rs is the like, where what follows the bytes depends on the place.)
@@ -15,14 +18,19 @@ fn is_output(out: &[u8], bytes: &[u8]) -> bool {
     true
 }
 
-// Writes a descriptor: whether the answer has this number, 0 where it is written, and the output then holds these
-// bytes and nothing else.
-fn is_written(d: Descriptor, out: &mut [u8], n: u32, bytes: &[u8]) -> bool {
-    let number = match xdvdfs::write_descriptor(out, d) {
+// The number of a refusal (docs/SCOPE.md); 0 where the descriptor is written.
+fn number_of(r: Result<(), BufferTooSmall>) -> u32
+    ensures { result ≡ number_of (volume.write_told r) }
+{
+    match r {
         Ok(()) => 0,
         Err(e) => e.number(),
-    };
-    number == n && is_output(out, bytes)
+    }
+}
+
+// Writes a descriptor: whether the answer has this number, and the output then holds these bytes and nothing else.
+fn is_written(d: Descriptor, out: &mut [u8], n: u32, bytes: &[u8]) -> bool {
+    number_of(xdvdfs::write_descriptor(out, d)) == n && is_output(out, bytes)
 }
 
 // Into an output of a byte too little, of just enough, and of more.
