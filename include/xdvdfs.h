@@ -4,8 +4,7 @@
  * The functions below are those of crates/capi, which are proved to answer and to leave in memory what their contracts
  * say; this file says the same in words, and docs/SCOPE.md has the rules in one place. tools/check-header compares the
  * declarations with the code. `rt lib` in crates/capi writes out/libcapi.a there, which links into C, C++ and Rust
- * programs on x86-64 Linux. Of other libraries it calls memory functions of the C library alone: those that the
- * compiler makes calls of (memset, memcpy, memcmp and their kin).
+ * programs on x86-64 Linux. Of other libraries it calls memset alone.
  *
  * WHAT A CALL DOES. It returns a number, 0 (XDVDFS_DONE) where nothing is refused, else one of `enum xdvdfs_number`;
  * xdvdfs_text says in words what a number means. Values of the answer are stored where the parameters marked [out]
